@@ -1,0 +1,3 @@
+pub mod Causes
+pub mod Literal
+pub mod Memory
