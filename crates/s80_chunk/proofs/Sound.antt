@@ -20,8 +20,8 @@ item_sound : (role : Role) (b : ℕ) (text : List ℕ) → IsText role (b ∷ te
 item_sound role b text h =
     let chosen : Bool → Item = λ short. cond short (short_item role (b ∷ text)) (items.TooLong role (length (b ∷ text))) in
     elim (leb_tells (length (b ∷ text)) longest) [
-      inl t ↦ subst (λ (z : Bool). IsSound (chosen z)) (sym t.0) (short_sound role b text h t.1)
-    | inr t ↦ subst (λ (z : Bool). IsSound (chosen z)) (sym t.0) t.1
+      | inl t ↦ subst (λ (z : Bool). IsSound (chosen z)) (sym t.0) (short_sound role b text h t.1)
+      | inr t ↦ subst (λ (z : Bool). IsSound (chosen z)) (sym t.0) t.1
     ]
 
 gives_sound : (role : Role) (text : List ℕ) → IsText role text → All IsSound (gives role text)
