@@ -1,0 +1,13 @@
+pub mod Image
+pub mod Moments
+pub mod Keeps
+pub mod Plan
+pub mod Five
+pub mod History
+pub mod Laws
+pub mod Untold
+pub mod Memory
+pub mod Crash
+pub mod Tell
+pub mod Outside
+pub mod Real

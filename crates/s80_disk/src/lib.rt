@@ -1,0 +1,24 @@
+//! Five files as a program sees them: what a read gives, and what a crash at each moment may leave.
+#![tactic(auto)]
+
+mod bytes;
+mod disk;
+mod durable;
+mod five;
+mod memory;
+mod memory_outside;
+mod outside;
+mod plan;
+mod real;
+mod recorded;
+
+pub use disk::{Disk, FileId};
+pub use durable::write_and_sync;
+pub use memory::MemDisk;
+pub use memory_outside::MemOutside;
+pub use outside::{Outside, put_output, take_input, time_now};
+pub use plan::FaultPlan;
+pub use real::RealDisk;
+
+#[cfg(test)]
+mod tests;
