@@ -1,0 +1,148 @@
+-- The first items of an input are the front of all its items, and so are their replies.
+use Rattle.std.proofs.Common.{◌≡◌, inl, inr, ℕ, ◌≤◌, List, [], ◌∷◌, ◌++◌, length, take, drop, refl, sym, ap, subst, ◌∙◌, Result, Ok, Err, Some, Bool, true, false, append_assoc, arith, length-append, take-append-drop}
+use Rattle.std.proofs.lemmas.List.{append-nil}
+use Rattle.s80_chunk.specs.declared.item.Item.{Item}
+use Rattle.s80_chunk.specs.Chunks.{Reads, IsBlank}
+use Rattle.s80_chunk.specs.Chunks.Reads.{stop}
+use Rattle.s80_chunk.proofs.Reading.{one_reading}
+use Rattle.s80_chunk.proofs.Stopping.{reads_prefix}
+use Rattle.s80_change.specs.declared.change.Change.{Change}
+use Rattle.s80_disk.specs.Image.{Image}
+use Rattle.st80.specs.declared.session.SessionItem.{SessionItem}
+use Rattle.st80.specs.declared.session.SessionItem.TheVariants.{Chunk, Unended}
+use Rattle.st80.specs.declared.session.SessionEnd.{SessionEnd}
+use Rattle.st80.specs.declared.session.SessionEnd.TheVariants as ends
+use Rattle.st80.specs.declared.status.Status.{Status}
+use Rattle.st80.specs.declared.status.Status.TheVariants as status
+use Rattle.st80.specs.Ending.{Faults, NoFault, EndsForReason, StatusHasReason, status_after, IsWhole}
+use Rattle.st80.specs.Keeper.{reply_to, reply_text, list_after, list_after_all, replies}
+use Rattle.st80.specs.Run.{Shown, chunks, ItemsOf, FirstItemsOf, WholeItemsOf, Finished, RunEnds, Leaves, StartsWith, input_limit}
+use Rattle.st80.specs.Working.{IsDiskEnd}
+use Rattle.st80.proofs.Taking.{first_of}
+
+chunks_append : (given more : List Item) → chunks (given ++ more) ≡ chunks given ++ chunks more
+chunks_append [] more = refl
+chunks_append (item ∷ given) more = ap (λ l. Chunk item ∷ l) (chunks_append given more)
+
+replies_append : (changes : List Change) (items more : List SessionItem) → replies changes (items ++ more) ≡ replies changes items ++ replies (list_after_all changes items) more
+replies_append changes [] more = refl
+replies_append changes (item ∷ items) more =
+    ap (λ l. reply_text (reply_to changes item) ++ l) (replies_append (list_after changes item) items more)
+    ∙ sym (append_assoc (reply_text (reply_to changes item)) (replies (list_after changes item) items) (replies (list_after_all (list_after changes item) items) more))
+
+abbrev Begins : List SessionItem → List SessionItem → Type 0
+Begins items all = (others : List SessionItem) × (all ≡ items ++ others)
+
+-- the items that a front reads as are the first of all
+reading_first : (input : List ℕ) (given : List Item) (rest : List ℕ) (all : List SessionItem) → Reads true false input given rest → ItemsOf input all → Begins (chunks given) all
+reading_first input given rest all reads (whole, end, reading, inl (blank, is)) =
+    let p = reads_prefix true false input whole given end rest reading.reads reading.stops reads in
+    (chunks p.0, is ∙ ap chunks p.1 ∙ chunks_append given p.0)
+reading_first input given rest all reads (whole, end, reading, inr (not, is)) =
+    let p = reads_prefix true false input whole given end rest reading.reads reading.stops reads in
+    (chunks p.0 ++ Unended ∷ [], is ∙ ap (λ l. chunks l ++ Unended ∷ []) p.1 ∙ ap (λ l. l ++ Unended ∷ []) (chunks_append given p.0) ∙ append_assoc (chunks given) (chunks p.0) (Unended ∷ []))
+
+-- an input has one list of items
+pub one_list : (input : List ℕ) (items all : List SessionItem) → ItemsOf input items → ItemsOf input all → items ≡ all
+one_list input items all (given, rest, reading, inl (blank, is)) (other, end, again, inl (too, are)) = is ∙ ap chunks (one_reading input given other rest end reading again).0 ∙ sym are
+one_list input items all (given, rest, reading, inr (not, is)) (other, end, again, inr (nor, are)) = is ∙ ap (λ l. chunks l ++ Unended ∷ []) (one_reading input given other rest end reading again).0 ∙ sym are
+one_list input items all (given, rest, reading, inl (blank, is)) (other, end, again, inr (nor, are)) =
+    let P : List ℕ → Type 0 = λ l. IsBlank l in absurd (nor (subst P (one_reading input given other rest end reading again).1 blank))
+one_list input items all (given, rest, reading, inr (not, is)) (other, end, again, inl (too, are)) =
+    let P : List ℕ → Type 0 = λ l. IsBlank l in absurd (not (subst P (sym (one_reading input given other rest end reading again).1) too))
+
+first_items : (input : List ℕ) (items all : List SessionItem) → FirstItemsOf input items → ItemsOf input all → Begins items all
+first_items input items all (inl (given, rest, reads, is)) whole =
+    let P : List SessionItem → Type 0 = λ l. Begins l all in subst P (sym is) (reading_first input given rest all reads whole)
+first_items input items all (inr list) whole = ([], sym (one_list input items all list whole) ∙ sym (append-nil items))
+
+whole_first : (got left input : List ℕ) (items : List SessionItem) → WholeItemsOf got items → input ≡ got ++ left → FirstItemsOf input items
+whole_first got left input items (given, rest, reads, none, is) input_is =
+    let P : List SessionItem → Type 0 = λ l. FirstItemsOf input l in
+    subst P (sym is) (first_of false got left input given (rest, reads) input_is (λ e. cc))
+
+-- these bytes were put, a front of all replies
+abbrev PutsFront : Shown → List Change → List ℕ → List SessionItem → Type 0
+PutsFront now changes before all = (put more : List ℕ) × (now.taken ≡ Some (before ++ put)) × (replies changes all ≡ put ++ more)
+
+front_put : (now : Shown) (changes : List Change) (before : List ℕ) (items all : List SessionItem) → Begins items all → now.taken ≡ Some (before ++ replies changes items) → PutsFront now changes before all
+front_put now changes before items all h taken = (replies changes items, replies (list_after_all changes items) h.0, taken, ap (replies changes) h.1 ∙ replies_append changes items h.0)
+
+-- the last reply was put in part
+part_put : (now : Shown) (changes : List Change) (before : List ℕ) (items : List SessionItem) (last : SessionItem) (count : ℕ) (all : List SessionItem) → Begins (items ++ last ∷ []) all
+    → now.taken ≡ Some ((before ++ replies changes items) ++ take count (reply_text (reply_to (list_after_all changes items) last))) → PutsFront now changes before all
+part_put now changes before items last count all h taken =
+    let line = reply_text (reply_to (list_after_all changes items) last) in
+    let after = replies (list_after (list_after_all changes items) last) h.0 in
+    let rest = drop count line ++ after in
+    let whole : replies changes all ≡ replies changes items ++ (line ++ after) =
+    ap (replies changes) (h.1 ∙ append_assoc items (last ∷ []) h.0) ∙ replies_append changes items (last ∷ h.0) in
+    let cut : line ++ after ≡ take count line ++ rest =
+    ap (λ (l : List ℕ). l ++ after) (sym (take-append-drop count line)) ∙ append_assoc (take count line) (drop count line) after in (
+      replies changes items ++ take count line,
+      rest,
+      taken ∙ ap Some (append_assoc before (replies changes items) (take count line)),
+      whole ∙ ap (λ (l : List ℕ). replies changes items ++ l) cut ∙ sym (append_assoc (replies changes items) (take count line) rest),
+    )
+
+finished_front : (may_leave : Image → Type 0) (now : Shown) (changes : List Change) (input before : List ℕ) (refused : Bool) (all : List SessionItem) → Finished may_leave now changes input before refused → ItemsOf input all → PutsFront now changes before all
+finished_front may_leave now changes input before refused all h whole = front_put now changes before h.items all ([], sym (one_list input h.items all h.all whole) ∙ sym (append-nil h.items)) h.answered.taken
+
+-- whatever the status, a front of all replies was put
+pub front_of : (s : Status) (may_leave : Image → Type 0) (now : Shown) (changes : List Change) (input before : List ℕ) (all : List SessionItem) → Leaves s may_leave now changes input before → ItemsOf input all → PutsFront now changes before all
+front_of status.Done may_leave now changes input before all h whole = finished_front may_leave now changes input before false all h whole
+front_of status.DoneWithRefusals may_leave now changes input before all h whole = finished_front may_leave now changes input before true all h whole
+front_of status.Usage may_leave now changes input before all h whole = absurd h
+front_of status.ReadFault may_leave now changes input before all h whole = front_put now changes before h.items all (first_items input h.items all (whole_first h.got h.left input h.items h.whole h.input_is) whole) h.answered.taken
+front_of status.WriteFault may_leave now changes input before all h whole = part_put now changes before h.items h.last h.count all (first_items input (h.items ++ h.last ∷ []) all h.first whole) h.taken
+front_of status.DiskFault may_leave now changes input before all h whole = front_put now changes before h.items all (first_items input h.items all h.first whole) h.taken
+front_of status.Damaged may_leave now changes input before all h whole = absurd h
+front_of status.OutOfMemory may_leave now changes input before all h whole = front_put now changes before h.items all (first_items input h.items all h.first whole) h.answered.taken
+front_of status.InputTooLong may_leave now changes input before all h whole = front_put now changes before h.items all (first_items input h.items all (whole_first h.got (h.next ∷ h.left) input h.items h.whole h.input_is) whole) h.answered.taken
+
+-- what a run leaves is what its status says
+pub leaves_after : (r : Result Bool SessionEnd) (may_leave : Image → Type 0) (now : Shown) (changes : List Change) (input before : List ℕ) → RunEnds r may_leave now changes input before → Leaves (status_after r) may_leave now changes input before
+leaves_after (Ok false) may_leave now changes input before h = h
+leaves_after (Ok true) may_leave now changes input before h = h
+leaves_after (Err ends.Memory) may_leave now changes input before h = h
+leaves_after (Err (ends.Read failed)) may_leave now changes input before h = h
+leaves_after (Err (ends.Write failed)) may_leave now changes input before h = h
+leaves_after (Err (ends.Disk failed)) may_leave now changes input before h = h
+leaves_after (Err ends.TooLong) may_leave now changes input before h = h
+
+longer : (got left : List ℕ) (next : ℕ) (input : List ℕ) → input ≡ got ++ next ∷ left → length got ≡ input_limit → length input ≤ input_limit → ⊥
+longer got left next input is limit within =
+    let size = ap length is ∙ length-append got (next ∷ left) in omega (arith, size, limit, within)
+
+-- with no fault and a short input, all is done or memory is wanting
+pub whole_without_fault : (s : Status) (old new : Faults) (may_leave : Image → Type 0) (now : Shown) (changes : List Change) (input before : List ℕ) → Leaves s may_leave now changes input before → StatusHasReason old new s → NoFault old new → length input ≤ input_limit → IsWhole s
+whole_without_fault status.Done old new may_leave now changes input before h reason none within = tt
+whole_without_fault status.DoneWithRefusals old new may_leave now changes input before h reason none within = tt
+whole_without_fault status.Usage old new may_leave now changes input before h reason none within = absurd h
+whole_without_fault status.ReadFault old new may_leave now changes input before h reason none within = absurd (none.read reason)
+whole_without_fault status.WriteFault old new may_leave now changes input before h reason none within = absurd (none.write reason)
+whole_without_fault status.DiskFault old new may_leave now changes input before h reason none within = absurd (none.disk reason)
+whole_without_fault status.Damaged old new may_leave now changes input before h reason none within = absurd h
+whole_without_fault status.OutOfMemory old new may_leave now changes input before h reason none within = tt
+whole_without_fault status.InputTooLong old new may_leave now changes input before h reason none within = absurd (longer h.got h.left h.next input h.input_is h.limit within)
+
+-- a disk that fails before the first item
+pub lost_at_start : (end : SessionEnd) (was may_leave : Image → Type 0) (old now : Shown) (changes : List Change) (input before : List ℕ) → IsDiskEnd end → StartsWith was old changes input before → now ≡ old → RunEnds (Err end) may_leave now changes input before
+lost_at_start (ends.Disk failed) was may_leave old now changes input before is h same = record {
+  items = [];
+  first = inl ([], input, stop refl refl, refl);
+  taken = ap (λ (s : Shown). s.taken) same ∙ h.taken ∙ ap Some (sym (append-nil before));
+}
+lost_at_start ends.Memory was may_leave old now changes input before is h same = absurd is
+lost_at_start (ends.Read failed) was may_leave old now changes input before is h same = absurd is
+lost_at_start (ends.Write failed) was may_leave old now changes input before is h same = absurd is
+lost_at_start ends.TooLong was may_leave old now changes input before is h same = absurd is
+
+pub reason_after : (r : Result Bool SessionEnd) (before now : Faults) → EndsForReason before now r → StatusHasReason before now (status_after r)
+reason_after (Ok false) before now h = tt
+reason_after (Ok true) before now h = tt
+reason_after (Err ends.Memory) before now h = tt
+reason_after (Err (ends.Read failed)) before now h = h
+reason_after (Err (ends.Write failed)) before now h = h
+reason_after (Err (ends.Disk failed)) before now h = h
+reason_after (Err ends.TooLong) before now h = tt

@@ -1,0 +1,210 @@
+// The outside of a program that runs: the standard streams, a folder and the machine's clock.
+ghost use Rattle.std.specs.Prelude.{◌≡◌, ◌≤◌, ◌<◌, ◌+◌, ◌^◌, ℕ, List, false, None, refl, [], length, IfOk, IsTrue, OnOk};
+ghost use Rattle.std.proofs.Common.{ap, sym};
+ghost use Rattle.std.specs.Io.{ReadsAtMost, WritesAtMost};
+ghost use Rattle.s80_disk.specs.declared.disk.FileId.{FileId};
+ghost use Rattle.s80_disk.specs.Real.{faults_of_real};
+ghost use Rattle.s80_disk.specs.Untold.{untold, files_untold, no_moment_untold};
+
+use s80_base::{Call, Clock, Failed, Sink, Source, Text, fault};
+use s80_disk::{Disk, FileId, Outside, RealDisk};
+use std::fs::Files;
+use std::io;
+use std::io::{ErrorKind, Read, Write};
+use std::rt::Clock as SystemClock;
+use std::time::{SystemTime, UNIX_EPOCH};
+
+/// Standard input and output, the five files of a folder, and the machine's clock. It tells nothing of what these hold, but how
+/// many bytes it has put.
+#[derive(Drop)]
+pub struct RealOutside<R: Files + AllocGlobal + Input + Print + SystemClock + Drop> {
+    disk: RealDisk<R>,
+    told: u64,
+    read_faults: u64,
+    write_faults: u64,
+}
+
+impl<R: Files + AllocGlobal + Input + Print + SystemClock + Drop> RealOutside<R> {
+    /// An outside on which no folder is chosen yet.
+    pub fn make(rt: R) -> Self {
+        RealOutside {
+            disk: RealDisk::make(rt),
+            told: 0,
+            read_faults: 0,
+            write_faults: 0,
+        }
+    }
+}
+
+/// Reads at least one byte where input is left. An interrupted read is tried again.
+fn read_some<F: Read>(mut reader: F, buf: &mut [u8]) -> io::Result<usize>
+where
+    F: Drop,
+    ensures { ReadsAtMost result buf.new }
+{
+    for _ in 0..u64::MAX {
+        match reader.read(buf) {
+            Ok(count) => return Ok(count),
+            Err(e) if e.kind() == ErrorKind::Interrupted => {}
+            Err(e) => return Err(e),
+        }
+    }
+    Err(io::Error::from(ErrorKind::Other))
+}
+
+/// Writes at least one byte of a piece that isn't empty. An interrupted write is tried again.
+fn write_some<F: Write>(mut writer: F, piece: &[u8]) -> io::Result<usize>
+where
+    F: Drop,
+    ensures bound { WritesAtMost result piece.now }
+    ensures some { 0 < length piece.now → IfOk result (λ count. 0 < count) }
+{
+    if piece.is_empty() {
+        return Ok(0);
+    }
+    for _ in 0..u64::MAX {
+        match writer.write(piece) {
+            Ok(0) => return Err(io::Error::from(ErrorKind::WriteZero)),
+            Ok(count) => {
+                writer.flush()?;
+                return Ok(count);
+            }
+            Err(e) if e.kind() == ErrorKind::Interrupted => {}
+            Err(e) => return Err(e),
+        }
+    }
+    Err(io::Error::from(ErrorKind::Other))
+}
+
+/// The seconds since 1970, or 0 where the clock can't be read or stands before it.
+fn seconds_now<R: SystemClock>(rt: &R) -> u64 {
+    match SystemTime::now(rt) {
+        Ok(now) => match now.duration_since(UNIX_EPOCH) {
+            Ok(since) => since.as_secs(),
+            Err(_) => 0,
+        },
+        Err(_) => 0,
+    }
+}
+
+impl<R: Files + AllocGlobal + Input + Print + SystemClock + Drop> Source for RealOutside<R> {
+    ghost left = { λ _. None };
+
+    ghost read_faults = { λ o. o.read_faults };
+
+    ghost take_keeps = { λ o p. (p.disk ≡ o.disk) × (p.told ≡ o.told) × (p.write_faults ≡ o.write_faults) };
+
+    fn take(&mut self, buf: &mut [u8]) -> Result<usize, Failed> {
+        match read_some(self.disk.runtime().reader(), buf) {
+            Ok(count) => Ok(count),
+            Err(_) => Err(fault(&mut self.read_faults, Call::Take)),
+        }
+    }
+}
+
+impl<R: Files + AllocGlobal + Input + Print + SystemClock + Drop> Sink for RealOutside<R> {
+    ghost taken = { λ _. None };
+
+    ghost told = { λ o. o.told };
+
+    ghost write_faults = { λ o. o.write_faults };
+
+    ghost put_keeps = { λ o p. (p.disk ≡ o.disk) × (p.read_faults ≡ o.read_faults) };
+
+    fn put(&mut self, piece: &[u8]) -> Result<usize, Failed> {
+        // The count of bytes told can't pass the end of its type.
+        if u64::MAX - self.told < piece.len() as u64 {
+            return Err(fault(&mut self.write_faults, Call::Put));
+        }
+        match write_some(io::writer(self.disk.runtime()), piece) {
+            Ok(count) => {
+                self.told += count as u64;
+                Ok(count)
+            }
+            Err(_) => Err(fault(&mut self.write_faults, Call::Put)),
+        }
+    }
+}
+
+impl<R: Files + AllocGlobal + Input + Print + SystemClock + Drop> Clock for RealOutside<R> {
+    ghost seconds = { λ _. None };
+
+    ghost now_keeps = { λ o p. p ≡ o };
+
+    fn now(&mut self) -> u64 {
+        seconds_now(self.disk.runtime())
+    }
+}
+
+impl<R: Files + AllocGlobal + Input + Print + SystemClock + Drop> Disk for RealOutside<R> {
+    ghost tells = { λ _. false };
+
+    ghost reads = { λ _ _. [] };
+
+    ghost may_leave = { λ _ _. ⊥ };
+
+    ghost moment = { λ _. 0 };
+
+    ghost left_since = { λ _ _ _ _. ⊥ };
+
+    ghost disk_faults = { λ o. faults_of_real o.disk };
+
+    ghost beside = { λ o. record {
+      left = None;
+      taken = None;
+      told = o.told;
+      read_faults = o.read_faults;
+      write_faults = o.write_faults;
+      seconds = None;
+    } };
+
+    ghost reads_is_left = { λ _ h. untold h };
+
+    ghost counts_now = { λ _ _ _ _ now. now };
+
+    ghost only_now = { λ _ _ _ left. absurd left };
+
+    fn attach(&mut self, folder: &Text) -> Result<(), Failed> {
+        self.disk.attach(folder)
+    }
+
+    fn length(&mut self, file: FileId) -> Result<u64, Failed> {
+        self.disk.length(file)
+    }
+
+    fn read_at(&mut self, file: FileId, at: u64, buf: &mut [u8]) -> Result<usize, Failed> {
+        self.disk.read_at(file, at, buf)
+    }
+
+    fn write_at(&mut self, file: FileId, at: u64, piece: &[u8]) -> Result<(), Failed> {
+        self.disk.write_at(file, at, piece)
+    }
+
+    fn cut(&mut self, file: FileId, to: u64) -> Result<(), Failed> {
+        self.disk.cut(file, to)
+    }
+
+    fn sync(&mut self, file: FileId) -> Result<(), Failed> {
+        self.disk.sync(file)
+    }
+}
+
+impl<R: Files + AllocGlobal + Input + Print + SystemClock + Drop> Outside for RealOutside<R> {
+    ghost beside_is = { λ o. refl };
+
+    ghost take_keeps_files = { λ o p h. files_untold (λ x. faults_of_real x.disk) (λ x. Self.beside x) o p (ap faults_of_real h.0) };
+
+    ghost take_keeps_moment = { λ o p h. no_moment_untold o p };
+
+    ghost take_keeps_output = { λ o p h. record { taken = refl; told = h.1; write_faults = h.2; seconds = refl } };
+
+    ghost put_keeps_files = { λ o p h. files_untold (λ x. faults_of_real x.disk) (λ x. Self.beside x) o p (ap faults_of_real h.0) };
+
+    ghost put_keeps_input = { λ o p h. record { left = refl; read_faults = h.1; seconds = refl } };
+
+    ghost now_keeps_files = { λ o p h. files_untold (λ x. faults_of_real x.disk) (λ x. Self.beside x) o p (ap (λ x. faults_of_real x.disk) h) };
+
+    ghost now_keeps_moment = { λ o p h. no_moment_untold o p };
+
+    ghost now_keeps_beside = { λ o p h. ap (λ x. Self.beside x) h };
+}
