@@ -1,8 +1,24 @@
 //! The tokens of a Smalltalk-80 text.
 #![tactic(auto)]
 
+mod class;
+mod digits;
 mod fault;
+mod front;
+mod laws;
+mod list;
+mod number;
+mod part;
+mod quoted;
+mod run;
 mod token;
+mod word;
 
 pub use fault::LexFault;
+pub use laws::one_reading;
+pub use list::{TokenList, tokens};
+pub use number::literal_of_number;
 pub use token::{Token, TokenKind};
+
+#[cfg(test)]
+mod tests;
