@@ -93,8 +93,8 @@ lawful_number strict depth negative bytes =
     let n : ℕ = whole_value bytes in
     lawful_choice strict depth (is_whole bytes) (cond negative (negative_literal bytes) (positive_literal bytes)) (number Float (signed negative bytes))
     (lawful_choice strict depth negative (negative_literal bytes) (positive_literal bytes)
-        (lawful_choice strict depth (nat_le n (2 ^ 30)) (small (neg_ℤ (pos n))) (number LargeNegative (45 ∷ bytes)) tt tt)
-        (lawful_choice strict depth (nat_lt n (2 ^ 30)) (small (pos n)) (number LargePositive bytes) tt tt))
+    (lawful_choice strict depth (nat_le n (2 ^ 30)) (small (neg_ℤ (pos n))) (number LargeNegative (45 ∷ bytes)) tt tt)
+    (lawful_choice strict depth (nat_lt n (2 ^ 30)) (small (pos n)) (number LargePositive bytes) tt tt))
     tt
 
 lawful_token : (strict : Bool) (depth : ℕ) (k : TokenKind) (bytes : List ℕ) → IsLawfulLiteral strict depth (token_literal k bytes)

@@ -79,9 +79,13 @@ pub stmt_at : (b : Body) (i : ℕ) (x : Stmt) → i < length (body_list (body_of
 stmt_at b i x within is = at_place stmt_of (out-Body b).items.items (body_list (body_of b)) i x (body_out b) within is
 
 pub ruleset exprs_added = (exprs_open, map_append, out-roll-Exprs, exprs_from_push)
+
 pub ruleset messages_added = (messages_open, map_append, out-roll-Messages, messages_from_push)
+
 pub ruleset body_added = (body_open, map_append, out-roll-Body, body_from_push)
 
 pub ruleset exprs_read = (exprs_out, map_append, out-roll-Exprs, length_map)
+
 pub ruleset messages_read = (messages_out, map_append, out-roll-Messages, length_map)
+
 pub ruleset body_read = (body_out, map_append, out-roll-Body, length_map)

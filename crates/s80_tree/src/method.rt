@@ -25,7 +25,13 @@ pub struct DoItTree {
 }
 
 impl MethodTree {
-    pub fn new(selector: Text, parameters: NamesAt, temporaries: NamesAt, primitive: u8, body: Body) -> Self
+    pub fn new(
+        selector: Text,
+        parameters: NamesAt,
+        temporaries: NamesAt,
+        primitive: u8,
+        body: Body,
+    ) -> Self
         ensures { method_of result ≡ record { selector = selector; parameters = names_of parameters; temporaries = names_of temporaries; primitive = primitive; body = body_of body } }
     {
         MethodTree {

@@ -15,7 +15,12 @@ fn name(alloc: Global, bytes: &[u8], at: u32) -> Result<NameAt, OutOfMemory> {
 }
 
 fn operand(alloc: Global, receiver: Primary) -> Expr {
-    Expr::new(NamesAt::empty(alloc), receiver, Messages::empty(alloc), Messages::empty(alloc))
+    Expr::new(
+        NamesAt::empty(alloc),
+        receiver,
+        Messages::empty(alloc),
+        Messages::empty(alloc),
+    )
 }
 
 /// A message with the argument 3, or with none.
@@ -36,7 +41,12 @@ fn assignment(alloc: Global) -> Result<Expr, OutOfMemory> {
     messages.push(message(alloc, b"+", true)?)?;
     let mut cascades = Messages::empty(alloc);
     cascades.push(message(alloc, b"bar", false)?)?;
-    Ok(Expr::new(targets, Primary::name(name(alloc, b"y", 4)?), messages, cascades))
+    Ok(Expr::new(
+        targets,
+        Primary::name(name(alloc, b"y", 4)?),
+        messages,
+        cascades,
+    ))
 }
 
 /// `x _ y foo + 3; bar. ^#nil`, the second statement with a literal
@@ -67,7 +77,12 @@ fn messages_stand_in_order(rt: HostRuntime) -> Result<(), Fail> {
     let sum = expr.messages.at(1);
     assert_eq!(rt; sum.selector.bytes(), b"+".as_slice());
     assert_eq!(rt; sum.arguments.count(), 1);
-    assert!(rt; matches!(&sum.arguments.at(0).receiver, Primary::Literal(Literal::Small(3))));
+    assert!(rt;
+        matches!(
+            &sum.arguments.at(0).receiver,
+            Primary::Literal(Literal::Small(3))
+        )
+    );
     Ok(())
 }
 
