@@ -1,0 +1,7 @@
+mod Bytes
+mod Writes
+mod Images
+mod First
+mod Marks
+mod Steps
+mod OneAnswer
