@@ -10,13 +10,14 @@ use Rattle.s80_mark.specs.declared.slots.Slot.TheVariants.{First, Second}
 use Rattle.s80_mark.specs.Mark.{is_open, mark_behind, mark_of}
 use Rattle.s80_mark.specs.Slots.{place_of, mark_in, slots_of}
 
--- a slot in the first 128 bytes
+-- a gate in the first 128 bytes
 gate_in_front : (file : List ℕ) (at : ℕ) → at < 128 → (nat_le 128 (length (take 128 file)) && (slice_index (take 128 file) at == 33)) ≡ (nat_le 128 (length file) && (slice_index file at == 33))
 gate_in_front file at lt =
     let long : length (take 128 file) ≡ min 128 (length file) = length-take 128 file in
     let same : slice_index (take 128 file) at ≡ slice_index file at = get_or-take 128 file at 0 lt in
     grind (arith, nat_tests)
 
+-- a slot in them
 pub open_in_front : (file : List ℕ) (slot : Slot) → mark_in (take 128 file) slot ≡ mark_in file slot
 open_in_front file First =
     let mark = ap (take 34) (drop-take 1 127 file) ∙ take-take 34 127 (drop 1 file) (omega arith) in
@@ -31,6 +32,7 @@ slots_read buf file count long is same =
     let front : take count buf ≡ take 128 file = same ∙ ap (λ (n : ℕ). take n file) (is ∙ ap (λ (n : ℕ). min n (length file)) long) ∙ take_min 128 file in
     ap slots_of front ∙ λ i. record { first = open_in_front file First i; second = open_in_front file Second i }
 
+-- both slots stand in front
 pub place_below : (slot : Slot) → place_of slot ≤ 64
 place_below First = omega arith
 place_below Second = omega arith
@@ -43,6 +45,7 @@ none_or_behind file slot = by_gate (is_open file (place_of slot))
     by_gate true = inr refl
     by_gate false = inl refl
 
+-- an open gate, and one that isn't
 pub opened : (file : List ℕ) (slot : Slot) → 128 ≤ length file → slice_index file (place_of slot) ≡ 33 → mark_in file slot ≡ Some (mark_behind file (place_of slot))
 opened file slot long gate =
     let is : is_open file (place_of slot) ≡ true = grind (arith, nat_tests) in

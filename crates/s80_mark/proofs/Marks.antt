@@ -11,6 +11,7 @@ use Rattle.s80_mark.specs.Mark.{is_open, mark_behind, is_later, later_open, vali
 use Rattle.s80_mark.specs.Slots.{place_of, other_of, mark_in, slots_of, mark_at}
 use Rattle.s80_mark.specs.Writes.{KeepsOther, Closes, Fills, IsFilled}
 
+-- a slot as it was read
 pub slot_read : (file : List ℕ) (slot : Slot) → mark_at (slots_of file) slot ≡ mark_in file slot
 slot_read file First = refl
 slot_read file Second = refl
@@ -22,6 +23,7 @@ open_long file slot mark is = elim (cases_lt (length file) 128) [
   | inr long ↦ long
 ]
   where
+    -- a short file has none
     none : length file < 128 → mark_in file slot ≡ None
     none short =
         let shut : is_open file (place_of slot) ≡ false = grind (arith, nat_tests) in
@@ -36,6 +38,7 @@ only_other file Second none = ap (later_open (mark_in file First)) none ∙ alon
     alone None = refl
     alone (Some mark) = refl
 
+-- the next sequence is later, and the one before isn't
 is_later_next : (old : ℕ) → is_later old ((old + 1) % 2 ^ 64) ≡ true
 is_later_next old = grind (arith, nat_tests)
 
@@ -49,6 +52,7 @@ next_valid file First old next there here follows =
 next_valid file Second old next there here follows =
     (λ i. later_open (there i) (here i)) ∙ ap (λ (t : Bool). if t then Some next else Some old) (ap (is_later old.sequence) follows ∙ is_later_next old.sequence)
 
+-- where both slots stay, so does the valid mark
 pub same_valid : (old new : List ℕ) (slot : Slot) → mark_in new slot ≡ mark_in old slot → KeepsOther slot old new → valid_mark new ≡ valid_mark old
 same_valid old new First here there = λ i. later_open (here i) (there i)
 same_valid old new Second here there = λ i. later_open (there i) (here i)
@@ -66,6 +70,7 @@ module _ (old next : MarkState) (slot : Slot) (file : List ℕ) (holds : mark_in
       let slots = fills told (open_long file (other_of slot) old holds) none in
       ⊎_elim (λ still. inl (only_other new slot still ∙ slots.0 ∙ holds)) (λ done. inr (next_valid new slot old next (slots.0 ∙ holds) done follows)) slots.1
 
+  -- when the gate is open
   pub filled : next.sequence ≡ (old.sequence + 1) % 2 ^ 64 → (new : List ℕ) → IsFilled slot next file new → valid_mark new ≡ Some next
   filled follows new fills =
       let slots = fills (open_long file (other_of slot) old holds) in
@@ -76,5 +81,6 @@ pub spare_holds : (file : List ℕ) (slots : Slots) (spare : Slot) (old : MarkSt
 spare_holds file slots spare old read holder valid =
     sym (slot_read file (other_of spare)) ∙ ap (λ (s : Slots). mark_at s (other_of spare)) (sym read) ∙ holder ∙ ap (λ (s : Slots). later_open s.first s.second) read ∙ valid
 
+-- whether its gate is open, as it was read
 pub gate_read : (file : List ℕ) (slots : Slots) (spare : Slot) (gate : Bool) → slots ≡ slots_of file → gate ≡ is_some (mark_at slots spare) → is_some (mark_in file spare) ≡ gate
 gate_read file slots spare gate read is = ap (λ (o : Option MarkState). is_some o) (sym (slot_read file spare) ∙ ap (λ (s : Slots). mark_at s spare) (sym read)) ∙ sym is

@@ -10,28 +10,34 @@ use Rattle.s80_mark.specs.declared.read.MarkFault.TheVariants.{Disk, NoGate, Bad
 use Rattle.s80_mark.specs.Mark.{valid_mark}
 use Rattle.s80_mark.specs.Found.{AreLogsEmpty, longer_log, HasLawfulNumbers, IsFirstUnlawful, IsAnswer, IsDiskFault}
 
+-- not both: empty logs, and a longer one
 some_log : (files : Image) → AreLogsEmpty files → 0 < longer_log files → ⊥
 some_log files empty some =
     let zero0 : length (files Log0) ≡ 0 = ap length empty.0 in
     let zero1 : length (files Log1) ≡ 0 = ap length empty.1 in
     omega arith
 
+-- one valid mark
 same_mark : (one other : MarkState) → Some one ≡ Some other → one ≡ other
 same_mark one other e = cc
 
+-- lawful numbers have no first unlawful one
 not_lawful : (mark : MarkState) (value : ℕ) → HasLawfulNumbers mark → IsFirstUnlawful mark value → ⊥
 not_lawful mark value lawful (inl log) = omega (arith, lawful.log, log.0)
 not_lawful mark value lawful (inr image) = ⊎_elim (λ low. omega (arith, low, image.1)) image.2 lawful.image
 
+-- the first unlawful number is one
 one_value : (mark : MarkState) (one other : ℕ) → IsFirstUnlawful mark one → IsFirstUnlawful mark other → one ≡ other
 one_value mark one other (inl a) (inl b) = a.1 ∙ sym b.1
 one_value mark one other (inl a) (inr b) = absurd (omega (arith, a.0, b.0))
 one_value mark one other (inr a) (inl b) = absurd (omega (arith, a.0, b.0))
 one_value mark one other (inr a) (inr b) = a.3 ∙ sym b.3
 
+-- a valid mark is there, or isn't
 some_mark : (files : Image) (mark : MarkState) → valid_mark (files Mark) ≡ Some mark → valid_mark (files Mark) ≡ None → ⊥
 some_mark files mark some none = let h : Some mark ≡ None = sym some ∙ none in cc
 
+-- the valid mark is lawful, or isn't
 lawful_once : (files : Image) (mark again : MarkState) (value : ℕ) → valid_mark (files Mark) ≡ Some mark → valid_mark (files Mark) ≡ Some again → HasLawfulNumbers mark → IsFirstUnlawful again value → ⊥
 lawful_once files mark again value one other lawful first =
     let P : MarkState → Type 0 = HasLawfulNumbers in

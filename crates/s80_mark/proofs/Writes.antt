@@ -21,6 +21,7 @@ keeps_other Second at n old new long from to torn =
 
 module _ (slot : Slot) (place : ℕ) (here : place ≡ place_of slot) where
   module _ (old new : List ℕ) (long : 128 ≤ length old) where
+    -- a write inside the slot keeps the length
     still_long : (at n : ℕ) → at + n ≤ place + 35 → Torn at n old new → 128 ≤ length new
     still_long at n to torn = omega (arith, same_length at n old new torn (omega (arith, place_below slot)), long)
 
@@ -34,6 +35,7 @@ module _ (slot : Slot) (place : ℕ) (here : place ≡ place_of slot) where
         let gate = byte_below (place + 1) n old new torn (omega (arith, place_below slot)) (place_of slot) (omega arith) in
         closed new slot (λ e. let h : None ≡ Some (mark_behind old (place_of slot)) = sym was ∙ opened old slot long (sym gate ∙ e) in cc)
 
+  -- the gate that was written
   gate_written : (byte : ℕ) (old new : List ℕ) → Wrote place (byte ∷ []) old new → slice_index new (place_of slot) ≡ byte
   gate_written byte old new wrote = ap (slice_index new) (sym here) ∙ written place byte old new wrote
 
@@ -48,6 +50,7 @@ module _ (slot : Slot) (place : ℕ) (here : place ≡ place_of slot) where
       still (inl none) is = absurd (let h : false ≡ true = ap (λ (o : Option MarkState). is_some o) (sym none) ∙ is in cc)
       still (inr some) is = some
 
+  -- when it is closed
   pub is_closed : (was_open : Bool) (old new : List ℕ) → Torn place 1 old new → Wrote place (0 ∷ []) old new → IsClosed slot was_open old new
   is_closed was_open old new torn wrote = λ long was. (
     keeps_other slot place 1 old new long (omega arith) (omega arith) torn,
@@ -67,12 +70,15 @@ module _ (slot : Slot) (place : ℕ) (here : place ≡ place_of slot) where
       ap mark_of (subst (P (place_of slot + 35 - (place_of slot + 1))) at (let Q : ℕ → Type 0 = λ n. P n (place + 1) in subst Q e wrote.here)) ∙ is
 
   module _ (mark : MarkState) (n : ℕ) (few : n ≤ 34) (old mid new : List ℕ) (staged : Torn (place + 1) n old mid) (opens : Torn place 1 mid new) where
+    -- between the two writes
     mid_long : 128 ≤ length old → 128 ≤ length mid
     mid_long long = still_long old mid long (place + 1) n (omega arith) staged
 
+    -- both writes leave the other slot
     both_keep : 128 ≤ length old → KeepsOther slot old new
     both_keep long = keeps_other slot place 1 mid new (mid_long long) (omega arith) (omega arith) opens ∙ keeps_other slot (place + 1) n old mid long (omega arith) (omega arith) staged
 
+    -- the second write leaves the mark
     same_mark : 128 ≤ length old → mark_behind mid (place_of slot) ≡ mark → mark_behind new (place_of slot) ≡ mark
     same_mark long is = same_behind mid new (mid_long long) opens ∙ is
 
@@ -80,5 +86,6 @@ module _ (slot : Slot) (place : ℕ) (here : place ≡ place_of slot) where
     pub fills : (tells : Bool) → (IsTrue tells → mark_behind mid (place_of slot) ≡ mark) → Fills tells slot mark old new
     fills tells is = λ told long was. (both_keep long, ⊎_elim (λ none. inl none) (λ some. inr (some ∙ ap Some (same_mark long (is told)))) (none_or_behind new slot))
 
+    -- when it is open
     pub is_filled : mark_behind mid (place_of slot) ≡ mark → Wrote place (33 ∷ []) mid new → IsFilled slot mark old new
     is_filled is wrote = λ long. (both_keep long, opened new slot (still_long mid new (mid_long long) place 1 (omega arith) opens) (gate_written 33 mid new wrote) ∙ ap Some (same_mark long is))

@@ -19,6 +19,7 @@ pub(crate) const OPEN: u8 = 0x21;
 /// How many bytes a mark file has.
 pub(crate) const MARK_LENGTH: usize = 128;
 
+/// The two slots.
 #[derive(Clone, Copy, Debug, PartialEq, Eq)]
 pub(crate) enum Slot {
     First,

@@ -29,16 +29,30 @@ fn write_slot(disk: &mut MemDisk, at: u64, parts: (u8, u64, u8, u8, u8)) -> Resu
 }
 
 #[test]
-fn the_second_mark_has_these_bytes(rt: HostRuntime) -> Result<(), Fail> {
+fn marks_have_these_bytes(rt: HostRuntime) -> Result<(), Fail> {
     let mut disk = MemDisk::make(rt.alloc(), 512, 64, FaultPlan::Never)?;
     let first = init_mark(&mut disk)?;
     assert_eq!(rt; first, mark(1, 0));
     commit_mark(&mut disk, &first, &mark(2, 7))?;
+    let third = MarkState {
+        sequence: 3,
+        log: 1,
+        log_length: 0x0102_0304_0506_0708,
+        image: 0,
+        image_length: 0x1112_1314_1516_1718,
+        image_position: 0x2122_2324_2526_2728,
+    };
+    commit_mark(&mut disk, &mark(2, 7), &third)?;
     let mut bytes = [0; 35];
     disk.read_at(FileId::Mark, 64, &mut bytes)?;
     assert_eq!(rt;
         bytes,
         *b"\x21\0\0\0\0\0\0\0\x02\0\0\0\0\0\0\0\0\x07\xff\0\0\0\0\0\0\0\0\0\0\0\0\0\0\0\0"
+    );
+    disk.read_at(FileId::Mark, 0, &mut bytes)?;
+    assert_eq!(rt;
+        bytes,
+        *b"\x21\0\0\0\0\0\0\0\x03\x01\x01\x02\x03\x04\x05\x06\x07\x08\0\x11\x12\x13\x14\x15\x16\x17\x18\x21\x22\x23\x24\x25\x26\x27\x28"
     );
     Ok(())
 }
