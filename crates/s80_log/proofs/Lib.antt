@@ -1,0 +1,7 @@
+mod OneList
+mod FirstBlock
+mod Files
+mod Appending
+mod Committing
+mod Keeping
+mod Reading

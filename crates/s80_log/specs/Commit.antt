@@ -1,0 +1,35 @@
+-- What appended blocks and a commit make of a disk that stands for a list of changes.
+use Rattle.std.specs.Prelude.{◌≡◌, ◌≢◌, ◌⊎◌, ℕ, ◌+◌, ◌%◌, ◌^◌, ◌≤◌, Bool, List, length}
+use Rattle.s80_change.specs.declared.change.Change.{Change}
+use Rattle.s80_change.specs.Block.{blocks, IsList}
+use Rattle.s80_disk.specs.declared.disk.FileId.{FileId}
+use Rattle.s80_disk.specs.declared.disk.FileId.TheVariants.{Mark}
+use Rattle.s80_disk.specs.Image.{Image}
+use Rattle.s80_mark.specs.declared.mark.MarkState.{MarkState}
+use Rattle.s80_log.specs.Log.{LogEnd, held_in}
+use Rattle.s80_log.specs.Standing.{FilesStandFor, StandsFor}
+
+-- the mark after this one, which takes the log to its end; what it says of an image stays
+abbrev pub next_mark : MarkState → LogEnd → MarkState
+next_mark mark log = record mark { sequence = (mark.sequence + 1) % 2 ^ 64; log = log.number; log_length = log.end }
+
+-- The disk stands for the list that is kept, the log is the one that the mark names, and up to its end it reads as the blocks of all changes.
+pub record Holds (tells : Bool) (reads : Image) (may_leave : Image → Type 0) (log : LogEnd) (mark : MarkState) (kept all : List Change) : Type 0 where
+  pub stands : StandsFor tells reads may_leave mark kept
+  pub named : mark.log ≡ log.number
+  pub ahead : mark.log_length ≤ log.end
+  pub list : IsList all
+  pub whole : log.end ≡ length (blocks all)
+  pub bytes : held_in reads log ≡ blocks all
+
+-- This much is told, the image has P, and but for the mark and one log its files are those of an image that a crash might leave before.
+pub record LeavesBeside (before : Image → Type 0) (told_before : ℕ) (log : FileId) (P : Image → Type 0) (told : ℕ) (c : Image) : Type 0 where
+  pub told_is : told ≡ told_before
+  pub here : P c
+  pub image : Image
+  pub was : before image
+  pub others : (other : FileId) → other ≢ Mark → other ≢ log → c other ≡ image other
+
+-- the files stand for the one list by the one mark, or for the other by the other
+abbrev pub StandForEither : MarkState → List Change → MarkState → List Change → Image → Type 0
+StandForEither mark kept next all c = FilesStandFor c mark kept ⊎ FilesStandFor c next all

@@ -1,0 +1,5 @@
+pub mod Log
+pub mod Standing
+pub mod Commit
+pub mod Blocks
+pub mod Faults

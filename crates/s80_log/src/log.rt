@@ -1,0 +1,239 @@
+// The log at work: blocks are appended, and a commit makes them count.
+ghost use Rattle.std.specs.Prelude.{◌≡◌, ◌≢◌, ◌⊎◌, ◌↔◌, ◌+◌, ◌-◌, ◌<◌, ◌≤◌, ◌++◌, ◌∷◌, [], ℕ, List, IsTrue, Some, Err, length, IfOk, OnOk, IfErr, OnErr, MatchResult};
+ghost use Rattle.s80_base.specs.Causes.{HasCause, Rose};
+ghost use Rattle.s80_base.specs.declared.outside.Call.TheVariants.{Read, Write, Sync};
+ghost use Rattle.s80_change.specs.declared.change.Change.{Change};
+ghost use Rattle.s80_change.specs.Block.{block as block_of, log_limit, IsLawful};
+ghost use Rattle.s80_disk.specs.declared.disk.FileId.{FileId};
+ghost use Rattle.s80_disk.specs.declared.disk.FileId.TheVariants.{Mark};
+ghost use Rattle.s80_disk.specs.Image.{Wrote, Torn, Follows, Only};
+ghost use Rattle.s80_disk.specs.Moments.{Beside, LeavesOnly, ComesFrom};
+ghost use Rattle.s80_mark.specs.declared.mark.MarkState.{MarkState};
+ghost use Rattle.s80_mark.specs.Mark.{valid_mark};
+ghost use Rattle.s80_mark.specs.Commit.{CanCommit, HasEither};
+ghost use Rattle.s80_log.specs.Log.{log_file};
+ghost use Rattle.s80_log.specs.Standing.{FilesStandFor, StandsFor};
+ghost use Rattle.s80_log.specs.Commit.{next_mark, Holds, LeavesBeside, StandForEither};
+ghost use Rattle.s80_log.specs.Faults.{IfLogDisk};
+
+use s80_base::{Failed, Text};
+use s80_disk::{Disk, FileId};
+use s80_mark::{MarkState, commit_mark};
+use std::marker::Model;
+use thiserror::Error;
+
+/// The greatest length of a log.
+const LOG_LIMIT: u64 = 1 << 30;
+
+/// Why a block isn't appended.
+#[derive(Clone, Copy, Debug, PartialEq, Eq, Error)]
+pub enum LogFault {
+    #[error("{0}")]
+    Disk(Failed),
+    /// The log has this length, and the block would pass its limit.
+    #[error("the log is full at {0} bytes")]
+    Full(u64),
+}
+
+impl From<Failed> for LogFault {
+    ghost use Rattle.s80_log.specs.declared.log.LogFault.TheVariants.{Disk};
+
+    ghost from_gives = { λ failed fault. fault ≡ Disk failed };
+
+    fn from(failed: Failed) -> Self {
+        LogFault::Disk(failed)
+    }
+}
+
+/// One of the two logs, and how many of its bytes count.
+#[derive(Debug, Drop)]
+pub struct Log {
+    number: u8,
+    end: u64,
+}
+
+impl Model for Log {
+    ghost use Rattle.std.specs.Prelude.{◌≤◌};
+    ghost use Rattle.s80_log.specs.Log.{LogEnd};
+
+    ghost Value = { LogEnd };
+
+    ghost view = { λ l. record { number = l.number; end = l.end } };
+
+    ghost invariant = { λ l. l.number ≤ 1 };
+}
+
+impl Log {
+    /// The log of this number, of which so many bytes count.
+    pub fn resume(which: u8, length: u64) -> Log
+        requires { which ≤ 1 }
+        ensures { result ≡ record { number = which; end = length } }
+    {
+        Log {
+            number: which,
+            end: length,
+        }
+    }
+
+    pub fn length(&self) -> u64
+        ensures { result ≡ self.now.end }
+    {
+        self.end
+    }
+
+    /// The other log, from its start.
+    pub fn switch(&mut self) -> Log
+        ensures other { result ≡ record { number = 1 - self.old.number; end = 0 } }
+        ensures same { self.new ≡ self.old }
+    {
+        Log {
+            number: 1 - self.number,
+            end: 0,
+        }
+    }
+
+    pub(crate) fn file(&self) -> FileId
+        ensures { result ≡ log_file self.now.number }
+    {
+        if self.number == 0 {
+            FileId::Log0
+        } else {
+            FileId::Log1
+        }
+    }
+
+    /// Writes a block at the end of the log, and answers where. It counts when a commit has succeeded.
+    pub fn append<D: Disk>(&mut self, disk: &mut D, block: &Text) -> Result<u64, LogFault>
+        ensures place { IfOk result (λ at. at ≡ self.old.end) }
+        ensures end { MatchResult result (λ _. self.new ≡ record self.old { end = self.old.end + length block.now }) (λ _. self.new ≡ self.old) }
+        ensures full { (n : ℕ) → (result ≡ Err (LogFault.Full n)) ↔ ((n ≡ self.old.end) × (log_limit < self.old.end + length block.now)) }
+        ensures within { OnOk result (self.new.end ≤ log_limit) }
+        ensures untouched { log_limit < self.old.end + length block.now → disk.new ≡ disk.old }
+
+        // A disk that stands for a list goes on to stand for it, at every moment; the block stands behind those that were appended.
+        ensures holds { (mark : MarkState) (kept all : List Change) (change : Change)
+            → Holds (D.tells disk.old) (D.reads disk.old) (D.may_leave disk.old) self.old mark kept all → IsLawful change → block.now ≡ block_of change
+            → MatchResult result (λ _. Holds (D.tells disk.new) (D.reads disk.new) (D.may_leave disk.new) self.new mark kept (all ++ change ∷ []))
+            (λ _. Holds (D.tells disk.new) (D.reads disk.new) (D.may_leave disk.new) self.new mark kept all) }
+        ensures stands { (mark : MarkState) (kept all : List Change)
+            → Holds (D.tells disk.old) (D.reads disk.old) (D.may_leave disk.old) self.old mark kept all
+            → LeavesOnly D.moment D.left_since disk.old disk.new
+            (LeavesBeside (D.may_leave disk.old) (D.beside disk.old).told (log_file self.old.number) (λ c. FilesStandFor c mark kept)) }
+
+        ensures written { IsTrue (D.tells disk.old) → OnOk result (Wrote self.old.end block.now (D.reads disk.old (log_file self.old.number)) (D.reads disk.new (log_file self.old.number))) }
+        ensures torn { IsTrue (D.tells disk.old) → Torn self.old.end (length block.now) (D.reads disk.old (log_file self.old.number)) (D.reads disk.new (log_file self.old.number)) }
+        ensures crash { Follows (log_file self.old.number) (Torn self.old.end (length block.now)) (D.may_leave disk.old) (D.may_leave disk.new) }
+        ensures any_moment { LeavesOnly D.moment D.left_since disk.old disk.new
+            (ComesFrom (D.may_leave disk.old) (D.beside disk.old).told (log_file self.old.number) (Torn self.old.end (length block.now))) }
+        ensures others { (other : FileId) → other ≢ log_file self.old.number → D.reads disk.new other ≡ D.reads disk.old other }
+        ensures tells { D.tells disk.new ≡ D.tells disk.old }
+        ensures beside { D.beside disk.new ≡ D.beside disk.old }
+        ensures later { D.disk_faults disk.old ≤ D.disk_faults disk.new }
+        ensures cause { IfErr result (λ fault. IfLogDisk fault (λ failed. Rose (D.disk_faults disk.old) (D.disk_faults disk.new))) }
+        ensures named { IfErr result (λ fault. IfLogDisk fault (λ failed. failed.call ≡ Write)) }
+    {
+        let at = self.end;
+        let bytes = block.bytes();
+        let size = bytes.len() as u64;
+        if at > LOG_LIMIT || size > LOG_LIMIT - at {
+            return Err(LogFault::Full(at));
+        }
+        disk.write_at(self.file(), at, bytes)?;
+        self.end = at + size;
+        Ok(at)
+    }
+
+    /// Syncs the log and commits the mark that takes it to its end. What the mark says of an image stays.
+    pub fn commit<D: Disk>(&mut self, disk: &mut D, mark: &mut MarkState) -> Result<(), Failed>
+        ensures mark { MatchResult result (λ _. mark.new ≡ next_mark mark.old self.old) (λ _. mark.new ≡ mark.old) }
+        ensures same { self.new ≡ self.old }
+
+        // From a disk that stands for the list kept so far, a crash at any moment, and one now, leaves files that stand for it or for
+        // the list of all that was appended; after Ok the disk stands for that.
+        ensures committed { (kept all : List Change)
+            → Holds (D.tells disk.old) (D.reads disk.old) (D.may_leave disk.old) self.old mark.old kept all
+            → OnOk result (Holds (D.tells disk.new) (D.reads disk.new) (D.may_leave disk.new) self.new mark.new all all) }
+        ensures stands { (kept all : List Change)
+            → Holds (D.tells disk.old) (D.reads disk.old) (D.may_leave disk.old) self.old mark.old kept all
+            → LeavesOnly D.moment D.left_since disk.old disk.new
+            (LeavesBeside (D.may_leave disk.old) (D.beside disk.old).told (log_file self.old.number)
+            (StandForEither mark.old kept (next_mark mark.old self.old) all)) }
+        ensures left { (kept all : List Change) (c : FileId → List ℕ)
+            → Holds (D.tells disk.old) (D.reads disk.old) (D.may_leave disk.old) self.old mark.old kept all
+            → D.may_leave disk.new c
+            → LeavesBeside (D.may_leave disk.old) (D.beside disk.old).told (log_file self.old.number)
+            (StandForEither mark.old kept (next_mark mark.old self.old) all) (D.beside disk.new).told c }
+
+        // Whatever the log holds, a crash leaves the old mark or the next, and the other files as it might have left them before.
+        ensures any_moment { LeavesOnly D.moment D.left_since disk.old disk.new
+            (HasEither (D.tells disk.old) (D.reads disk.old) (D.may_leave disk.old) (D.beside disk.old).told mark.old (next_mark mark.old self.old)) }
+        ensures crash { (c : FileId → List ℕ) → D.may_leave disk.new c
+            → HasEither (D.tells disk.old) (D.reads disk.old) (D.may_leave disk.old) (D.beside disk.old).told mark.old (next_mark mark.old self.old) (D.beside disk.new).told c }
+        ensures valid { CanCommit (D.tells disk.old) (D.reads disk.old) (D.may_leave disk.old) mark.old (next_mark mark.old self.old)
+            → OnOk result (valid_mark (D.reads disk.new Mark) ≡ Some mark.new) }
+        ensures durable { OnOk result (Only Mark (D.reads disk.new Mark) (D.may_leave disk.new) × Only (log_file self.old.number) (D.reads disk.new (log_file self.old.number)) (D.may_leave disk.new)) }
+        ensures others { (other : FileId) → other ≢ Mark → D.reads disk.new other ≡ D.reads disk.old other }
+        ensures tells { D.tells disk.new ≡ D.tells disk.old }
+        ensures beside { D.beside disk.new ≡ D.beside disk.old }
+        ensures cause { HasCause (D.disk_faults disk.old) (D.disk_faults disk.new) result }
+        ensures named { IfErr result (λ e. (e.call ≡ Read) ⊎ (e.call ≡ Write) ⊎ (e.call ≡ Sync)) }
+    {
+        let next = MarkState {
+            sequence: mark.sequence.wrapping_add(1),
+            log: self.number,
+            log_length: self.end,
+            ..*mark
+        };
+        disk.sync(self.file())?;
+        commit_mark(disk, mark, &next)?;
+        *mark = next;
+        Ok(())
+    }
+
+    /// Keeps one change: appends its block and commits. After an `Err` the log and the mark are as before.
+    pub fn append_and_commit<D: Disk>(
+        &mut self,
+        disk: &mut D,
+        mark: &mut MarkState,
+        block: &Text,
+    ) -> Result<u64, LogFault>
+        // One commit: from a disk that stands for a list by its valid mark, with a lawful change and a log that has the mark's number
+        // and length, a stop at any moment, inside a write too, leaves files that stand for the list or for the list with the change.
+        ensures one_commit { (changes : List Change) (change : Change)
+            → StandsFor (D.tells disk.old) (D.reads disk.old) (D.may_leave disk.old) mark.old changes
+            → mark.old.log ≡ self.old.number → mark.old.log_length ≡ self.old.end → IsLawful change → block.now ≡ block_of change
+            → LeavesOnly D.moment D.left_since disk.old disk.new
+            (LeavesBeside (D.may_leave disk.old) (D.beside disk.old).told (log_file self.old.number)
+            (StandForEither mark.old changes (next_mark mark.old (record self.old { end = self.old.end + length block.now })) (changes ++ change ∷ []))) }
+        // After Ok the disk stands for the list with the change; after an Err a crash now leaves one of the two.
+        ensures kept { (changes : List Change) (change : Change)
+            → StandsFor (D.tells disk.old) (D.reads disk.old) (D.may_leave disk.old) mark.old changes
+            → mark.old.log ≡ self.old.number → mark.old.log_length ≡ self.old.end → IsLawful change → block.now ≡ block_of change
+            → OnOk result (StandsFor (D.tells disk.new) (D.reads disk.new) (D.may_leave disk.new) mark.new (changes ++ change ∷ [])) }
+        ensures left { (changes : List Change) (change : Change) (c : FileId → List ℕ)
+            → StandsFor (D.tells disk.old) (D.reads disk.old) (D.may_leave disk.old) mark.old changes
+            → mark.old.log ≡ self.old.number → mark.old.log_length ≡ self.old.end → IsLawful change → block.now ≡ block_of change
+            → D.may_leave disk.new c
+            → StandForEither mark.old changes (next_mark mark.old (record self.old { end = self.old.end + length block.now })) (changes ++ change ∷ []) c }
+
+        ensures place { IfOk result (λ at. at ≡ self.old.end) }
+        ensures end { MatchResult result (λ _. self.new ≡ record self.old { end = self.old.end + length block.now }) (λ _. self.new ≡ self.old) }
+        ensures mark { MatchResult result (λ _. mark.new ≡ next_mark mark.old self.new) (λ _. mark.new ≡ mark.old) }
+        ensures full { (n : ℕ) → (result ≡ Err (LogFault.Full n)) ↔ ((n ≡ self.old.end) × (log_limit < self.old.end + length block.now)) }
+        ensures within { OnOk result (self.new.end ≤ log_limit) }
+        ensures untouched { log_limit < self.old.end + length block.now → disk.new ≡ disk.old }
+        ensures others { (other : FileId) → other ≢ Mark → other ≢ log_file self.old.number → D.reads disk.new other ≡ D.reads disk.old other }
+        ensures tells { D.tells disk.new ≡ D.tells disk.old }
+        ensures beside { D.beside disk.new ≡ D.beside disk.old }
+        ensures later { D.disk_faults disk.old ≤ D.disk_faults disk.new }
+        ensures cause { IfErr result (λ fault. IfLogDisk fault (λ failed. Rose (D.disk_faults disk.old) (D.disk_faults disk.new))) }
+        ensures named { IfErr result (λ fault. IfLogDisk fault (λ failed. (failed.call ≡ Read) ⊎ (failed.call ≡ Write) ⊎ (failed.call ≡ Sync))) }
+    {
+        let at = self.append(disk, block)?;
+        if let Err(failed) = self.commit(disk, mark) {
+            self.end = at;
+            return Err(LogFault::from(failed));
+        }
+        Ok(at)
+    }
+}
