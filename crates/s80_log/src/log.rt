@@ -105,31 +105,43 @@ impl Log {
     /// Writes a block at the end of the log, and answers where. It counts when a commit has succeeded.
     pub fn append<D: Disk>(&mut self, disk: &mut D, block: &Text) -> Result<u64, LogFault>
         ensures place { IfOk result (λ at. at ≡ self.old.end) }
-        ensures end { MatchResult result (λ _. self.new ≡ record self.old { end = self.old.end + length block.now }) (λ _. self.new ≡ self.old) }
-        ensures full { (n : ℕ) → (result ≡ Err (LogFault.Full n)) ↔ ((n ≡ self.old.end) × (log_limit < self.old.end + length block.now)) }
+        ensures end { MatchResult result (λ _. self.new ≡ record self.old { end = self.old.end + length block.now })
+            (λ _. self.new ≡ self.old) }
+        ensures full { (n : ℕ) → (result ≡ Err (LogFault.Full n))
+            ↔ ((n ≡ self.old.end) × (log_limit < self.old.end + length block.now)) }
         ensures within { OnOk result (self.new.end ≤ log_limit) }
         ensures untouched { log_limit < self.old.end + length block.now → disk.new ≡ disk.old }
 
         // A disk that stands for a list goes on to stand for it, at every moment; the block stands behind those that were appended.
         ensures holds { (mark : MarkState) (kept all : List Change) (change : Change)
-            → Holds (D.tells disk.old) (D.reads disk.old) (D.may_leave disk.old) self.old mark kept all → IsLawful change → block.now ≡ block_of change
-            → MatchResult result (λ _. Holds (D.tells disk.new) (D.reads disk.new) (D.may_leave disk.new) self.new mark kept (all ++ change ∷ []))
+            → Holds (D.tells disk.old) (D.reads disk.old) (D.may_leave disk.old) self.old mark kept all → IsLawful change
+            → block.now ≡ block_of change
+            → MatchResult result (λ _. Holds (D.tells disk.new) (D.reads disk.new) (D.may_leave disk.new) self.new mark kept
+            (all ++ change ∷ []))
             (λ _. Holds (D.tells disk.new) (D.reads disk.new) (D.may_leave disk.new) self.new mark kept all) }
         ensures stands { (mark : MarkState) (kept all : List Change)
             → Holds (D.tells disk.old) (D.reads disk.old) (D.may_leave disk.old) self.old mark kept all
             → LeavesOnly D.moment D.left_since disk.old disk.new
-            (LeavesBeside (D.may_leave disk.old) (D.beside disk.old).told (log_file self.old.number) (λ c. FilesStandFor c mark kept)) }
+            (LeavesBeside (D.may_leave disk.old) (D.beside disk.old).told (log_file self.old.number)
+            (λ c. FilesStandFor c mark kept)) }
 
-        ensures written { IsTrue (D.tells disk.old) → OnOk result (Wrote self.old.end block.now (D.reads disk.old (log_file self.old.number)) (D.reads disk.new (log_file self.old.number))) }
-        ensures torn { IsTrue (D.tells disk.old) → Torn self.old.end (length block.now) (D.reads disk.old (log_file self.old.number)) (D.reads disk.new (log_file self.old.number)) }
-        ensures crash { Follows (log_file self.old.number) (Torn self.old.end (length block.now)) (D.may_leave disk.old) (D.may_leave disk.new) }
+        ensures written { IsTrue (D.tells disk.old)
+            → OnOk result (Wrote self.old.end block.now (D.reads disk.old (log_file self.old.number))
+            (D.reads disk.new (log_file self.old.number))) }
+        ensures torn { IsTrue (D.tells disk.old)
+            → Torn self.old.end (length block.now) (D.reads disk.old (log_file self.old.number))
+            (D.reads disk.new (log_file self.old.number)) }
+        ensures crash { Follows (log_file self.old.number) (Torn self.old.end (length block.now)) (D.may_leave disk.old)
+            (D.may_leave disk.new) }
         ensures any_moment { LeavesOnly D.moment D.left_since disk.old disk.new
-            (ComesFrom (D.may_leave disk.old) (D.beside disk.old).told (log_file self.old.number) (Torn self.old.end (length block.now))) }
+            (ComesFrom (D.may_leave disk.old) (D.beside disk.old).told (log_file self.old.number)
+            (Torn self.old.end (length block.now))) }
         ensures others { (other : FileId) → other ≢ log_file self.old.number → D.reads disk.new other ≡ D.reads disk.old other }
         ensures tells { D.tells disk.new ≡ D.tells disk.old }
         ensures beside { D.beside disk.new ≡ D.beside disk.old }
         ensures later { D.disk_faults disk.old ≤ D.disk_faults disk.new }
-        ensures cause { IfErr result (λ fault. IfLogDisk fault (λ failed. Rose (D.disk_faults disk.old) (D.disk_faults disk.new))) }
+        ensures cause { IfErr result
+            (λ fault. IfLogDisk fault (λ failed. Rose (D.disk_faults disk.old) (D.disk_faults disk.new))) }
         ensures named { IfErr result (λ fault. IfLogDisk fault (λ failed. failed.call ≡ Write)) }
     {
         let at = self.end;
@@ -166,12 +178,16 @@ impl Log {
 
         // Whatever the log holds, a crash leaves the old mark or the next, and the other files as it might have left them before.
         ensures any_moment { LeavesOnly D.moment D.left_since disk.old disk.new
-            (HasEither (D.tells disk.old) (D.reads disk.old) (D.may_leave disk.old) (D.beside disk.old).told mark.old (next_mark mark.old self.old)) }
+            (HasEither (D.tells disk.old) (D.reads disk.old) (D.may_leave disk.old) (D.beside disk.old).told mark.old
+            (next_mark mark.old self.old)) }
         ensures crash { (c : FileId → List ℕ) → D.may_leave disk.new c
-            → HasEither (D.tells disk.old) (D.reads disk.old) (D.may_leave disk.old) (D.beside disk.old).told mark.old (next_mark mark.old self.old) (D.beside disk.new).told c }
-        ensures valid { CanCommit (D.tells disk.old) (D.reads disk.old) (D.may_leave disk.old) mark.old (next_mark mark.old self.old)
+            → HasEither (D.tells disk.old) (D.reads disk.old) (D.may_leave disk.old) (D.beside disk.old).told mark.old
+            (next_mark mark.old self.old) (D.beside disk.new).told c }
+        ensures valid { CanCommit (D.tells disk.old) (D.reads disk.old) (D.may_leave disk.old) mark.old
+            (next_mark mark.old self.old)
             → OnOk result (valid_mark (D.reads disk.new Mark) ≡ Some mark.new) }
-        ensures durable { OnOk result (Only Mark (D.reads disk.new Mark) (D.may_leave disk.new) × Only (log_file self.old.number) (D.reads disk.new (log_file self.old.number)) (D.may_leave disk.new)) }
+        ensures durable { OnOk result (Only Mark (D.reads disk.new Mark) (D.may_leave disk.new)
+            × Only (log_file self.old.number) (D.reads disk.new (log_file self.old.number)) (D.may_leave disk.new)) }
         ensures others { (other : FileId) → other ≢ Mark → D.reads disk.new other ≡ D.reads disk.old other }
         ensures tells { D.tells disk.new ≡ D.tells disk.old }
         ensures beside { D.beside disk.new ≡ D.beside disk.old }
@@ -201,33 +217,44 @@ impl Log {
         // and length, a stop at any moment, inside a write too, leaves files that stand for the list or for the list with the change.
         ensures one_commit { (changes : List Change) (change : Change)
             → StandsFor (D.tells disk.old) (D.reads disk.old) (D.may_leave disk.old) mark.old changes
-            → mark.old.log ≡ self.old.number → mark.old.log_length ≡ self.old.end → IsLawful change → block.now ≡ block_of change
+            → mark.old.log ≡ self.old.number → mark.old.log_length ≡ self.old.end → IsLawful change
+            → block.now ≡ block_of change
             → LeavesOnly D.moment D.left_since disk.old disk.new
             (LeavesBeside (D.may_leave disk.old) (D.beside disk.old).told (log_file self.old.number)
-            (StandForEither mark.old changes (next_mark mark.old (record self.old { end = self.old.end + length block.now })) (changes ++ change ∷ []))) }
+            (StandForEither mark.old changes (next_mark mark.old (record self.old { end = self.old.end + length block.now }))
+            (changes ++ change ∷ []))) }
         // After Ok the disk stands for the list with the change; after an Err a crash now leaves one of the two.
         ensures kept { (changes : List Change) (change : Change)
             → StandsFor (D.tells disk.old) (D.reads disk.old) (D.may_leave disk.old) mark.old changes
-            → mark.old.log ≡ self.old.number → mark.old.log_length ≡ self.old.end → IsLawful change → block.now ≡ block_of change
-            → OnOk result (StandsFor (D.tells disk.new) (D.reads disk.new) (D.may_leave disk.new) mark.new (changes ++ change ∷ [])) }
+            → mark.old.log ≡ self.old.number → mark.old.log_length ≡ self.old.end → IsLawful change
+            → block.now ≡ block_of change
+            → OnOk result (StandsFor (D.tells disk.new) (D.reads disk.new) (D.may_leave disk.new) mark.new
+            (changes ++ change ∷ [])) }
         ensures left { (changes : List Change) (change : Change) (c : FileId → List ℕ)
             → StandsFor (D.tells disk.old) (D.reads disk.old) (D.may_leave disk.old) mark.old changes
-            → mark.old.log ≡ self.old.number → mark.old.log_length ≡ self.old.end → IsLawful change → block.now ≡ block_of change
+            → mark.old.log ≡ self.old.number → mark.old.log_length ≡ self.old.end → IsLawful change
+            → block.now ≡ block_of change
             → D.may_leave disk.new c
-            → StandForEither mark.old changes (next_mark mark.old (record self.old { end = self.old.end + length block.now })) (changes ++ change ∷ []) c }
+            → StandForEither mark.old changes (next_mark mark.old (record self.old { end = self.old.end + length block.now }))
+            (changes ++ change ∷ []) c }
 
         ensures place { IfOk result (λ at. at ≡ self.old.end) }
-        ensures end { MatchResult result (λ _. self.new ≡ record self.old { end = self.old.end + length block.now }) (λ _. self.new ≡ self.old) }
+        ensures end { MatchResult result (λ _. self.new ≡ record self.old { end = self.old.end + length block.now })
+            (λ _. self.new ≡ self.old) }
         ensures mark { MatchResult result (λ _. mark.new ≡ next_mark mark.old self.new) (λ _. mark.new ≡ mark.old) }
-        ensures full { (n : ℕ) → (result ≡ Err (LogFault.Full n)) ↔ ((n ≡ self.old.end) × (log_limit < self.old.end + length block.now)) }
+        ensures full { (n : ℕ) → (result ≡ Err (LogFault.Full n))
+            ↔ ((n ≡ self.old.end) × (log_limit < self.old.end + length block.now)) }
         ensures within { OnOk result (self.new.end ≤ log_limit) }
         ensures untouched { log_limit < self.old.end + length block.now → disk.new ≡ disk.old }
-        ensures others { (other : FileId) → other ≢ Mark → other ≢ log_file self.old.number → D.reads disk.new other ≡ D.reads disk.old other }
+        ensures others { (other : FileId) → other ≢ Mark → other ≢ log_file self.old.number
+            → D.reads disk.new other ≡ D.reads disk.old other }
         ensures tells { D.tells disk.new ≡ D.tells disk.old }
         ensures beside { D.beside disk.new ≡ D.beside disk.old }
         ensures later { D.disk_faults disk.old ≤ D.disk_faults disk.new }
-        ensures cause { IfErr result (λ fault. IfLogDisk fault (λ failed. Rose (D.disk_faults disk.old) (D.disk_faults disk.new))) }
-        ensures named { IfErr result (λ fault. IfLogDisk fault (λ failed. (failed.call ≡ Read) ⊎ (failed.call ≡ Write) ⊎ (failed.call ≡ Sync))) }
+        ensures cause { IfErr result
+            (λ fault. IfLogDisk fault (λ failed. Rose (D.disk_faults disk.old) (D.disk_faults disk.new))) }
+        ensures named { IfErr result
+            (λ fault. IfLogDisk fault (λ failed. (failed.call ≡ Read) ⊎ (failed.call ≡ Write) ⊎ (failed.call ≡ Sync))) }
     {
         let at = self.append(disk, block)?;
         if let Err(failed) = self.commit(disk, mark) {

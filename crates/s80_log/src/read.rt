@@ -67,25 +67,31 @@ const FIRST_PIECE: usize = 512;
 const LONGEST_BLOCK: u64 = 131_072;
 
 impl Log {
-    /// The change whose block begins at a place of the log, and the place behind it. Reads no more of a long log than a block may need.
+    /// The change whose block begins at a place of the log, and the place behind it.
+    /// Reads no more of a long log than a block may need.
     pub fn read_block<D: Disk>(
         &self,
         alloc: Global,
         disk: &mut D,
         at: u64,
     ) -> Result<(Change, u64), BlockFault>
-        ensures begins { IsTrue (D.tells disk.old) → IfOk result (λ found. BeginsWith (drop at (held_in (D.reads disk.old) self.now)) found.0) }
-        ensures next { IfOk result (λ found. IsLawful found.0 × (found.1 ≡ at + length (block found.0)) × (found.1 ≤ self.now.end)) }
-        ensures none { IsTrue (D.tells disk.old) → IfErr result (λ fault. IfBad fault (λ place. BeginsWithNone (drop at (held_in (D.reads disk.old) self.now)))) }
+        ensures begins { IsTrue (D.tells disk.old)
+            → IfOk result (λ found. BeginsWith (drop at (held_in (D.reads disk.old) self.now)) found.0) }
+        ensures next { IfOk result
+            (λ found. IsLawful found.0 × (found.1 ≡ at + length (block found.0)) × (found.1 ≤ self.now.end)) }
+        ensures none { IsTrue (D.tells disk.old)
+            → IfErr result (λ fault. IfBad fault (λ place. BeginsWithNone (drop at (held_in (D.reads disk.old) self.now)))) }
         ensures bad { IfErr result (λ fault. IfBad fault (λ place. place ≡ at)) }
 
         ensures tells { D.tells disk.new ≡ D.tells disk.old }
         ensures same { (file : FileId) → D.reads disk.new file ≡ D.reads disk.old file }
         ensures crash { (c : FileId → List ℕ) → D.may_leave disk.new c → D.may_leave disk.old c }
-        ensures any_moment { LeavesOnly D.moment D.left_since disk.old disk.new (StillLeft (D.may_leave disk.old) (D.beside disk.old).told) }
+        ensures any_moment { LeavesOnly D.moment D.left_since disk.old disk.new
+            (StillLeft (D.may_leave disk.old) (D.beside disk.old).told) }
         ensures beside { D.beside disk.new ≡ D.beside disk.old }
         ensures later { D.disk_faults disk.old ≤ D.disk_faults disk.new }
-        ensures cause { IfErr result (λ fault. IfBlockDisk fault (λ failed. Rose (D.disk_faults disk.old) (D.disk_faults disk.new))) }
+        ensures cause { IfErr result
+            (λ fault. IfBlockDisk fault (λ failed. Rose (D.disk_faults disk.old) (D.disk_faults disk.new))) }
         ensures named { IfErr result (λ fault. IfBlockDisk fault (λ failed. failed.call ≡ Read)) }
     {
         let within = self.length().saturating_sub(at).min(LONGEST_BLOCK) as usize;
@@ -111,16 +117,19 @@ fn read_piece<D: Disk>(
     at: u64,
     size: usize,
 ) -> Result<Vec<u8>, BlockFault>
-    ensures bytes { IsTrue (D.tells disk.old) → IfOk result (λ piece. piece.items ≡ take size (drop at (D.reads disk.old file))) }
+    ensures bytes { IsTrue (D.tells disk.old)
+        → IfOk result (λ piece. piece.items ≡ take size (drop at (D.reads disk.old file))) }
     ensures bound { IfOk result (λ piece. length piece.items ≤ size) }
     ensures good { IfErr result (λ fault. IfBad fault (λ place. ⊥)) }
     ensures tells { D.tells disk.new ≡ D.tells disk.old }
     ensures same { (other : FileId) → D.reads disk.new other ≡ D.reads disk.old other }
     ensures crash { (c : FileId → List ℕ) → D.may_leave disk.new c → D.may_leave disk.old c }
-    ensures any_moment { LeavesOnly D.moment D.left_since disk.old disk.new (StillLeft (D.may_leave disk.old) (D.beside disk.old).told) }
+    ensures any_moment { LeavesOnly D.moment D.left_since disk.old disk.new
+        (StillLeft (D.may_leave disk.old) (D.beside disk.old).told) }
     ensures beside { D.beside disk.new ≡ D.beside disk.old }
     ensures later { D.disk_faults disk.old ≤ D.disk_faults disk.new }
-    ensures cause { IfErr result (λ fault. IfBlockDisk fault (λ failed. Rose (D.disk_faults disk.old) (D.disk_faults disk.new))) }
+    ensures cause { IfErr result
+        (λ fault. IfBlockDisk fault (λ failed. Rose (D.disk_faults disk.old) (D.disk_faults disk.new))) }
     ensures named { IfErr result (λ fault. IfBlockDisk fault (λ failed. failed.call ≡ Read)) }
 {
     let mut piece = vec![in alloc; 0; size]?;

@@ -34,8 +34,10 @@ fn take_piece<O: Outside>(
     requires within { taken ≤ input_limit }
     ensures took { (left bytes : List ℕ) (given : List Item) → O.left outside.old ≡ Some left → HasRead reader.old bytes given
         → Takes result (shown O.tells O.reads O.left O.taken O.told outside.new) taken reader.new left bytes given }
-    ensures shown { shown O.tells O.reads O.left O.taken O.told outside.new ≡ record (shown O.tells O.reads O.left O.taken O.told outside.old) { left = O.left outside.new } }
-    ensures counts { Counts (faults O.read_faults O.write_faults O.disk_faults outside.old) (faults O.read_faults O.write_faults O.disk_faults outside.new) result }
+    ensures shown { shown O.tells O.reads O.left O.taken O.told outside.new
+        ≡ record (shown O.tells O.reads O.left O.taken O.told outside.old) { left = O.left outside.new } }
+    ensures counts { Counts (faults O.read_faults O.write_faults O.disk_faults outside.old)
+        (faults O.read_faults O.write_faults O.disk_faults outside.new) result }
     ensures images { (c : FileId → List ℕ) → O.may_leave outside.new c → O.may_leave outside.old c }
     ensures any_moment { LeavesOnly O.moment O.left_since outside.old outside.new
         (IsAsBefore (O.may_leave outside.old) (O.told outside.old) 0) }
@@ -62,13 +64,17 @@ impl Session {
         outside: &mut O,
     ) -> Result<(), SessionEnd>
         ensures answered { (changes : List Change) (before bytes : List ℕ) (given : List Item)
-            → IsWorking (O.may_leave outside.old) (shown O.tells O.reads O.left O.taken O.told outside.old) self.old.length self.old.troubled reader.old changes before bytes given
-            → AnswersAll result (O.may_leave outside.new) (shown O.tells O.reads O.left O.taken O.told outside.new) self.new.length self.new.troubled reader.new changes before bytes }
+            → IsWorking (O.may_leave outside.old)
+            (shown O.tells O.reads O.left O.taken O.told outside.old) self.old.length self.old.troubled reader.old changes before bytes given
+            → AnswersAll result (O.may_leave outside.new)
+            (shown O.tells O.reads O.left O.taken O.told outside.new) self.new.length self.new.troubled reader.new changes before bytes }
         ensures any_moment { (changes : List Change) (before bytes : List ℕ) (given : List Item)
-            → IsWorking (O.may_leave outside.old) (shown O.tells O.reads O.left O.taken O.told outside.old) self.old.length self.old.troubled reader.old changes before bytes given
+            → IsWorking (O.may_leave outside.old)
+            (shown O.tells O.reads O.left O.taken O.told outside.old) self.old.length self.old.troubled reader.old changes before bytes given
             → LeavesOnly O.moment O.left_since outside.old outside.new (AnswersLeave reader.old.ended changes before bytes) }
         ensures left { O.left outside.new ≡ O.left outside.old }
-        ensures counts { Counts (faults O.read_faults O.write_faults O.disk_faults outside.old) (faults O.read_faults O.write_faults O.disk_faults outside.new) result }
+        ensures counts { Counts (faults O.read_faults O.write_faults O.disk_faults outside.old)
+            (faults O.read_faults O.write_faults O.disk_faults outside.new) result }
         ensures spent { OnOk result (IsSpent reader.new × (reader.new.room ≡ 4096)) }
         ensures fed { fed reader.new ≡ fed reader.old }
         ensures ended { reader.new.ended ≡ reader.old.ended }
@@ -90,12 +96,16 @@ impl Session {
         requires room { reader.old.room ≡ 4096 }
         requires counted { fed reader.old ≡ 0 }
         ensures took { (changes : List Change) (input before : List ℕ) → O.left outside.old ≡ Some input
-            → IsWorking (O.may_leave outside.old) (shown O.tells O.reads O.left O.taken O.told outside.old) self.old.length self.old.troubled reader.old changes before [] []
-            → TakesAll result (O.may_leave outside.new) (shown O.tells O.reads O.left O.taken O.told outside.new) self.new.length self.new.troubled reader.new changes input before }
+            → IsWorking (O.may_leave outside.old)
+            (shown O.tells O.reads O.left O.taken O.told outside.old) self.old.length self.old.troubled reader.old changes before [] []
+            → TakesAll result (O.may_leave outside.new)
+            (shown O.tells O.reads O.left O.taken O.told outside.new) self.new.length self.new.troubled reader.new changes input before }
         ensures any_moment { (changes : List Change) (input before : List ℕ) → O.left outside.old ≡ Some input
-            → IsWorking (O.may_leave outside.old) (shown O.tells O.reads O.left O.taken O.told outside.old) self.old.length self.old.troubled reader.old changes before [] []
+            → IsWorking (O.may_leave outside.old)
+            (shown O.tells O.reads O.left O.taken O.told outside.old) self.old.length self.old.troubled reader.old changes before [] []
             → LeavesOnly O.moment O.left_since outside.old outside.new (Keeps changes input before) }
-        ensures counts { Counts (faults O.read_faults O.write_faults O.disk_faults outside.old) (faults O.read_faults O.write_faults O.disk_faults outside.new) result }
+        ensures counts { Counts (faults O.read_faults O.write_faults O.disk_faults outside.old)
+            (faults O.read_faults O.write_faults O.disk_faults outside.new) result }
         ensures ended { OnOk result (reader.new.ended ≡ true) }
     {
         let mut taken = 0;
@@ -118,13 +128,19 @@ impl Session {
         alloc: Global,
         outside: &mut O,
     ) -> Result<(), SessionEnd>
-        ensures ran { (changes : List Change) (input before : List ℕ) → O.left outside.old ≡ Some input → self.old.troubled ≡ false
-            → IsAt (O.may_leave outside.old) (shown O.tells O.reads O.left O.taken O.told outside.old) self.old.length changes before
-            → Ends result (O.may_leave outside.new) (shown O.tells O.reads O.left O.taken O.told outside.new) self.new.troubled changes input before }
-        ensures any_moment { (changes : List Change) (input before : List ℕ) → O.left outside.old ≡ Some input → self.old.troubled ≡ false
-            → IsAt (O.may_leave outside.old) (shown O.tells O.reads O.left O.taken O.told outside.old) self.old.length changes before
+        ensures ran { (changes : List Change) (input before : List ℕ) → O.left outside.old ≡ Some input
+            → self.old.troubled ≡ false
+            → IsAt (O.may_leave outside.old)
+            (shown O.tells O.reads O.left O.taken O.told outside.old) self.old.length changes before
+            → Ends result (O.may_leave outside.new)
+            (shown O.tells O.reads O.left O.taken O.told outside.new) self.new.troubled changes input before }
+        ensures any_moment { (changes : List Change) (input before : List ℕ) → O.left outside.old ≡ Some input
+            → self.old.troubled ≡ false
+            → IsAt (O.may_leave outside.old)
+            (shown O.tells O.reads O.left O.taken O.told outside.old) self.old.length changes before
             → LeavesOnly O.moment O.left_since outside.old outside.new (Keeps changes input before) }
-        ensures counts { Counts (faults O.read_faults O.write_faults O.disk_faults outside.old) (faults O.read_faults O.write_faults O.disk_faults outside.new) result }
+        ensures counts { Counts (faults O.read_faults O.write_faults O.disk_faults outside.old)
+            (faults O.read_faults O.write_faults O.disk_faults outside.new) result }
     {
         let mut reader = ChunkReader::make(alloc)?;
         self.take_all(alloc, &mut reader, outside)?;

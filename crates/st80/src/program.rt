@@ -27,12 +27,14 @@ pub fn st80<O: Outside>(alloc: Global, words: &[Text], outside: &mut O) -> Statu
     ensures lawful { result ≢ Status.Usage → (folder : List ℕ) × IsRun words.now folder }
 
     // A fault is answered only where its count rose in this call.
-    ensures reason { StatusHasReason (faults O.read_faults O.write_faults O.disk_faults outside.old) (faults O.read_faults O.write_faults O.disk_faults outside.new) result }
+    ensures reason { StatusHasReason (faults O.read_faults O.write_faults O.disk_faults outside.old)
+        (faults O.read_faults O.write_faults O.disk_faults outside.new) result }
 
     // From a disk that stands for a list of changes, the bytes written are the model keeper's replies to the items of the input.
     ensures leaves { (folder : List ℕ) (changes : List Change) (input before : List ℕ) → IsRun words.now folder
         → StartsWith (O.may_leave outside.old) (shown O.tells O.reads O.left O.taken O.told outside.old) changes input before
-        → Leaves result (O.may_leave outside.new) (shown O.tells O.reads O.left O.taken O.told outside.new) changes input before }
+        → Leaves result (O.may_leave outside.new)
+        (shown O.tells O.reads O.left O.taken O.told outside.new) changes input before }
 
     // Each change is in the log and on the disk before it is answered: a crash at any moment, inside a write too, leaves a log that
     // begins with the blocks of all changes that were answered by then.
@@ -41,14 +43,18 @@ pub fn st80<O: Outside>(alloc: Global, words: &[Text], outside: &mut O) -> Statu
         → LeavesOnly O.moment O.left_since outside.old outside.new (Keeps changes input before) }
 
     // However the run ends, what it wrote is a front of the replies to the whole input.
-    ensures front { (folder : List ℕ) (changes : List Change) (input before : List ℕ) (items : List SessionItem) → IsRun words.now folder
-        → StartsWith (O.may_leave outside.old) (shown O.tells O.reads O.left O.taken O.told outside.old) changes input before → ItemsOf input items
+    ensures front { (folder : List ℕ) (changes : List Change) (input before : List ℕ) (items : List SessionItem)
+        → IsRun words.now folder
+        → StartsWith (O.may_leave outside.old) (shown O.tells O.reads O.left O.taken O.told outside.old) changes input before
+        → ItemsOf input items
         → (put more : List ℕ) × (O.taken outside.new ≡ Some (before ++ put)) × (replies changes items ≡ put ++ more) }
 
     // With no fault and an input within the limit it comes to the end, or memory is wanting.
     ensures complete { (folder : List ℕ) (changes : List Change) (input before : List ℕ) → IsRun words.now folder
-        → StartsWith (O.may_leave outside.old) (shown O.tells O.reads O.left O.taken O.told outside.old) changes input before → length input ≤ input_limit
-        → NoFault (faults O.read_faults O.write_faults O.disk_faults outside.old) (faults O.read_faults O.write_faults O.disk_faults outside.new)
+        → StartsWith (O.may_leave outside.old) (shown O.tells O.reads O.left O.taken O.told outside.old) changes input before
+        → length input ≤ input_limit
+        → NoFault (faults O.read_faults O.write_faults O.disk_faults outside.old)
+        (faults O.read_faults O.write_faults O.disk_faults outside.new)
         → IsWhole result }
 {
     match folder_of(words) {
@@ -59,11 +65,15 @@ pub fn st80<O: Outside>(alloc: Global, words: &[Text], outside: &mut O) -> Statu
 
 /// Works the input in a folder. Says whether some item was refused.
 fn run<O: Outside>(alloc: Global, folder: &Text, outside: &mut O) -> Result<bool, SessionEnd>
-    ensures ran { (changes : List Change) (input before : List ℕ) → StartsWith (O.may_leave outside.old) (shown O.tells O.reads O.left O.taken O.told outside.old) changes input before
-        → RunEnds result (O.may_leave outside.new) (shown O.tells O.reads O.left O.taken O.told outside.new) changes input before }
-    ensures any_moment { (changes : List Change) (input before : List ℕ) → StartsWith (O.may_leave outside.old) (shown O.tells O.reads O.left O.taken O.told outside.old) changes input before
+    ensures ran { (changes : List Change) (input before : List ℕ)
+        → StartsWith (O.may_leave outside.old) (shown O.tells O.reads O.left O.taken O.told outside.old) changes input before
+        → RunEnds result (O.may_leave outside.new)
+        (shown O.tells O.reads O.left O.taken O.told outside.new) changes input before }
+    ensures any_moment { (changes : List Change) (input before : List ℕ)
+        → StartsWith (O.may_leave outside.old) (shown O.tells O.reads O.left O.taken O.told outside.old) changes input before
         → LeavesOnly O.moment O.left_since outside.old outside.new (Keeps changes input before) }
-    ensures counts { Counts (faults O.read_faults O.write_faults O.disk_faults outside.old) (faults O.read_faults O.write_faults O.disk_faults outside.new) result }
+    ensures counts { Counts (faults O.read_faults O.write_faults O.disk_faults outside.old)
+        (faults O.read_faults O.write_faults O.disk_faults outside.new) result }
 {
     open_folder(outside, folder)?;
     let mut session = Session::start(outside)?;
@@ -72,8 +82,10 @@ fn run<O: Outside>(alloc: Global, folder: &Text, outside: &mut O) -> Result<bool
 }
 
 fn open_folder<O: Outside>(outside: &mut O, folder: &Text) -> Result<(), SessionEnd>
-    ensures shown { shown O.tells O.reads O.left O.taken O.told outside.new ≡ shown O.tells O.reads O.left O.taken O.told outside.old }
-    ensures counts { Counts (faults O.read_faults O.write_faults O.disk_faults outside.old) (faults O.read_faults O.write_faults O.disk_faults outside.new) result }
+    ensures shown { shown O.tells O.reads O.left O.taken O.told outside.new
+        ≡ shown O.tells O.reads O.left O.taken O.told outside.old }
+    ensures counts { Counts (faults O.read_faults O.write_faults O.disk_faults outside.old)
+        (faults O.read_faults O.write_faults O.disk_faults outside.new) result }
     ensures disk { IfErr result IsDiskEnd }
     ensures images { (c : FileId → List ℕ) → O.may_leave outside.new c → O.may_leave outside.old c }
     ensures any_moment { LeavesOnly O.moment O.left_since outside.old outside.new

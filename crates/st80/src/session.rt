@@ -79,10 +79,13 @@ impl Session {
 
     /// A session on the folder that was attached.
     pub(crate) fn start<O: Outside>(outside: &mut O) -> Result<Session, SessionEnd>
-        ensures length { IsTrue (O.tells outside.old) → IfOk result (λ session. session.length ≡ length (O.reads outside.old Log0)) }
+        ensures length { IsTrue (O.tells outside.old)
+            → IfOk result (λ session. session.length ≡ length (O.reads outside.old Log0)) }
         ensures untroubled { IfOk result (λ session. session.troubled ≡ false) }
-        ensures shown { shown O.tells O.reads O.left O.taken O.told outside.new ≡ shown O.tells O.reads O.left O.taken O.told outside.old }
-        ensures counts { Counts (faults O.read_faults O.write_faults O.disk_faults outside.old) (faults O.read_faults O.write_faults O.disk_faults outside.new) result }
+        ensures shown { shown O.tells O.reads O.left O.taken O.told outside.new
+            ≡ shown O.tells O.reads O.left O.taken O.told outside.old }
+        ensures counts { Counts (faults O.read_faults O.write_faults O.disk_faults outside.old)
+            (faults O.read_faults O.write_faults O.disk_faults outside.new) result }
         ensures disk { IfErr result IsDiskEnd }
         ensures images { (c : FileId → List ℕ) → O.may_leave outside.new c → O.may_leave outside.old c }
         ensures any_moment { LeavesOnly O.moment O.left_since outside.old outside.new
@@ -102,14 +105,22 @@ impl Session {
         item: SessionItem,
         outside: &mut O,
     ) -> Result<(), SessionEnd>
-        ensures stepped { (changes : List Change) (put : List ℕ) → IsReadable item → IsAt (O.may_leave outside.old) (shown O.tells O.reads O.left O.taken O.told outside.old) self.old.length changes put
-            → Stepped result (O.may_leave outside.new) (shown O.tells O.reads O.left O.taken O.told outside.new) self.new.length changes put item }
-        ensures any_moment { (changes : List Change) (put : List ℕ) → IsReadable item → IsAt (O.may_leave outside.old) (shown O.tells O.reads O.left O.taken O.told outside.old) self.old.length changes put
+        ensures stepped { (changes : List Change) (put : List ℕ) → IsReadable item
+            → IsAt (O.may_leave outside.old)
+            (shown O.tells O.reads O.left O.taken O.told outside.old) self.old.length changes put
+            → Stepped result (O.may_leave outside.new)
+            (shown O.tells O.reads O.left O.taken O.told outside.new) self.new.length changes put item }
+        ensures any_moment { (changes : List Change) (put : List ℕ) → IsReadable item
+            → IsAt (O.may_leave outside.old)
+            (shown O.tells O.reads O.left O.taken O.told outside.old) self.old.length changes put
             → LeavesOnly O.moment O.left_since outside.old outside.new (StepLeaves changes put item) }
-        ensures troubled { (changes : List Change) (put : List ℕ) → IsReadable item → IsAt (O.may_leave outside.old) (shown O.tells O.reads O.left O.taken O.told outside.old) self.old.length changes put
+        ensures troubled { (changes : List Change) (put : List ℕ) → IsReadable item
+            → IsAt (O.may_leave outside.old)
+            (shown O.tells O.reads O.left O.taken O.told outside.old) self.old.length changes put
             → OnOk result (self.new.troubled ≡ (self.old.troubled || is_refused (reply_to changes item))) }
         ensures left { O.left outside.new ≡ O.left outside.old }
-        ensures counts { Counts (faults O.read_faults O.write_faults O.disk_faults outside.old) (faults O.read_faults O.write_faults O.disk_faults outside.new) result }
+        ensures counts { Counts (faults O.read_faults O.write_faults O.disk_faults outside.old)
+            (faults O.read_faults O.write_faults O.disk_faults outside.new) result }
     {
         match self.work(alloc, item, outside)? {
             Reply::Silent => Ok(()),
@@ -129,13 +140,19 @@ impl Session {
         item: SessionItem,
         outside: &mut O,
     ) -> Result<Reply, SessionEnd>
-        ensures worked { (changes : List Change) (put : List ℕ) → IsReadable item → IsAt (O.may_leave outside.old) (shown O.tells O.reads O.left O.taken O.told outside.old) self.old.length changes put
-            → Worked result (O.may_leave outside.new) (shown O.tells O.reads O.left O.taken O.told outside.new) self.new.length changes put item }
-        ensures any_moment { (changes : List Change) (put : List ℕ) → IsReadable item → IsAt (O.may_leave outside.old) (shown O.tells O.reads O.left O.taken O.told outside.old) self.old.length changes put
+        ensures worked { (changes : List Change) (put : List ℕ) → IsReadable item
+            → IsAt (O.may_leave outside.old)
+            (shown O.tells O.reads O.left O.taken O.told outside.old) self.old.length changes put
+            → Worked result (O.may_leave outside.new)
+            (shown O.tells O.reads O.left O.taken O.told outside.new) self.new.length changes put item }
+        ensures any_moment { (changes : List Change) (put : List ℕ) → IsReadable item
+            → IsAt (O.may_leave outside.old)
+            (shown O.tells O.reads O.left O.taken O.told outside.old) self.old.length changes put
             → LeavesOnly O.moment O.left_since outside.old outside.new (HasKept changes (length put)) }
         ensures troubled { self.new.troubled ≡ self.old.troubled }
         ensures left { O.left outside.new ≡ O.left outside.old }
-        ensures counts { Counts (faults O.read_faults O.write_faults O.disk_faults outside.old) (faults O.read_faults O.write_faults O.disk_faults outside.new) result }
+        ensures counts { Counts (faults O.read_faults O.write_faults O.disk_faults outside.old)
+            (faults O.read_faults O.write_faults O.disk_faults outside.new) result }
     {
         match item {
             SessionItem::Chunk(Item::Plain(text)) => {
@@ -155,13 +172,19 @@ impl Session {
         change: Change,
         outside: &mut O,
     ) -> Result<Reply, SessionEnd>
-        ensures kept { (changes : List Change) (put : List ℕ) → IsLawful change → IsAt (O.may_leave outside.old) (shown O.tells O.reads O.left O.taken O.told outside.old) self.old.length changes put
-            → Kept result (O.may_leave outside.new) (shown O.tells O.reads O.left O.taken O.told outside.new) self.new.length changes put change }
-        ensures any_moment { (changes : List Change) (put : List ℕ) → IsLawful change → IsAt (O.may_leave outside.old) (shown O.tells O.reads O.left O.taken O.told outside.old) self.old.length changes put
+        ensures kept { (changes : List Change) (put : List ℕ) → IsLawful change
+            → IsAt (O.may_leave outside.old)
+            (shown O.tells O.reads O.left O.taken O.told outside.old) self.old.length changes put
+            → Kept result (O.may_leave outside.new)
+            (shown O.tells O.reads O.left O.taken O.told outside.new) self.new.length changes put change }
+        ensures any_moment { (changes : List Change) (put : List ℕ) → IsLawful change
+            → IsAt (O.may_leave outside.old)
+            (shown O.tells O.reads O.left O.taken O.told outside.old) self.old.length changes put
             → LeavesOnly O.moment O.left_since outside.old outside.new (HasKept changes (length put)) }
         ensures troubled { self.new.troubled ≡ self.old.troubled }
         ensures left { O.left outside.new ≡ O.left outside.old }
-        ensures counts { Counts (faults O.read_faults O.write_faults O.disk_faults outside.old) (faults O.read_faults O.write_faults O.disk_faults outside.new) result }
+        ensures counts { Counts (faults O.read_faults O.write_faults O.disk_faults outside.old)
+            (faults O.read_faults O.write_faults O.disk_faults outside.new) result }
     {
         let block = block_text(alloc, &change)?;
         let size = block.bytes().len() as u64;
@@ -186,12 +209,16 @@ fn too_long_reply(role: Role, length: u64) -> Reply
 
 /// Puts an answer whole.
 fn answer<O: Outside>(outside: &mut O, line: &[u8]) -> Result<(), SessionEnd>
-    ensures put { (put : List ℕ) → O.taken outside.old ≡ Some put → O.told outside.old ≡ length put → AnswerPut result (O.taken outside.new) (O.told outside.new) put line.now }
+    ensures put { (put : List ℕ) → O.taken outside.old ≡ Some put → O.told outside.old ≡ length put
+        → AnswerPut result (O.taken outside.new) (O.told outside.new) put line.now }
     ensures images { (c : FileId → List ℕ) → O.may_leave outside.new c → O.may_leave outside.old c }
-    ensures any_moment { (changes : List Change) (put : List ℕ) → Only Log0 (blocks changes) (O.may_leave outside.old) → O.told outside.old ≡ length put
+    ensures any_moment { (changes : List Change) (put : List ℕ) → Only Log0 (blocks changes) (O.may_leave outside.old)
+        → O.told outside.old ≡ length put
         → LeavesOnly O.moment O.left_since outside.old outside.new (HasKept changes (length (put ++ line.now))) }
-    ensures shown { shown O.tells O.reads O.left O.taken O.told outside.new ≡ record (shown O.tells O.reads O.left O.taken O.told outside.old) { taken = O.taken outside.new; told = O.told outside.new } }
-    ensures counts { Counts (faults O.read_faults O.write_faults O.disk_faults outside.old) (faults O.read_faults O.write_faults O.disk_faults outside.new) result }
+    ensures shown { shown O.tells O.reads O.left O.taken O.told outside.new
+        ≡ record (shown O.tells O.reads O.left O.taken O.told outside.old) { taken = O.taken outside.new; told = O.told outside.new } }
+    ensures counts { Counts (faults O.read_faults O.write_faults O.disk_faults outside.old)
+        (faults O.read_faults O.write_faults O.disk_faults outside.new) result }
 {
     put_all(outside, line).map_err(SessionEnd::Write)?;
     Ok(())
