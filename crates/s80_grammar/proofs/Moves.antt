@@ -1,5 +1,5 @@
 -- What one token does to the stack.
-use Rattle.std.proofs.Common.{◌≡◌, [], ◌∷◌, ◌++◌, Bool, true, cond, ap, sym, ◌∙◌, append_assoc}
+use Rattle.std.proofs.Common.{refl, ◌≡◌, [], ◌∷◌, ◌++◌, Bool, true, cond, ap, sym, ◌∙◌, append_assoc}
 use Rattle.s80_grammar.specs.Lexeme.{Lexeme, Lexemes}
 use Rattle.s80_grammar.specs.Limits.{may_open, may_assign}
 use Rattle.s80_grammar.specs.Faults.{Unexpected, Nested, NotAssignable}
@@ -33,11 +33,11 @@ pub same_takes : (strict : Bool) (l : Lexeme) (ts : Lexemes) (a b : Symbol) (k :
 unfolding run
 same_takes strict l ts a b k e = ap (λ x. act strict (run strict ts) l ts k x (step strict (run strict ts) l ts k)) e
 
--- the token is taken, and no sign
+-- the token is taken and no sign, or refused
 abbrev pub IsTaken : Action → Type 0
-IsTaken (Pushes p) = Unit {0}
-IsTaken (Opens p) = Unit {0}
-IsTaken _ = ⊥
+IsTaken (Assigns n) = ⊥
+IsTaken Pops = ⊥
+IsTaken _ = Unit {0}
 
 act_above : (strict : Bool) (go : Stack → Outcome) (l : Lexeme) (ts : Lexemes) (x : Action) (m k : Stack) (y z : Outcome) → IsTaken x → level (m ++ k) ≡ level k → act strict go l ts k (above x m) y ≡ act strict go l ts (m ++ k) x z
 act_above strict go l ts (Pushes p) m k y z t e = ap go (append_assoc p m k)
@@ -46,7 +46,7 @@ act_above strict go l ts (Opens p) m k y z t e =
     ∙ ap (λ x. cond (may_open strict x) (go (p ++ (m ++ k))) (Fails Nested (l ∷ ts))) (sym e)
 act_above strict go l ts (Assigns n) m k y z t e = absurd t
 act_above strict go l ts Pops m k y z t e = absurd t
-act_above strict go l ts Refuses m k y z t e = absurd t
+act_above strict go l ts Refuses m k y z t e = refl
 
 -- where a symbol does as another one above further symbols, the run is as with these
 pub stands_above : (strict : Bool) (l : Lexeme) (ts : Lexemes) (a b : Symbol) (m k : Stack) → takes a l ≡ above (takes b l) m → IsTaken (takes b l) → level (m ++ k) ≡ level k → run strict (l ∷ ts) (a ∷ k) ≡ run strict (l ∷ ts) (b ∷ (m ++ k))

@@ -82,7 +82,7 @@ scoped_taken strict names depth free ts d rest g m k w =
     ∙ ap (run strict d) (sym (append_assoc g.0 (block_scope names ∷ []) (close_bracket ∷ k)))
     ∙ close_bracket_taken strict (g.0 ++ block_scope names ∷ []) (quiet_append 0 g.0 (block_scope names ∷ []) g.1 (λ l c. refl, refl, tt)) d rest m k
 
-bar_row : (names : Names) (l : Lexeme) → l.kind ≡ kind.Binary → is_word bar l ≡ true → takes (after_parameter names) l ≡ Pushes (body ∷ block_scope names ∷ [])
+pub bar_row : (names : Names) (l : Lexeme) → l.kind ≡ kind.Binary → is_word bar l ≡ true → takes (after_parameter names) l ≡ Pushes (body ∷ block_scope names ∷ [])
 bar_row names l e h =
     ap (λ x. colon_takes x (parameter names ∷ []) (sign_takes x (is_word bar l) (body ∷ block_scope names ∷ []) Pops)) e
     ∙ ap (λ x. sign_takes kind.Binary x (body ∷ block_scope names ∷ []) Pops) h

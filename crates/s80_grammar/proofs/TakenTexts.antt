@@ -64,7 +64,7 @@ body_follows strict a ps ns m same (stmts r e ss) ts h w =
     ∙ home_taken strict ps ns (stmts r e ss) ts h w
 
 -- temporaries between bars, where they may come
-temps_taken : (strict : Bool) (a : Symbol) (ps : Names) (primitive : Bool) → ((l : Lexeme) → l.kind ≡ kind.Binary → is_word bar l ≡ true → takes a l ≡ Pushes (temporaries ps [] primitive ∷ [])) → (ns : List NameAt) (ts rest : Lexemes) → AreTemporaries ns ts rest → (k : Stack) → run strict ts (a ∷ k) ≡ run strict rest (after_bar primitive ps (names_in ns) ++ k)
+pub temps_taken : (strict : Bool) (a : Symbol) (ps : Names) (primitive : Bool) → ((l : Lexeme) → l.kind ≡ kind.Binary → is_word bar l ≡ true → takes a l ≡ Pushes (temporaries ps [] primitive ∷ [])) → (ns : List NameAt) (ts rest : Lexemes) → AreTemporaries ns ts rest → (k : Stack) → run strict ts (a ∷ k) ≡ run strict rest (after_bar primitive ps (names_in ns) ++ k)
 temps_taken strict a ps primitive same ns ts rest (x, y, first, names, last) k =
     sign_taken strict a (temporaries ps [] primitive ∷ []) kind.Binary bar same ts x first k
     ∙ temporaries_taken strict ps primitive ns [] x y names k
@@ -73,7 +73,7 @@ temps_taken strict a ps primitive same ns ts rest (x, y, first, names, last) k =
     y rest last k
 
 -- a primitive, where one may come
-primitive_taken : (strict : Bool) (a : Symbol) (more : Stack) → ((l : Lexeme) → l.kind ≡ kind.Binary → is_word less l ≡ true → takes a l ≡ Pushes (primitive_then more)) → (n : ℕ) (ts rest : Lexemes) → IsPrimitive n ts rest → (k : Stack) → run strict ts (a ∷ k) ≡ run strict rest (more ++ k)
+pub primitive_taken : (strict : Bool) (a : Symbol) (more : Stack) → ((l : Lexeme) → l.kind ≡ kind.Binary → is_word less l ≡ true → takes a l ≡ Pushes (primitive_then more)) → (n : ℕ) (ts rest : Lexemes) → IsPrimitive n ts rest → (k : Stack) → run strict ts (a ∷ k) ≡ run strict rest (more ++ k)
 primitive_taken strict a more same n ts rest (l, x, y, z, first, word, number, value, low, high, last) k =
     sign_taken strict a (primitive_then more) kind.Binary less same ts x first k
     ∙ sign_taken strict primitive_word [] kind.Keyword primitive_bytes (λ m e h. ap (λ q. word_takes q (is_word primitive_bytes m)) e ∙ ap (word_takes kind.Keyword) h) x y word (primitive_number ∷ primitive_end ∷ (more ++ k))
@@ -81,7 +81,7 @@ primitive_taken strict a more same n ts rest (l, x, y, z, first, word, number, v
     ∙ pushes strict l z primitive_number (primitive_end ∷ (more ++ k)) [] (ap (λ q. number_takes q (is_primitive_number l)) number.1 ∙ ap (number_takes kind.Number) (primitive_true l n value low high))
     ∙ sign_taken strict primitive_end [] kind.Binary greater (λ m e h. ap (λ q. sign_takes q (is_word greater m) [] Refuses) e ∙ ap (λ q. sign_takes kind.Binary q [] Refuses) h) z rest last (more ++ k)
 
-optional_row : (ps : Names) (l : Lexeme) → l.kind ≡ kind.Binary → is_word bar l ≡ true → takes (optional_temporaries ps) l ≡ Pushes (temporaries ps [] false ∷ [])
+pub optional_row : (ps : Names) (l : Lexeme) → l.kind ≡ kind.Binary → is_word bar l ≡ true → takes (optional_temporaries ps) l ≡ Pushes (temporaries ps [] false ∷ [])
 optional_row ps l e h = ap (λ x. sign_takes x (is_word bar l) (temporaries ps [] false ∷ []) (home_takes ps [] l)) e ∙ ap (λ x. sign_takes kind.Binary x (temporaries ps [] false ∷ []) (home_takes ps [] l)) h
 
 -- temporaries, if any, and a body
@@ -93,15 +93,15 @@ optional_taken strict ps ns ss ts rest (inr h) g w =
     ∙ body_follows strict (optional_temporaries ps) ps [] refl (λ l o. no_bar l (temporaries ps [] false ∷ []) (home_takes ps [] l) o) ss rest g (subst (λ x. IsLawfulBody strict 0 (home_assigns ps (names_in x)) ss) h.0 w)
 
 -- behind temporaries: a primitive, if any, and a body
-behind_row : (ps ns : Names) (l : Lexeme) → l.kind ≡ kind.Binary → is_word less l ≡ true → takes (after_temporaries ps ns) l ≡ Pushes (primitive_then (body ∷ home_scope ps ns ∷ []))
+pub behind_row : (ps ns : Names) (l : Lexeme) → l.kind ≡ kind.Binary → is_word less l ≡ true → takes (after_temporaries ps ns) l ≡ Pushes (primitive_then (body ∷ home_scope ps ns ∷ []))
 behind_row ps ns l e h = ap (λ x. sign_takes x (is_word less l) (primitive_then (body ∷ home_scope ps ns ∷ [])) (home_takes ps ns l)) e ∙ ap (λ x. sign_takes kind.Binary x (primitive_then (body ∷ home_scope ps ns ∷ [])) (home_takes ps ns l)) h
 
-less_row : (ps : Names) (l : Lexeme) → l.kind ≡ kind.Binary → is_word less l ≡ true → takes (after_pattern ps) l ≡ Pushes (primitive_then (optional_temporaries ps ∷ []))
+pub less_row : (ps : Names) (l : Lexeme) → l.kind ≡ kind.Binary → is_word less l ≡ true → takes (after_pattern ps) l ≡ Pushes (primitive_then (optional_temporaries ps ∷ []))
 less_row ps l e h =
     let other : Action = sign_takes l.kind (is_word bar l) (temporaries ps [] true ∷ []) (home_takes ps [] l) in
     ap (λ x. sign_takes x (is_word less l) (primitive_then (optional_temporaries ps ∷ [])) other) e ∙ ap (λ x. sign_takes kind.Binary x (primitive_then (optional_temporaries ps ∷ [])) other) h
 
-bar_row : (ps : Names) (l : Lexeme) → l.kind ≡ kind.Binary → l.bytes ≡ bar → takes (after_pattern ps) l ≡ Pushes (temporaries ps [] true ∷ [])
+pub bar_row : (ps : Names) (l : Lexeme) → l.kind ≡ kind.Binary → l.bytes ≡ bar → takes (after_pattern ps) l ≡ Pushes (temporaries ps [] true ∷ [])
 bar_row ps l e h =
     let p : Stack = primitive_then (optional_temporaries ps ∷ []) in
     let other : Action = sign_takes l.kind (is_word bar l) (temporaries ps [] true ∷ []) (home_takes ps [] l) in
@@ -140,7 +140,7 @@ statement_no_keyword : (k : TokenKind) (b : Bool) → StatementStart k b → Not
 statement_no_keyword kind.Keyword b o = absurd o
 statement_no_keyword _ b o = tt
 
-no_keyword : (k : TokenKind) (b : Bool) (p : Stack) (other : Action) → NotKeyword k b → keyword_takes k p other ≡ other
+pub no_keyword : (k : TokenKind) (b : Bool) (p : Stack) (other : Action) → NotKeyword k b → keyword_takes k p other ≡ other
 no_keyword kind.Keyword b p other n = absurd n
 no_keyword _ b p other n = refl
 
@@ -177,7 +177,7 @@ keywords_taken strict (n ∷ ns) s seen ts rest h k =
     ∙ keywords_taken strict ns h.3 (seen ++ n.name ∷ []) h.2 rest h.7 k
     ∙ ap (λ x. run strict rest (after_keyword x ∷ k)) (seen_then seen n ns)
 
-pattern_taken : (strict : Bool) (s : List ℕ) (ps : List NameAt) (ts rest : Lexemes) → IsPattern s ps ts rest → Follows rest → run strict ts (method_start ∷ []) ≡ run strict rest (after_pattern (names_in ps) ∷ [])
+pub pattern_taken : (strict : Bool) (s : List ℕ) (ps : List NameAt) (ts rest : Lexemes) → IsPattern s ps ts rest → Follows rest → run strict ts (method_start ∷ []) ≡ run strict rest (after_pattern (names_in ps) ∷ [])
 pattern_taken strict s [] ts rest h f = at strict (method_start ∷ []) ts (h.0 ∷ rest) h.1.0 ∙ pushes strict h.0 rest method_start [] (after_pattern [] ∷ []) (ap pattern_takes h.1.1)
 pattern_taken strict s (n ∷ ns) ts rest (inl h) f =
     at strict (method_start ∷ []) ts (h.0 ∷ h.1) h.2.0

@@ -1,5 +1,5 @@
 -- Bytes and their tests.
-use Rattle.std.proofs.Common.{◌≡◌, ℕ, ◌≤◌, List, Bool, true, false, ◌&&◌, cond, refl, ap, ◌∙◌, arith, nat_lt, nat_le}
+use Rattle.std.proofs.Common.{◌≡◌, ◌≢◌, ℕ, ◌≤◌, List, Bool, true, false, ◌&&◌, cond, refl, ap, ◌∙◌, arith, nat_lt, nat_le}
 use Rattle.std.specs.Prelude.{pos}
 use Rattle.std.proofs.lemmas.Slice.Eq.{bytes_eq-Decides}
 use Rattle.std.proofs.lemmas.Bool.Decides.{nat_tests}
@@ -16,6 +16,13 @@ word_true word l e = (bytes_eq-Decides l.bytes word).1 e
 pub word_bytes : (word : List ℕ) (l : Lexeme) → is_word word l ≡ true → l.bytes ≡ word
 unfolding is_word
 word_bytes word l e = (bytes_eq-Decides l.bytes word).0 e
+
+not_true : (b : Bool) → (b ≡ true → ⊥) → b ≡ false
+not_true true n = absurd (n refl)
+not_true false n = refl
+
+pub word_false : (word : List ℕ) (l : Lexeme) → l.bytes ≢ word → is_word word l ≡ false
+word_false word l n = not_true (is_word word l) (λ e. n (word_bytes word l e))
 
 pub primitive_true : (l : Lexeme) (n : ℕ) → number_literal false l.bytes ≡ small (pos n) → 1 ≤ n → n ≤ 255 → is_primitive_number l ≡ true
 unfolding is_primitive_number

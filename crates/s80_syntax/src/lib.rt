@@ -1,0 +1,25 @@
+//! The trees of methods and doIts, read from their texts.
+#![tactic(auto)]
+
+mod expr;
+mod fault;
+mod head;
+mod literal;
+mod messages;
+mod method;
+mod names;
+mod parse;
+mod pattern;
+mod scope;
+mod spelled;
+mod tokens;
+
+pub use fault::ParseFault;
+pub use parse::{parse_doit, parse_method};
+pub use s80_tree::{
+    Block, Body, DoItTree, Expr, Exprs, Message, Messages, MethodTree, NameAt, NamesAt, Primary,
+    Stmt,
+};
+
+#[cfg(test)]
+mod tests;
