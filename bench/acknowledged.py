@@ -7,8 +7,9 @@ import os
 import subprocess
 import sys
 import time
+from statistics import median
 
-from common import PROGRAM, TOP, build, folder, median
+from common import PROGRAM, TOP, build, folder
 
 
 def timed(command, chunks):

@@ -16,9 +16,3 @@ def build():
 def folder():
     """A new folder beside the repository's files, so that both programs write to one disk."""
     return tempfile.TemporaryDirectory(prefix="bench-", dir=os.path.join(TOP, "bench"))
-
-
-def median(numbers):
-    ordered = sorted(numbers)
-    middle = len(ordered) // 2
-    return ordered[middle] if len(ordered) % 2 else (ordered[middle - 1] + ordered[middle]) / 2
