@@ -1,4 +1,5 @@
 pub mod Declares
+pub mod FoundNames
 pub mod NextToken
 pub mod Literals
 pub mod Steps
@@ -19,3 +20,4 @@ pub mod Heads
 pub mod Patterns
 pub mod Wholes
 pub mod Meaning
+pub mod OneReading

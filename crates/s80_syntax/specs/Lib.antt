@@ -1,4 +1,5 @@
 pub mod Fault
+pub mod NameSet
 pub mod Scope
 pub mod Reads
 pub mod Literal

@@ -1,6 +1,7 @@
 // Expressions and statements, read by descent.
 ghost use Rattle.std.specs.Prelude.{◌≡◌, ◌<◌, ◌≤◌, ◌∷◌, [], length};
 ghost use Rattle.s80_grammar.specs.Grammar.{IsBody, IsCascade, IsChain, IsExpr, IsOperand, IsPrimary};
+ghost use Rattle.s80_grammar.specs.Limits.{block_assigns};
 ghost use Rattle.s80_grammar.specs.Stack.{primary as primary_symbol, expr_start, unary_tail, binary_tail, keyword_tail, cascade, message as message_symbol, close_paren, close_bracket, block_start, body as body_symbol};
 ghost use Rattle.s80_grammar.specs.Word.{names_in};
 ghost use Rattle.s80_lex.specs.Text.{IsSlice};
@@ -17,6 +18,7 @@ use crate::literal::literal;
 use crate::messages::{
     caret, open, operand, single, starts_message, starts_statement, unary_messages,
 };
+use crate::name_set::NameSet;
 use crate::names::{name_at, parameters, targets};
 use crate::scope::Scope;
 use crate::tokens::{after_sign, bytes, next, next_of, place_of, spelled};
@@ -118,14 +120,33 @@ fn block_body<'t>(
     requires no_colon { IsNotNext kind.Colon tokens.now }
     ensures { Parses text.now depth (assigns_in scope.now) (parameter_symbol (names_in parameters.now) ∷ []) (λ found. IsBlockBody parameters.now (body_of found)) tokens.now result }
 {
-    let inner = Scope::within(&*parameters, &*scope);
     if parameters.is_empty() {
-        return body(alloc, text, depth, &inner, tokens);
+        return inner_body(alloc, text, depth, scope, parameters, tokens);
     }
     match after_sign(text, TokenKind::Binary, b"|", tokens) {
-        Some(after) => body(alloc, text, depth, &inner, after),
+        Some(after) => inner_body(alloc, text, depth, scope, parameters, after),
         None => Ok((Body::empty(alloc), tokens)),
     }
+}
+
+/// Statements in a block with these parameters.
+#[cycle(parser)]
+fn inner_body<'t>(
+    alloc: Global,
+    text: &[u8],
+    depth: u32,
+    scope: &Scope,
+    parameters: &[NameAt],
+    tokens: &'t [Token],
+) -> Result<(Body, &'t [Token]), ParseFault>
+    requires text { length text.now < 65536 }
+    requires slices { AreSlices text.now tokens.now }
+    requires depth { depth ≤ 64 }
+    ensures { Parses text.now depth (block_assigns (names_in parameters.now) (assigns_in scope.now)) (body_symbol ∷ []) (λ found. IsBody (body_of found)) tokens.now result }
+{
+    let names = NameSet::of(alloc, parameters)?;
+    let inner = Scope::within(&names, &*scope);
+    body(alloc, text, depth, &inner, tokens)
 }
 
 /// Statements, up to what begins none.

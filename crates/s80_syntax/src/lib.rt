@@ -4,9 +4,11 @@
 mod expr;
 mod fault;
 mod head;
+mod laws;
 mod literal;
 mod messages;
 mod method;
+mod name_set;
 mod names;
 mod parse;
 mod pattern;
@@ -15,6 +17,7 @@ mod spelled;
 mod tokens;
 
 pub use fault::ParseFault;
+pub use laws::{no_fault_beside_a_tree, one_fault, one_tree};
 pub use parse::{parse_doit, parse_method};
 pub use s80_tree::{
     Block, Body, DoItTree, Expr, Exprs, Message, Messages, MethodTree, NameAt, NamesAt, Primary,

@@ -1,30 +1,28 @@
 // Which names may be assigned at a place.
 ghost use Rattle.std.specs.Prelude.{◌≡◌};
-ghost use Rattle.std.specs.List.{list_any};
-ghost use Rattle.std.specs.Str.{bytes_eq};
-ghost use Rattle.s80_grammar.specs.Limits.{block_assigns, home_assigns};
-ghost use Rattle.s80_grammar.specs.Word.{has_name, is_reserved, names_in};
-ghost use Rattle.s80_syntax.specs.Scope.{assigns_in};
+ghost use Rattle.s80_grammar.specs.Word.{is_reserved};
+ghost use Rattle.s80_syntax.specs.NameSet.{has_word};
+ghost use Rattle.s80_syntax.specs.Scope.{assigns_at_home, assigns_in, assigns_in_block};
 
-use s80_tree::NameAt;
+use crate::name_set::NameSet;
 
 /// The names that are declared around a place.
 #[derive(Clone, Copy)]
 pub(crate) enum Scope<'s> {
     Home {
-        parameters: &'s [NameAt],
-        temporaries: &'s [NameAt],
+        parameters: &'s NameSet,
+        temporaries: &'s NameSet,
     },
     Block {
-        parameters: &'s [NameAt],
+        parameters: &'s NameSet,
         outer: &'s Scope<'s>,
     },
 }
 
 impl<'s> Scope<'s> {
     /// The names around what stands in no block.
-    pub fn home(parameters: &'s [NameAt], temporaries: &'s [NameAt]) -> Self
-        ensures { assigns_in result ≡ home_assigns (names_in parameters.now) (names_in temporaries.now) }
+    pub fn home(parameters: &'s NameSet, temporaries: &'s NameSet) -> Self
+        ensures { assigns_in result ≡ assigns_at_home (has_word parameters.now) (has_word temporaries.now) }
     {
         Scope::Home {
             parameters,
@@ -33,8 +31,8 @@ impl<'s> Scope<'s> {
     }
 
     /// The names around what stands in a block.
-    pub fn within(parameters: &'s [NameAt], outer: &'s Scope<'s>) -> Self
-        ensures { assigns_in result ≡ block_assigns (names_in parameters.now) (assigns_in outer.now) }
+    pub fn within(parameters: &'s NameSet, outer: &'s Scope<'s>) -> Self
+        ensures { assigns_in result ≡ assigns_in_block (has_word parameters.now) (assigns_in outer.now) }
     {
         Scope::Block { parameters, outer }
     }
@@ -48,26 +46,13 @@ impl<'s> Scope<'s> {
                 parameters,
                 temporaries,
             } => {
-                (!declares(parameters, word) || declares(temporaries, word)) && !is_reserved(word)
+                (!parameters.contains(word) || temporaries.contains(word)) && !is_reserved(word)
             }
             Scope::Block { parameters, outer } => {
-                declares(parameters, word) || outer.may_assign(word)
+                parameters.contains(word) || outer.may_assign(word)
             }
         }
     }
-}
-
-#[tactic(auto, using(crate::proofs::Declares::any_name))]
-fn declares(names: &[NameAt], word: &[u8]) -> bool
-    ensures { result ≡ has_name (names_in names.now) word.now }
-{
-    any_is(names, word)
-}
-
-fn any_is(names: &[NameAt], word: &[u8]) -> bool
-    ensures { result ≡ list_any (λ name. bytes_eq word.now name.name) names.now }
-{
-    names.iter().any(|name| word == name.name.bytes())
 }
 
 /// Whether a word can't be declared or assigned.

@@ -1,11 +1,15 @@
-use Rattle.std.proofs.Common.{subst, MatchBool, sym, ap, refl, ◌∙◌, ◌++◌, arith, true}
+use Rattle.std.proofs.Common.{subst, MatchBool, sym, ap, refl, ◌∙◌, ◌++◌, ◌∷◌, [], arith, true}
 use Rattle.std.proofs.lemmas.Result.{err_from_is_err_and}
-use Rattle.s80_tree.specs.Tree.{expr_of, paren}
+use Rattle.s80_tree.specs.Tree.{body_of, expr_of, paren}
+use Rattle.s80_grammar.specs.Grammar.{IsBody}
+use Rattle.s80_grammar.specs.Stack.{body as body_symbol}
+use Rattle.s80_syntax.specs.Reads.{Parses}
 use Rattle.s80_syntax.specs.Expr.{MessageNext, NoMessage}
 use Rattle.s80_syntax.proofs.NextToken.{tail_slices, tail_smaller}
 use Rattle.s80_syntax.proofs.Operands.{literal_end}
 use Rattle.s80_syntax.proofs.Primaries.{name_primary, literal_primary, paren_nested, block_nested, paren_passes, block_passes, paren_fails, paren_unclosed, paren_done}
 use Rattle.s80_syntax.proofs.Blocks.{block_plain, block_barred, block_none, block_parameters_fail, block_body_fails, block_unclosed, block_done, no_parameters, some_parameters}
+use Rattle.s80_syntax.proofs.FoundNames.{in_block}
 use Rattle.s80_syntax.proofs.Statements.{caret_shorter, statement_added, body_none, body_grows, body_same, body_fails, body_ends, body_returns, body_done}
 use Rattle.s80_syntax.proofs.Chains.{binaries_start, binary_read, binary_taken, binary_fails, binaries_done}
 use Rattle.s80_syntax.proofs.Arguments.{receiver_fails, binary_rest, argument_receiver_fails, argument_messages_fail, argument_done, no_parts, part_read, part_taken, part_fails, parts_done}
@@ -71,13 +75,16 @@ pub block-returns : goal.block-returns
 block-returns t c = block_done _ _ _ _ _ _ _ _ _ _ _ _ _ c.in-Some.field-0-0 refl c.deref.ensures.value (c.in_ok-parameters.ensures 0 (λ w. true)) c.in_ok-body.ensures c.in-Some.ensures.0 c.in-Some.ensures.1 c.block.ensures c.new.ensures
 
 pub block_body-returns-then-is_empty : goal.block_body-returns-then-is_empty
-block_body-returns-then-is_empty t c = block_plain _ _ _ _ _ _ _ (no_parameters _ c.if-is_empty.ensures) c.requires.no_colon c.within-inner.ensures c.body.ensures
+block_body-returns-then-is_empty t c = block_plain _ _ _ _ _ _ _ (no_parameters _ c.if-is_empty.ensures) c.requires.no_colon refl c.inner_body.ensures
 
 pub block_body-returns-in-Some : goal.block_body-returns-in-Some
-block_body-returns-in-Some t c = block_barred _ _ _ _ _ _ _ c.in-Some.ensures.0 _ (some_parameters _ c.if-is_empty.ensures) c.in-Some.ensures.1 c.in-Some.ensures.2 c.in-Some.ensures.3 c.within-inner.ensures c.body-in-Some.ensures
+block_body-returns-in-Some t c = block_barred _ _ _ _ _ _ _ c.in-Some.ensures.0 _ (some_parameters _ c.if-is_empty.ensures) c.in-Some.ensures.1 c.in-Some.ensures.2 c.in-Some.ensures.3 refl c.inner_body-in-Some.ensures
 
 pub block_body-returns-in-None : goal.block_body-returns-in-None
 block_body-returns-in-None t c = block_none _ _ _ _ _ _ (some_parameters _ c.if-is_empty.ensures) c.requires.no_colon c.in-None.ensures c.requires.slices c.empty.ensures
+
+pub inner_body-returns : goal.inner_body-returns
+inner_body-returns t c = subst (λ names. Parses c.args.text.now c.args.depth names (body_symbol ∷ []) (λ found. IsBody (body_of found)) c.args.tokens.now c.body.result) (in_block _ _ _ _ c.within-inner.ensures c.in_ok-names.ensures) c.body.ensures
 
 pub body-loop-alloc-init : goal.body-loop-alloc-init
 body-loop-alloc-init t c = record { read = body_none _ _ _ c.empty-statements.ensures; same = λ k g. refl; slices = c.requires.slices; shorter = omega arith }

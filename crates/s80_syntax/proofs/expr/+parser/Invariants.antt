@@ -38,14 +38,17 @@ decreases-expr l = 16 * length l.tokens.now + 8
 abbrev pub decreases-body : goal.decreases-body
 decreases-body l = 16 * length l.tokens.now + 9
 
+abbrev pub decreases-inner_body : goal.decreases-inner_body
+decreases-inner_body l = 16 * length l.tokens.now + 10
+
 abbrev pub decreases-block_body : goal.decreases-block_body
-decreases-block_body l = 16 * length l.tokens.now + 10
+decreases-block_body l = 16 * length l.tokens.now + 11
 
 abbrev pub decreases-block : goal.decreases-block
-decreases-block l = 16 * length l.tokens.now + 11
+decreases-block l = 16 * length l.tokens.now + 12
 
 abbrev pub decreases-paren : goal.decreases-paren
-decreases-paren l = 16 * length l.tokens.now + 11
+decreases-paren l = 16 * length l.tokens.now + 12
 
 abbrev pub invariant-binary_messages-loop-token : goal.invariant-binary_messages-loop-token
 invariant-binary_messages-loop-token l = record {
