@@ -1,5 +1,5 @@
 #!/usr/bin/env python3
-"""Chunks that are acknowledged one by one, against a small C program that does the same writes and syncs.
+"""Chunks that are acknowledged one by one, against a small C program that makes the calls of the same commits.
 
 usage: bench/acknowledged.py [CHUNKS] [RUNS]
 """
@@ -37,7 +37,9 @@ def main():
         for run in range(runs):
             work = os.path.join(place, f"work{run}")
             os.mkdir(work)
-            least = timed([floor, os.path.join(place, f"log{run}")], chunks)
+            least_work = os.path.join(place, f"floor{run}")
+            os.mkdir(least_work)
+            least = timed([floor, least_work], chunks)
             ours = timed([PROGRAM, work, "run"], chunks)
             ratios.append(ours / least)
             print(f"run {run + 1}: {chunks} chunks, floor {least:.3f} s, st80 {ours:.3f} s, ratio {ours / least:.3f}")
