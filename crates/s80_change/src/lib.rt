@@ -7,7 +7,7 @@ mod refusal;
 
 pub use block::{block_text, blocks_part_in_one_way};
 pub use change::{Change, Changes};
-pub use refusal::{FitWord, Refusal};
+pub use refusal::{FitWord, Refusal, Refused};
 
 #[cfg(test)]
 mod tests;

@@ -1,5 +1,7 @@
 // Why an item is refused.
-use s80_base::Text;
+ghost use Rattle.std.specs.Prelude.{◌≡◌};
+
+use s80_base::{OutOfMemory, Text};
 
 /// What of a source or chunk is too large.
 #[derive(Clone, Copy, Debug, PartialEq, Eq)]
@@ -19,4 +21,37 @@ pub enum Refusal {
     LogFull(u64),
     /// This head begins no section.
     NoSection(Text),
+}
+
+impl Refusal {
+    ghost use Rattle.s80_change.specs.Refusal.{refusal_number};
+
+    /// The number by which it is known.
+    pub fn number(&self) -> u8
+        ensures { result ≡ refusal_number self.now }
+    {
+        match self {
+            Refusal::Unended => 1,
+            Refusal::TooLarge(..) => 3,
+            Refusal::LogFull(_) => 12,
+            Refusal::NoSection(_) => 13,
+        }
+    }
+}
+
+/// Why nothing is answered but a refusal, or not even that.
+#[derive(Debug, Drop)]
+pub enum Refused {
+    Memory,
+    Refusal(Refusal),
+}
+
+impl From<OutOfMemory> for Refused {
+    ghost use Rattle.s80_change.specs.declared.refusal.Refused.TheVariants.{Memory};
+
+    ghost from_gives = { λ _ refused. refused ≡ Memory };
+
+    fn from(_: OutOfMemory) -> Self {
+        Refused::Memory
+    }
 }

@@ -1,5 +1,5 @@
 // Blocks of changes, with ample memory.
-use crate::{Change, Changes, block_text};
+use crate::{Change, Changes, FitWord, Refusal, block_text};
 use s80_base::Text;
 use std::test::Fail;
 
@@ -26,5 +26,15 @@ fn changes_stand_in_order(rt: HostRuntime) -> Result<(), Fail> {
     assert_eq!(rt; changes.count(), 2);
     let Change::DoIt { text } = changes.at(1);
     assert_eq!(rt; text.bytes(), b"2".as_slice());
+    Ok(())
+}
+
+#[test]
+fn refusals_have_these_numbers(rt: HostRuntime) -> Result<(), Fail> {
+    let head = Text::from_bytes(rt.alloc(), b"Odd")?;
+    assert_eq!(rt; Refusal::Unended.number(), 1);
+    assert_eq!(rt; Refusal::TooLarge(FitWord::Chunk, 65_536).number(), 3);
+    assert_eq!(rt; Refusal::LogFull(1 << 30).number(), 12);
+    assert_eq!(rt; Refusal::NoSection(head).number(), 13);
     Ok(())
 }

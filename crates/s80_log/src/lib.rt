@@ -8,7 +8,7 @@ mod read;
 
 pub use block::first_block;
 pub use laws::{bytes_past_the_mark_say_nothing, files_stand_for_one_list};
-pub use log::{Log, LogFault};
+pub use log::{LOG_LIMIT, Log, LogFault};
 pub use read::BlockFault;
 
 #[cfg(test)]

@@ -1,5 +1,5 @@
 // The log at work: blocks are appended, and a commit makes them count.
-ghost use Rattle.std.specs.Prelude.{◌≡◌, ◌≢◌, ◌⊎◌, ◌↔◌, ◌+◌, ◌-◌, ◌<◌, ◌≤◌, ◌++◌, ◌∷◌, [], ℕ, List, IsTrue, Some, Err, length, IfOk, OnOk, IfErr, OnErr, MatchResult};
+ghost use Rattle.std.specs.Prelude.{◌≡◌, ◌≢◌, ◌⊎◌, ◌↔◌, ◌+◌, ◌-◌, ◌<◌, ◌≤◌, nat_le, ◌++◌, ◌∷◌, [], ℕ, List, IsTrue, Some, Err, length, IfOk, OnOk, IfErr, OnErr, MatchResult};
 ghost use Rattle.s80_base.specs.Causes.{HasCause, Rose};
 ghost use Rattle.s80_base.specs.declared.outside.Call.TheVariants.{Read, Write, Sync};
 ghost use Rattle.s80_change.specs.declared.change.Change.{Change};
@@ -22,8 +22,8 @@ use s80_mark::{MarkState, commit_mark};
 use std::marker::Model;
 use thiserror::Error;
 
-/// The greatest length of a log.
-const LOG_LIMIT: u64 = 1 << 30;
+/// The greatest length of a log, in bytes.
+pub const LOG_LIMIT: u64 = 1 << 30;
 
 /// Why a block isn't appended.
 #[derive(Clone, Copy, Debug, PartialEq, Eq, Error)]
@@ -92,7 +92,8 @@ impl Log {
         }
     }
 
-    pub(crate) fn file(&self) -> FileId
+    /// The file that holds it.
+    pub fn file(&self) -> FileId
         ensures { result ≡ log_file self.now.number }
     {
         if self.number == 0 {
@@ -100,6 +101,13 @@ impl Log {
         } else {
             FileId::Log1
         }
+    }
+
+    /// Whether a block of this size fits behind its end, within the limit of a log.
+    pub fn has_room(&self, size: u64) -> bool
+        ensures { result ≡ nat_le (self.now.end + size) log_limit }
+    {
+        self.end <= LOG_LIMIT && size <= LOG_LIMIT - self.end
     }
 
     /// Writes a block at the end of the log, and answers where. It counts when a commit has succeeded.
@@ -147,7 +155,7 @@ impl Log {
         let at = self.end;
         let bytes = block.bytes();
         let size = bytes.len() as u64;
-        if at > LOG_LIMIT || size > LOG_LIMIT - at {
+        if !self.has_room(size) {
             return Err(LogFault::Full(at));
         }
         disk.write_at(self.file(), at, bytes)?;

@@ -111,6 +111,8 @@ fn a_log_is_full_at_its_limit(rt: HostRuntime) -> Result<(), Fail> {
     let mut log = Log::resume(0, 1_073_741_820);
     let five = Text::from_bytes(rt.alloc(), b"123!\n")?;
     let four = Text::from_bytes(rt.alloc(), b"12!\n")?;
+    assert!(rt; log.has_room(4));
+    assert!(rt; !log.has_room(5));
     assert_eq!(rt;
         log.append(&mut disk, &five),
         Err(LogFault::Full(1_073_741_820))

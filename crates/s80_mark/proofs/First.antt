@@ -1,5 +1,5 @@
 -- The first mark of a folder.
-use Rattle.std.proofs.Common.{◌≡◌, ◌≤◌, ℕ, List, length, take, subst, sym, ◌∙◌, ap, arith, get_or}
+use Rattle.std.proofs.Common.{◌≡◌, inl, inr, ⊎_elim, ◌≤◌, ℕ, List, length, take, subst, sym, ◌∙◌, ap, arith, get_or}
 use Rattle.std.specs.Prelude.{slice_index, [], Some, None}
 use Rattle.std.proofs.lemmas.List.{get_or-take}
 use Rattle.s80_disk.specs.declared.disk.FileId.TheVariants.{Mark, Log0, Log1}
@@ -10,8 +10,9 @@ use Rattle.s80_mark.specs.declared.slots.Slot.TheVariants.{First, Second}
 use Rattle.s80_mark.specs.Mark.{later_open, valid_mark}
 use Rattle.s80_mark.specs.Slots.{mark_in}
 use Rattle.s80_mark.specs.Writes.{IsFilled}
-use Rattle.s80_mark.specs.Stays.{Anything}
-use Rattle.s80_mark.specs.Init.{StaysEmpty}
+use Rattle.s80_mark.specs.Stays.{StillLeft, Anything}
+use Rattle.s80_mark.specs.Found.{AreLogsEmpty}
+use Rattle.s80_mark.specs.Init.{StaysEmpty, SyncsFirst, KeepNothing, StaysWithout}
 use Rattle.s80_mark.proofs.Bytes.{closed}
 
 -- zeros, and a mark in the first slot
@@ -32,3 +33,22 @@ stay_empty before told_before log0 log1 told c from = record {
   log0 = from.step.others Log0 (λ e. cc e) ∙ log0 from.image from.was;
   log1 = from.step.others Log1 (λ e. cc e) ∙ log1 from.image from.was;
 }
+
+module _ (reads : Image) (before : Image → Type 0) (told_before : ℕ) where
+  -- as long as nothing changes
+  pub syncs_still : (told : ℕ) (c : Image) → StillLeft before told_before told c → SyncsFirst reads before told_before told c
+  syncs_still told c left = record { told_is = left.told_is; logs = inl left.was }
+
+  -- when both logs are on the disk
+  pub syncs_on : (mid : Image → Type 0) (told_mid : ℕ) → told_mid ≡ told_before → Only Log0 (reads Log0) mid → Only Log1 (reads Log1) mid → (told : ℕ) (c : Image) → ComesFrom mid told_mid Mark Anything told c → SyncsFirst reads before told_before told c
+  syncs_on mid told_mid same log0 log1 told c from = record {
+    told_is = from.told_is ∙ same;
+    logs = inr (from.step.others Log0 (λ e. cc e) ∙ log0 from.image from.was, from.step.others Log1 (λ e. cc e) ∙ log1 from.image from.was);
+  }
+
+  -- where no change is kept, none is at any moment
+  pub stays_without : AreLogsEmpty reads → ((c : Image) → before c → KeepNothing c) → (told : ℕ) (c : Image) → SyncsFirst reads before told_before told c → StaysWithout told_before told c
+  stays_without empty nothing told c syncs = record {
+    told_is = syncs.told_is;
+    nothing = ⊎_elim (nothing c) (λ logs. inl (logs.0 ∙ empty.0, logs.1 ∙ empty.1)) syncs.logs;
+  }

@@ -26,6 +26,11 @@ abbrev pub IsFirstUnlawful : MarkState → ℕ → Type 0
 IsFirstUnlawful mark value =
     ((1 < mark.log) × (value ≡ mark.log)) ⊎ ((mark.log ≤ 1) × (1 < mark.image) × (mark.image ≢ 255) × (value ≡ mark.image))
 
+-- a mark that is found has lawful numbers
+abbrev pub IsLawfulFound : Found → Type 0
+IsLawfulFound Fresh = ⊤
+IsLawfulFound (Marked mark) = HasLawfulNumbers mark
+
 -- what the files call for, where no call on the disk fails
 abbrev pub IsAnswer : Image → Result Found MarkFault → Type 0
 IsAnswer files (Ok Fresh) = AreLogsEmpty files

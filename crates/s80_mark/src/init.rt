@@ -8,7 +8,8 @@ ghost use Rattle.s80_disk.specs.Image.{Only, Follows};
 ghost use Rattle.s80_disk.specs.Moments.{Beside, LeavesOnly, ComesFrom};
 ghost use Rattle.s80_mark.specs.Mark.{valid_mark};
 ghost use Rattle.s80_mark.specs.Stays.{Anything, StillLeft};
-ghost use Rattle.s80_mark.specs.Init.{EmptyLogs, StaysEmpty};
+ghost use Rattle.s80_mark.specs.Found.{AreLogsEmpty};
+ghost use Rattle.s80_mark.specs.Init.{EmptyLogs, StaysEmpty, SyncsFirst, KeepNothing, StaysWithout};
 
 use crate::mark::{MarkState, NO_IMAGE};
 use crate::slots::{MARK_LENGTH, Slot};
@@ -69,6 +70,13 @@ pub fn init_mark<D: Disk>(disk: &mut D) -> Result<MarkState, Failed>
         (ComesFrom (D.may_leave disk.old) (D.beside disk.old).told Mark Anything) }
     ensures stays_empty { EmptyLogs (D.may_leave disk.old)
         → LeavesOnly D.moment D.left_since disk.old disk.new (StaysEmpty (D.beside disk.old).told) }
+    // Nothing changes before both logs are on the disk as they read.
+    ensures synced_first { LeavesOnly D.moment D.left_since disk.old disk.new
+        (SyncsFirst (D.reads disk.old) (D.may_leave disk.old) (D.beside disk.old).told) }
+    // Where the logs read empty, and a crash leaves files in which no change is kept, it does so at every moment.
+    ensures stays_without { IsTrue (D.tells disk.old) → AreLogsEmpty (D.reads disk.old)
+        → ((c : FileId → List ℕ) → D.may_leave disk.old c → KeepNothing c)
+        → LeavesOnly D.moment D.left_since disk.old disk.new (StaysWithout (D.beside disk.old).told) }
 
     ensures crash { Follows Mark Anything (D.may_leave disk.old) (D.may_leave disk.new) }
     ensures others { (other : FileId) → other ≢ Mark → D.reads disk.new other ≡ D.reads disk.old other }

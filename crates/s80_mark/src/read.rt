@@ -5,7 +5,7 @@ ghost use Rattle.s80_base.specs.declared.outside.Call.TheVariants.{Length, Read}
 ghost use Rattle.s80_disk.specs.declared.disk.FileId.{FileId};
 ghost use Rattle.s80_disk.specs.Moments.{Beside, LeavesOnly};
 ghost use Rattle.s80_mark.specs.Stays.{StillLeft};
-ghost use Rattle.s80_mark.specs.Found.{IsAnswer, IfDisk, AreLogsEmpty, longer_log};
+ghost use Rattle.s80_mark.specs.Found.{IsAnswer, IsLawfulFound, IfDisk, AreLogsEmpty, longer_log};
 
 use crate::mark::MarkState;
 use crate::slots::Slots;
@@ -55,6 +55,7 @@ fn longer_log<D: Disk>(disk: &mut D) -> Result<u64, Failed>
 /// Finds the valid mark of a folder.
 pub fn read_mark<D: Disk>(disk: &mut D) -> Result<Found, MarkFault>
     ensures answer { IsTrue (D.tells disk.old) → IsAnswer (D.reads disk.old) result }
+    ensures lawful { IfOk result IsLawfulFound }
     ensures later { D.disk_faults disk.old ≤ D.disk_faults disk.new }
     ensures cause { IfDisk result (λ _. Rose (D.disk_faults disk.old) (D.disk_faults disk.new)) }
     ensures named { IfDisk result (λ failed. (failed.call ≡ Length) ⊎ (failed.call ≡ Read)) }

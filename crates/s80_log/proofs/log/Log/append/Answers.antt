@@ -1,4 +1,4 @@
-use Rattle.std.proofs.Common.{◌+◌, ℕ, List, length, IsTrue, ap, ◌∙◌, arith, refl}
+use Rattle.std.proofs.Common.{◌+◌, ℕ, List, length, IsTrue, ap, ◌∙◌, arith, rules, tests, refl}
 use Rattle.std.proofs.lemmas.Result.{err_from_is_err_and}
 use Rattle.s80_change.specs.declared.change.Change.{Change}
 use Rattle.s80_disk.specs.Image.{Image, Torn, OnFile, Follows}
@@ -35,8 +35,8 @@ module _ (g : _) (c : After-write_at g) (mark : MarkState) (kept all : List Chan
       c.write_at.ensures.time
       (λ e left. moment_stands (D.tells d) (D.reads d) (D.may_leave d) c.args.self.now mark kept all n holds _ _ e (comes _ _ (D.may_leave d) (D.may_leave new) _ _ (ap (λ (b : Beside). b.told) c.write_at.ensures.beside) (followed g c) e left))
 
-pub returns-then-at-gt-LOG_LIMIT-clause-stands : goal.returns-then-at-gt-LOG_LIMIT-clause-stands
-returns-then-at-gt-LOG_LIMIT-clause-stands g c = λ mark kept all holds.
+pub returns-then-not-has_room-clause-stands : goal.returns-then-not-has_room-clause-stands
+returns-then-not-has_room-clause-stands g c = λ mark kept all holds.
     let D = g.D.Disk in
     let d = c.args.disk.now in
     started D.moment D.left_since d _ (λ told e left. still_stands (D.tells d) (D.reads d) (D.may_leave d) c.args.self.now mark kept all 0 holds _ told e (g.met.D.Disk.only_now d told e left))
@@ -56,7 +56,7 @@ returns-clause-holds g c = λ mark kept all change holds lawful is.
     let n = length c.bytes-bytes.result.now in
     let same = c.self.view_is in
     holds_more (g.D.Disk.tells c.args.disk.now) (g.D.Disk.reads c.args.disk.now) (g.D.Disk.may_leave c.args.disk.now) c.args.self.now mark kept all n holds change c.bytes-bytes.result.now _ _ _ _
-    (ap (λ (l : LogEnd). let r : LogEnd = record l { end = l.end + n } in r) same) lawful (c.bytes-bytes.ensures ∙ is) refl (let e = ap (λ (l : LogEnd). l.end) same in omega arith) c.write_at.ensures.tells (stepped g at holds.stands.told)
+    (ap (λ (l : LogEnd). let r : LogEnd = record l { end = l.end + n } in r) same) lawful (c.bytes-bytes.ensures ∙ is) refl (search (rules, tests)) c.write_at.ensures.tells (stepped g at holds.stands.told)
     (wrote_on c.args.self.now _ c.file.result _ (g.D.Disk.reads c.args.disk.now) (g.D.Disk.reads c.write_at.new.self) same c.file.ensures (c.in_ok-write_at.ensures.written holds.stands.told)) (followed g at)
 
 pub returns-clause-stands : goal.returns-clause-stands
