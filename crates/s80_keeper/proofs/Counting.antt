@@ -1,0 +1,24 @@
+-- How many changes a list has, by the length of its log.
+use Rattle.std.proofs.Common.{◌≡◌, ℕ, ◌+◌, ◌-◌, ◌^◌, ◌<◌, ◌≤◌, min, List, [], ◌∷◌, ◌++◌, length, arith, length-append}
+use Rattle.s80_change.specs.declared.change.Change.{Change}
+use Rattle.s80_change.specs.declared.change.Change.TheVariants.{DoIt}
+use Rattle.s80_change.specs.Block.{block, blocks, IsList}
+
+-- a block isn't empty
+some_bytes : (change : Change) → 0 < length (block change)
+some_bytes (DoIt text) = simp length-append (omega arith)
+
+-- a list has no more changes than its log has bytes
+pub no_more : (changes : List Change) → length changes ≤ length (blocks changes)
+no_more [] = omega arith
+no_more (change ∷ changes) =
+    let more = no_more changes in
+    let some = some_bytes change in
+    rw (length-append (block change) (blocks changes)) (omega arith)
+
+-- so one more is counted
+pub counts_more : (changes : List Change) (change : Change) (count : ℕ) → IsList changes → count ≡ length changes → min (count + 1) (2 ^ 64 - 1) ≡ length (changes ++ change ∷ [])
+counts_more changes change count list is =
+    let few = no_more changes in
+    let within = list.within in
+    rw (length-append changes (change ∷ [])) (omega arith)

@@ -1,0 +1,78 @@
+-- Files stand for one list at most.
+use Rattle.std.proofs.Common.{◌≡◌, inl, inr, ℕ, zero, suc, ◌<◌, Bool, true, false, List, [], ◌∷◌, ◌++◌, length, take, Some, refl, sym, ap, ◌∙◌, arith, append-nil, length-append, if◌then◌else◌}
+use Rattle.std.proofs.lemmas.Grind.{flat_map-append}
+use Rattle.s80_change.specs.declared.change.Change.{Change}
+use Rattle.s80_change.specs.declared.change.Change.TheVariants.{DoIt}
+use Rattle.s80_change.specs.Block.{block, blocks}
+use Rattle.s80_change.proofs.BlockLaws.{block_unique}
+use Rattle.s80_disk.specs.declared.disk.FileId.TheVariants.{Mark, Log0, Log1}
+use Rattle.s80_disk.specs.Image.{Image}
+use Rattle.s80_mark.specs.declared.mark.MarkState.{MarkState}
+use Rattle.s80_mark.specs.Mark.{valid_mark}
+use Rattle.s80_mark.specs.Found.{AreLogsEmpty, longer_log}
+use Rattle.s80_log.specs.Log.{log_file}
+use Rattle.s80_log.specs.Standing.{FilesStandFor as StandByMark, marked_part}
+use Rattle.s80_keeper.specs.Standing.{FilesStandFor}
+
+-- a block isn't empty
+some_block : (change : Change) (after : List ℕ) → [] ≡ block change ++ after → ⊥
+some_block (DoIt text) after e =
+    let n = simp length-append at (ap length e) in
+    absurd (omega arith)
+
+pub block_length : (change : Change) → 0 < length (block change)
+block_length (DoIt text) = simp length-append (omega arith)
+
+one_list : (changes other : List Change) → blocks changes ≡ blocks other → changes ≡ other
+one_list [] [] e = refl
+one_list [] (d ∷ ds) e = absurd (some_block d (blocks ds) e)
+one_list (c ∷ cs) [] e = absurd (some_block c (blocks cs) (sym e))
+one_list (c ∷ cs) (d ∷ ds) e =
+    let both = block_unique c d (blocks cs) (blocks ds) e in
+    let first = both.0 in
+    let others = one_list cs ds both.1 in
+    cc
+
+pub no_blocks : (changes : List Change) → blocks changes ≡ [] → changes ≡ []
+no_blocks changes e = one_list changes [] e
+
+pub same_mark : (mark other : MarkState) → Some mark ≡ Some other → mark ≡ other
+same_mark mark other e = cc
+
+take_of_none : (n : ℕ) (xs : List ℕ) → xs ≡ [] → take n xs ≡ []
+take_of_none zero xs e = refl
+take_of_none (suc n) [] e = refl
+take_of_none (suc n) (x ∷ xs) e = absurd (cc)
+
+empty_log : (files : Image) → AreLogsEmpty files → (first : Bool) → files (if first then Log0 else Log1) ≡ []
+empty_log files empty true = empty.0
+empty_log files empty false = empty.1
+
+-- empty logs have nothing marked
+pub empty_part : (files : Image) (mark : MarkState) → AreLogsEmpty files → marked_part mark files ≡ []
+empty_part files mark empty = take_of_none mark.log_length (files (log_file mark.log)) (empty_log files empty _)
+
+pub empty_list : (files : Image) (mark : MarkState) (changes : List Change) → AreLogsEmpty files → StandByMark files mark changes → changes ≡ []
+empty_list files mark changes empty stands = no_blocks changes (sym stands.bytes ∙ empty_part files mark empty)
+
+pub one_mark : (files : Image) (mark other : MarkState) → valid_mark (files Mark) ≡ Some mark → valid_mark (files Mark) ≡ Some other → mark ≡ other
+one_mark files mark other one two = same_mark mark other (sym one ∙ two)
+
+pub one_standing : (files : Image) (changes other : List Change) → FilesStandFor files changes → FilesStandFor files other → changes ≡ other
+one_standing files changes other (inl one) (inl two) = one.1 ∙ sym two.1
+one_standing files changes other (inl one) (inr two) = one.1 ∙ sym (empty_list files two.0 other one.0 two.1)
+one_standing files changes other (inr one) (inl two) = empty_list files one.0 changes two.0 one.1 ∙ sym two.1
+one_standing files changes other (inr one) (inr two) =
+    let same = one_mark files one.0 two.0 one.1.valid two.1.valid in
+    one_list changes other (sym one.1.bytes ∙ ap (λ m. marked_part m files) same ∙ two.1.bytes)
+
+-- one change more
+pub blocks_more : (changes : List Change) (change : Change) → blocks (changes ++ change ∷ []) ≡ blocks changes ++ block change
+blocks_more changes change = flat_map-append block changes (change ∷ []) ∙ ap (λ l. blocks changes ++ l) (append-nil (block change))
+
+-- not both: empty logs, and a longer one
+pub some_log : (files : Image) → AreLogsEmpty files → 0 < longer_log files → ⊥
+some_log files empty some =
+    let zero0 : length (files Log0) ≡ 0 = ap length empty.0 in
+    let zero1 : length (files Log1) ≡ 0 = ap length empty.1 in
+    omega arith

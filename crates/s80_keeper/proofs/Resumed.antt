@@ -1,0 +1,126 @@
+-- A start from a valid mark.
+use Rattle.std.proofs.Common.{◌≡◌, ◌≢◌, inl, inr, ⊎_elim, ℕ, ◌≤◌, Bool, List, [], ◌++◌, length, None, Result, Ok, Err, IfOk, refl, append_assoc, sym, ap, ◌∙◌, subst, append-nil}
+use Rattle.s80_change.specs.declared.change.Change.{Change}
+use Rattle.s80_change.specs.Block.{block, blocks}
+use Rattle.s80_disk.specs.declared.disk.FileId.TheVariants.{Mark}
+use Rattle.s80_disk.specs.Image.{Image, Only}
+use Rattle.s80_mark.specs.declared.mark.MarkState.{MarkState}
+use Rattle.s80_mark.specs.declared.read.Found.{Found}
+use Rattle.s80_mark.specs.declared.read.Found.TheVariants.{Fresh, Mark as Marked}
+use Rattle.s80_mark.specs.declared.read.MarkFault.{MarkFault}
+use Rattle.s80_mark.specs.declared.read.MarkFault.TheVariants as mark_faults
+use Rattle.s80_mark.specs.Found.{IsAnswer}
+use Rattle.s80_log.specs.Log.{LogEnd}
+use Rattle.s80_log.specs.Standing.{marked_part, StandsFor as StandsByMark}
+use Rattle.s80_keeper.specs.declared.start.Damage.TheVariants.{NoMark, BadMark, LogShort, BadBlock, Replay}
+use Rattle.s80_keeper.specs.declared.start.StartFault.{StartFault}
+use Rattle.s80_keeper.specs.declared.start.StartFault.TheVariants as faults
+use Rattle.s80_keeper.specs.Keeper.{KeeperState, Keeps}
+use Rattle.s80_keeper.specs.Standing.{NamesNoImage, ReadsFor}
+use Rattle.s80_keeper.specs.Start.{HasMark, IsStart, Started, log_length, fault_of_mark}
+use Rattle.s80_keeper.specs.Reading.{IsFound, AreCounted}
+use Rattle.s80_keeper.proofs.OneList.{one_mark, one_standing, some_log}
+use Rattle.s80_keeper.proofs.Damages.{no_list}
+use Rattle.s80_keeper.proofs.Counted.{held_length}
+
+-- why no mark is found
+pub found_fault : (files : Image) (fault : MarkFault) → IsAnswer files (Err fault) → IsFound files (Err (fault_of_mark fault))
+found_fault files (mark_faults.Disk failed) is = tt
+found_fault files (mark_faults.NoGate count) is = is
+found_fault files (mark_faults.BadField value) is = inl is
+
+pub found_mark : (files : Image) (found : Found) → IsAnswer files (Ok found) → IsFound files (Ok found)
+found_mark files Fresh is = is
+found_mark files (Marked mark) is = record { some = is.0; valid = is.1; numbers = is.2 }
+
+module _ (files : Image) (mark : MarkState) (has : HasMark files mark) (no_image : NamesNoImage mark) (long : mark.log_length ≤ log_length files mark) where
+  abbrev log_of : LogEnd
+  log_of = record { number = mark.log; end = mark.log_length }
+
+  -- all blocks are counted
+  pub counted_start : (count : ℕ) (keeper : KeeperState) → keeper.count ≡ count → AreCounted (marked_part mark files) (Ok count) → IsStart files (Ok keeper)
+  counted_start count keeper same is = (
+    is.0,
+    inr (
+      mark,
+      record {
+        valid = has.valid;
+        numbers = has.numbers;
+        list = is.1;
+        whole = sym (held_length files log_of long) ∙ ap length is.2;
+        bytes = is.2;
+      },
+      no_image,
+    ),
+    same ∙ is.3,
+  )
+
+  -- or one is bad
+  pub bad_start : (fault : StartFault) → AreCounted (marked_part mark files) (Err fault) → IsStart files (Err fault)
+  bad_start faults.Memory is = tt
+  bad_start (faults.Disk failed) is = tt
+  bad_start (faults.Damaged (NoMark count)) is = absurd is
+  bad_start (faults.Damaged (BadMark value)) is = absurd is
+  bad_start (faults.Damaged (LogShort marked found)) is = absurd is
+  bad_start (faults.Damaged (BadBlock place)) is =
+      let some : is.1 ≢ [] = λ e. is.5 (is.4 ∙ ap length (sym (is.3 ∙ ap (λ l. blocks is.0 ++ l) e ∙ append-nil (blocks is.0)))) in
+      (mark, is.0, is.1, record { has_mark = has; no_image = no_image; long = long; list = is.2; bytes = is.3 }, is.4, some, is.6)
+  bad_start (faults.Damaged (Replay place number)) is = (
+    mark,
+    is.0,
+    is.1,
+    is.2,
+    is.3,
+    record {
+      has_mark = has;
+      no_image = no_image;
+      long = long;
+      list = is.4;
+      bytes = is.5 ∙ append_assoc (blocks is.0) (block is.1) is.2;
+    },
+    is.6,
+    is.7,
+    is.8,
+    is.9,
+  )
+
+-- no damage is found in files that a disk reads for a list
+pub found_started : (tells told : Bool) (reads now_reads : Image) (before now : Image → Type 0) (changes : List Change) (fault : StartFault) → ReadsFor tells reads before changes → IsFound reads (Err fault) → Started (Err fault) told now_reads now changes
+found_started tells told reads now_reads before now changes faults.Memory stands is = absurd is
+found_started tells told reads now_reads before now changes (faults.Disk failed) stands is = tt
+found_started tells told reads now_reads before now changes (faults.Damaged damage) stands is =
+    no_list reads damage changes is (⊎_elim (λ none. inl none) (λ by_mark. inr (by_mark.0, by_mark.1, by_mark.2)) stands.stands)
+
+-- where the disk reads for a list, by the mark that is found
+module _ (tells : Bool) (reads : Image) (before now : Image → Type 0) (mark : MarkState) (changes : List Change) (has : HasMark reads mark) (stands : ReadsFor tells reads before changes) (still : (c : Image) → now c → before c) (durable : Only Mark (reads Mark) now) where
+  abbrev Standing : MarkState → Type 0
+  Standing m = StandsByMark tells reads now m changes × NamesNoImage m
+
+  pub stands_by : Standing mark
+  stands_by =
+      ⊎_elim (λ empty. absurd (some_log reads empty.0 has.some))
+      (λ by_mark.
+      subst Standing (one_mark reads by_mark.0 mark by_mark.1.valid has.valid) (
+        record { told = stands.told; files = by_mark.1; mark_stays = durable; log_stays = λ c left. by_mark.3 c (still c left) },
+        by_mark.2,
+      )) stands.stands
+
+  pub started_mark : (result : Result KeeperState StartFault) → IsStart reads result → IfOk result (λ keeper. keeper ≡ record {
+    log = record { number = mark.log; end = mark.log_length };
+    mark = mark;
+    count = keeper.count;
+    fault = None;
+  }) → Started result tells reads now changes
+  started_mark (Err faults.Memory) is keeper_is = record { told = stands.told; stands = inr (mark, stands_by.0, stands_by.1) }
+  started_mark (Err (faults.Disk failed)) is keeper_is = tt
+  started_mark (Err (faults.Damaged damage)) is keeper_is = no_list reads damage changes is (inr (mark, stands_by.0.files, stands_by.1))
+  started_mark (Ok keeper) is keeper_is =
+      let P : KeeperState → Type 0 = λ k. Keeps tells reads now k changes in
+      subst P (sym keeper_is) record {
+        stands = stands_by.0;
+        no_image = stands_by.1;
+        named = refl;
+        end = refl;
+        count = is.2 ∙ ap length (one_standing reads is.0 changes is.1 (inr (mark, stands_by.0.files, stands_by.1)));
+        faultless = refl;
+      }

@@ -1,0 +1,94 @@
+use Rattle.std.proofs.Common.{◌≡◌, ◌⊎◌, ◌+◌, ◌++◌, ◌∷◌, [], List, length, refl, sym, ap, ◌∙◌, subst, arith}
+use Rattle.s80_change.specs.declared.change.Change.{Change}
+use Rattle.s80_change.specs.Block.{block, IsLawful}
+use Rattle.s80_disk.specs.Image.{Image}
+use Rattle.s80_disk.specs.Moments.{LeavesOnly}
+use Rattle.s80_disk.proofs.Run.{weaker}
+use Rattle.s80_mark.specs.declared.mark.MarkState.{MarkState}
+use Rattle.s80_log.specs.Log.{log_file}
+use Rattle.s80_log.specs.Commit.{next_mark}
+use Rattle.s80_keeper.specs.Keeper.{KeeperState, Keeps}
+use Rattle.s80_keeper.specs.Standing.{FilesStandFor, LeavesEither}
+use Rattle.s80_keeper.proofs.Keeping.{either_list, leaves_either, keeps_more, keeps_still}
+use Rattle.s80_keeper.proofs.keeper.Keeper.keep.Goals as goal
+use Rattle.s80_keeper.proofs.keeper.Keeper.keep.Goals.{After-append_and_commit}
+
+-- the block that is written is that of the change
+is_block : (g : _) (c : After-append_and_commit g) → c.prepared.inside.block ≡ block c.args.prepared
+is_block g c = c.prepared.invariant ∙ ap block c.prepared.view_is
+
+module _ (g : _) (c : After-append_and_commit g) (changes : List Change) (keeps : Keeps (g.D.Disk.tells c.args.disk.now) (g.D.Disk.reads c.args.disk.now) (g.D.Disk.may_leave c.args.disk.now) c.args.self.now changes) (lawful : IsLawful c.args.prepared) where
+  -- the keeper as the code has it
+  abbrev keeper : KeeperState
+  keeper = record { log = c.self.inside.log; mark = c.self.inside.mark; count = c.self.inside.count; fault = c.self.inside.fault }
+
+  kept : Keeps (g.D.Disk.tells c.args.disk.now) (g.D.Disk.reads c.args.disk.now) (g.D.Disk.may_leave c.args.disk.now) keeper changes
+  kept =
+      let P : KeeperState → Type 0 = λ k. Keeps (g.D.Disk.tells c.args.disk.now) (g.D.Disk.reads c.args.disk.now) (g.D.Disk.may_leave c.args.disk.now) k changes in
+      subst P (sym c.self.view_is) keeps
+
+  -- the mark that is committed
+  abbrev next : MarkState
+  next = next_mark c.self.inside.mark (record c.self.inside.log { end = c.self.inside.log.end + length c.prepared.inside.block })
+
+  run : LeavesOnly g.D.Disk.moment g.D.Disk.left_since c.args.disk.now c.append_and_commit.new.disk (LeavesEither (g.D.Disk.beside c.args.disk.now).told changes (changes ++ c.args.prepared ∷ []))
+  run =
+      let D = g.D.Disk in
+      let d = c.args.disk.now in
+      weaker D.moment D.left_since d c.append_and_commit.new.disk _ _ (c.append_and_commit.ensures.one_commit changes c.args.prepared kept.stands kept.named kept.end lawful (is_block g c))
+      (leaves_either (D.may_leave d) (D.beside d).told (log_file c.self.inside.log.number) c.self.inside.mark next changes (changes ++ c.args.prepared ∷ []) kept.no_image kept.no_image)
+
+  left_now : (e : Image) → g.D.Disk.may_leave c.append_and_commit.new.disk e → FilesStandFor e changes ⊎ FilesStandFor e (changes ++ c.args.prepared ∷ [])
+  left_now e left =
+      either_list c.self.inside.mark next changes (changes ++ c.args.prepared ∷ []) e kept.no_image kept.no_image
+      (c.append_and_commit.ensures.left changes c.args.prepared e kept.stands kept.named kept.end lawful (is_block g c) left)
+
+pub returns-in-Ok-clause-any_moment : goal.returns-in-Ok-clause-any_moment
+returns-in-Ok-clause-any_moment g c = run g (goal.at.returns-in-Ok-clause-any_moment g c).After-append_and_commit
+
+pub returns-in-Ok-clause-kept : goal.returns-in-Ok-clause-kept
+returns-in-Ok-clause-kept g c = λ changes keeps lawful.
+    let at = (goal.at.returns-in-Ok-clause-kept g c).After-append_and_commit in
+    let was = kept g at changes keeps lawful in
+    keeps_more _ _ _ _ _ _ (keeper g at changes keeps lawful) c.append_and_commit.new.self c.append_and_commit.new.mark c.saturating_add-self-inside.result changes c.args.prepared was c.in-Ok.ensures.mark c.saturating_add-self-inside.ensures
+    (c.in-Ok.ensures.kept changes c.args.prepared was.stands was.named was.end lawful (is_block g at))
+
+pub returns-in-Err-Disk-clause-any_moment : goal.returns-in-Err-Disk-clause-any_moment
+returns-in-Err-Disk-clause-any_moment g c = run g (goal.at.returns-in-Err-Disk-clause-any_moment g c).After-append_and_commit
+
+pub returns-in-Err-Disk-clause-kept : goal.returns-in-Err-Disk-clause-kept
+returns-in-Err-Disk-clause-kept g c = left_now g (goal.at.returns-in-Err-Disk-clause-kept g c).After-append_and_commit
+
+pub returns-in-Err-Disk-clause-full : goal.returns-in-Err-Disk-clause-full
+returns-in-Err-Disk-clause-full g c = λ n. (
+  λ e. absurd cc,
+  λ over.
+      let end = ap (λ (k : KeeperState). k.log.end) c.self.view_is in
+      let size = ap length (is_block g (goal.at.returns-in-Err-Disk-clause-full g c).After-append_and_commit) in
+      let fault = rw c.in-Err-Disk.field-0-is at ((c.in-Err-Disk.ensures.full n).1 (over.1 ∙ sym end, omega (arith, over.2))) in
+      absurd cc,
+)
+
+pub returns-clause-any_moment : goal.returns-clause-any_moment
+returns-clause-any_moment g c = run g (goal.at.returns-clause-any_moment g c).After-append_and_commit
+
+pub returns-clause-full : goal.returns-clause-full
+returns-clause-full g c = λ n.
+    let end = ap (λ (k : KeeperState). k.log.end) c.self.view_is in
+    let fault = ap (λ (k : KeeperState). k.fault) c.self.view_is in
+    let size = ap length (is_block g (goal.at.returns-clause-full g c).After-append_and_commit) in
+    let full = c.in-Err-Full.ensures.full n in (
+      λ e.
+          let is = full.0 (rw c.in-Err-Full.field-0-is cc) in
+          (sym fault ∙ c.in_default.is, is.0 ∙ end, omega (arith, is.1)),
+      λ over.
+          let is = rw c.in-Err-Full.field-0-is at (full.1 (over.1 ∙ sym end, omega (arith, over.2))) in
+          cc,
+    )
+
+pub returns-clause-kept : goal.returns-clause-kept
+returns-clause-kept g c = λ changes keeps lawful.
+    let at = (goal.at.returns-clause-kept g c).After-append_and_commit in
+    let D = g.D.Disk in
+    let full = (c.in-Err-Full.ensures.full c.in-Err-Full.length).0 (rw c.in-Err-Full.field-0-is refl) in
+    keeps_still D.tells D.reads D.may_leave c.args.disk.now c.append_and_commit.new.disk (keeper g at changes keeps lawful) c.append_and_commit.new.self c.append_and_commit.new.mark changes (c.in-Err-Full.ensures.untouched full.1) c.in-Err-Full.ensures.end c.in-Err-Full.ensures.mark (kept g at changes keeps lawful)

@@ -1,0 +1,5 @@
+use Rattle.s80_keeper.proofs.Damages.{no_list}
+use Rattle.s80_keeper.proofs.laws.damaged_files_stand_for_no_list.Goals as goal
+
+pub returns : goal.returns
+returns c = no_list

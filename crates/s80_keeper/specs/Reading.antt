@@ -1,0 +1,45 @@
+-- How the start reads a log.
+use Rattle.std.specs.Prelude.{◌≡◌, ◌≢◌, ◌<◌, ◌≤◌, ℕ, List, ◌++◌, length, Result, Ok, Err, ⊤}
+use Rattle.s80_change.specs.declared.change.Change.{Change}
+use Rattle.s80_change.specs.declared.refusal.Refusal.{Refusal}
+use Rattle.s80_change.specs.Block.{block, blocks, IsLawful, IsList}
+use Rattle.s80_change.specs.Refusal.{refusal_number}
+use Rattle.s80_disk.specs.Image.{Image}
+use Rattle.s80_mark.specs.declared.read.Found.{Found}
+use Rattle.s80_mark.specs.declared.read.Found.TheVariants.{Fresh, Mark as Marked}
+use Rattle.s80_mark.specs.Found.{AreLogsEmpty}
+use Rattle.s80_log.specs.Log.{LogEnd, log_file}
+use Rattle.s80_log.specs.Blocks.{BeginsWithNone}
+use Rattle.s80_keeper.specs.declared.start.Damage.TheVariants.{LogShort, BadBlock, Replay}
+use Rattle.s80_keeper.specs.declared.start.StartFault.{StartFault}
+use Rattle.s80_keeper.specs.declared.start.StartFault.TheVariants as faults
+use Rattle.s80_keeper.specs.List.{add}
+use Rattle.s80_keeper.specs.Start.{HasMark, IsDamage}
+
+-- the logs are empty, or this is the valid mark, or what is wrong with it; it takes no memory to say so
+abbrev pub IsFound : Image → Result Found StartFault → Type 0
+IsFound files (Ok Fresh) = AreLogsEmpty files
+IsFound files (Ok (Marked mark)) = HasMark files mark
+IsFound files (Err (faults.Damaged damage)) = IsDamage files damage
+IsFound files (Err faults.Memory) = ⊥
+IsFound files (Err (faults.Disk failed)) = ⊤
+
+-- whether a log's file is as long as what counts of it
+abbrev pub IsLengthChecked : {T : Type 0} → Image → LogEnd → Result T StartFault → Type 0
+IsLengthChecked files log (Ok done) = log.end ≤ length (files (log_file log.number))
+IsLengthChecked files log (Err (faults.Damaged (LogShort marked found))) = (marked ≡ log.end) × (found ≡ length (files (log_file log.number))) × (found < marked)
+IsLengthChecked files log (Err (faults.Damaged _)) = ⊥
+IsLengthChecked files log (Err faults.Memory) = ⊥
+IsLengthChecked files log (Err (faults.Disk failed)) = ⊤
+
+-- how many changes bytes are the blocks of, or what is wrong with them
+abbrev pub AreCounted : List ℕ → Result ℕ StartFault → Type 0
+AreCounted bytes (Ok count) = (changes : List Change) × IsList changes × (bytes ≡ blocks changes) × (count ≡ length changes)
+AreCounted bytes (Err (faults.Damaged (BadBlock place))) =
+    (changes : List Change) × (rest : List ℕ) × IsList changes × (bytes ≡ blocks changes ++ rest) × (place ≡ length (blocks changes)) × (place ≢ length bytes) × BeginsWithNone rest
+AreCounted bytes (Err (faults.Damaged (Replay place number))) =
+    (changes : List Change) × (change : Change) × (rest : List ℕ) × (refusal : Refusal) × IsList changes × (bytes ≡ blocks changes ++ block change ++ rest) × (place ≡ length (blocks changes)) × IsLawful change
+    × (add changes change ≡ Err refusal) × (number ≡ refusal_number refusal)
+AreCounted bytes (Err (faults.Damaged _)) = ⊥
+AreCounted bytes (Err faults.Memory) = ⊤
+AreCounted bytes (Err (faults.Disk failed)) = ⊤

@@ -1,0 +1,91 @@
+-- What is found at the start: the list that the files stand for, or the first thing that is wrong with them.
+use Rattle.std.specs.Prelude.{◌≡◌, ◌≢◌, ◌⊎◌, ◌<◌, ◌≤◌, ℕ, Bool, List, [], ◌++◌, length, Some, Result, Ok, Err, ⊤}
+use Rattle.s80_base.specs.declared.outside.Failed.{Failed}
+use Rattle.s80_change.specs.declared.change.Change.{Change}
+use Rattle.s80_change.specs.declared.refusal.Refusal.{Refusal}
+use Rattle.s80_change.specs.Block.{block, blocks, IsLawful, IsList}
+use Rattle.s80_change.specs.Refusal.{refusal_number}
+use Rattle.s80_disk.specs.declared.disk.FileId.TheVariants.{Mark}
+use Rattle.s80_disk.specs.Image.{Image}
+use Rattle.s80_mark.specs.declared.mark.MarkState.{MarkState}
+use Rattle.s80_mark.specs.declared.read.MarkFault.{MarkFault}
+use Rattle.s80_mark.specs.declared.read.MarkFault.TheVariants as mark_faults
+use Rattle.s80_mark.specs.Mark.{valid_mark}
+use Rattle.s80_mark.specs.Found.{AreLogsEmpty, HasLawfulNumbers, IsAnswer, longer_log}
+use Rattle.s80_log.specs.Log.{log_file}
+use Rattle.s80_log.specs.Standing.{marked_part}
+use Rattle.s80_log.specs.Blocks.{BeginsWithNone}
+use Rattle.s80_log.specs.declared.read.BlockFault.{BlockFault}
+use Rattle.s80_log.specs.declared.read.BlockFault.TheVariants as block_faults
+use Rattle.s80_keeper.specs.declared.start.Damage.{Damage}
+use Rattle.s80_keeper.specs.declared.start.Damage.TheVariants.{NoMark, BadMark, LogShort, BadBlock, Replay}
+use Rattle.s80_keeper.specs.declared.start.StartFault.{StartFault}
+use Rattle.s80_keeper.specs.declared.start.StartFault.TheVariants as faults
+use Rattle.s80_keeper.specs.Keeper.{KeeperState, Keeps}
+use Rattle.s80_keeper.specs.List.{add}
+use Rattle.s80_keeper.specs.Standing.{NamesNoImage, FilesStandFor, StandsFor}
+
+-- a log holds something, and this is the valid mark, with lawful numbers
+pub record HasMark (files : Image) (mark : MarkState) : Type 0 where
+  pub some : 0 < longer_log files
+  pub valid : valid_mark (files Mark) ≡ Some mark
+  pub numbers : HasLawfulNumbers mark
+
+abbrev pub log_length : Image → MarkState → ℕ
+log_length files mark = length (files (log_file mark.log))
+
+-- the valid mark names no image, the log is as long as it says, and its marked part is the blocks of this list and what is left behind them
+pub record ReadsTo (files : Image) (mark : MarkState) (changes : List Change) (rest : List ℕ) : Type 0 where
+  pub has_mark : HasMark files mark
+  pub no_image : NamesNoImage mark
+  pub long : mark.log_length ≤ log_length files mark
+  pub list : IsList changes
+  pub bytes : marked_part mark files ≡ blocks changes ++ rest
+
+-- the files have no valid mark, or one that is out of form or names an image; the log is shorter than the mark says; no block begins
+-- where one should; or the list before a block refuses its change
+abbrev pub IsDamage : Image → Damage → Type 0
+IsDamage files (NoMark count) = IsAnswer files (Err (mark_faults.NoGate count))
+IsDamage files (BadMark value) = IsAnswer files (Err (mark_faults.BadField value)) ⊎ ((mark : MarkState) × HasMark files mark × (mark.image ≢ 255) × (value ≡ mark.image))
+IsDamage files (LogShort marked found) = (mark : MarkState) × HasMark files mark × NamesNoImage mark × (marked ≡ mark.log_length) × (found ≡ log_length files mark) × (found < marked)
+IsDamage files (BadBlock place) = (mark : MarkState) × (changes : List Change) × (rest : List ℕ) × ReadsTo files mark changes rest × (place ≡ length (blocks changes)) × (rest ≢ []) × BeginsWithNone rest
+IsDamage files (Replay place number) =
+    (mark : MarkState) × (changes : List Change) × (change : Change) × (rest : List ℕ) × (refusal : Refusal) × ReadsTo files mark changes (block change ++ rest) × (place ≡ length (blocks changes)) × IsLawful change
+    × (add changes change ≡ Err refusal) × (number ≡ refusal_number refusal)
+
+-- what the files call for, where memory is found and no call on the disk fails
+abbrev pub IsStart : Image → Result KeeperState StartFault → Type 0
+IsStart files (Ok keeper) = (changes : List Change) × FilesStandFor files changes × (keeper.count ≡ length changes)
+IsStart files (Err (faults.Damaged damage)) = IsDamage files damage
+IsStart files (Err faults.Memory) = ⊤
+IsStart files (Err (faults.Disk failed)) = ⊤
+
+-- after a start on a disk that reads for this list
+abbrev pub Started : Result KeeperState StartFault → Bool → Image → (Image → Type 0) → List Change → Type 0
+Started (Ok keeper) tells reads may_leave changes = Keeps tells reads may_leave keeper changes
+Started (Err faults.Memory) tells reads may_leave changes = StandsFor tells reads may_leave changes
+Started (Err (faults.Disk failed)) tells reads may_leave changes = ⊤
+Started (Err (faults.Damaged damage)) tells reads may_leave changes = ⊥
+
+-- this much is told, and the image is one of those before, or the logs read empty and are empty in it
+pub record StartLeaves (reads : Image) (before : Image → Type 0) (told_before told : ℕ) (c : Image) : Type 0 where
+  pub told_is : told ≡ told_before
+  pub files : before c ⊎ (AreLogsEmpty reads × AreLogsEmpty c)
+
+-- this holds of a failed call on the disk
+abbrev pub IfStartDisk : {T : Type 0} → Result T StartFault → (Failed → Type 0) → Type 0
+IfStartDisk (Ok value) P = ⊤
+IfStartDisk (Err (faults.Disk failed)) P = P failed
+IfStartDisk (Err faults.Memory) P = ⊤
+IfStartDisk (Err (faults.Damaged damage)) P = ⊤
+
+-- what the faults of the calls below are for a start
+abbrev pub fault_of_mark : MarkFault → StartFault
+fault_of_mark (mark_faults.Disk failed) = faults.Disk failed
+fault_of_mark (mark_faults.NoGate count) = faults.Damaged (NoMark count)
+fault_of_mark (mark_faults.BadField value) = faults.Damaged (BadMark value)
+
+abbrev pub fault_of_block : BlockFault → StartFault
+fault_of_block block_faults.Memory = faults.Memory
+fault_of_block (block_faults.Disk failed) = faults.Disk failed
+fault_of_block (block_faults.Bad place) = faults.Damaged (BadBlock place)

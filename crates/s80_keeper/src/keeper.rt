@@ -1,0 +1,75 @@
+// The keeper, and a change that is prepared for it.
+ghost use Rattle.std.specs.Prelude.{◌≡◌};
+ghost use Rattle.s80_keeper.specs.Answers.{Prepares};
+
+use s80_base::{Failed, Text};
+use s80_change::{Change, Refusal, Refused, block_text};
+use s80_log::Log;
+use s80_mark::MarkState;
+use std::alloc::Global;
+use std::marker::Model;
+
+/// A keeper of the list of changes for which a disk stands.
+#[derive(Debug, Drop)]
+pub struct Keeper {
+    pub(crate) log: Log,
+    pub(crate) mark: MarkState,
+    pub(crate) count: u64,
+    /// The first fault of the disk. After it no call is made.
+    pub(crate) fault: Option<Failed>,
+}
+
+impl Model for Keeper {
+    ghost use Rattle.s80_keeper.specs.Keeper.{KeeperState};
+
+    ghost Value = { KeeperState };
+
+    ghost view = { λ k. record { log = k.log; mark = k.mark; count = k.count; fault = k.fault } };
+}
+
+/// A change with all that is needed to keep it. Keeping it takes no memory.
+#[derive(Debug, Drop)]
+pub struct Prepared {
+    change: Change,
+    pub(crate) block: Text,
+}
+
+impl Model for Prepared {
+    ghost use Rattle.std.specs.Prelude.{◌≡◌};
+    ghost use Rattle.s80_change.specs.declared.change.Change.{Change};
+    ghost use Rattle.s80_change.specs.Block.{block as block_of};
+
+    ghost Value = { Change };
+
+    ghost view = { λ p. p.change };
+
+    ghost invariant = { λ p. p.block ≡ block_of p.change };
+}
+
+impl Keeper {
+    /// Prepares a change to be kept, or says why the list refuses it. The list stays.
+    pub fn prepare(&mut self, alloc: Global, change: Change) -> Result<Prepared, Refused>
+        ensures answer { Prepares self.old.log.end change result }
+        ensures same { self.new ≡ self.old }
+    {
+        let block = block_text(alloc, &change)?;
+        if !self.log.has_room(block.bytes().len() as u64) {
+            return Err(Refused::Refusal(Refusal::LogFull(self.log.length())));
+        }
+        Ok(Prepared { change, block })
+    }
+
+    /// How many changes are kept.
+    pub fn count(&self) -> u64
+        ensures { result ≡ self.now.count }
+    {
+        self.count
+    }
+
+    /// How long the log is.
+    pub fn log_length(&self) -> u64
+        ensures { result ≡ self.now.log.end }
+    {
+        self.log.length()
+    }
+}

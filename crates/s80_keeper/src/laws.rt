@@ -1,0 +1,33 @@
+// Laws of files that stand for a list, for the crates above.
+ghost use Rattle.std.specs.Prelude.{◌≡◌, List};
+ghost use Rattle.s80_change.specs.declared.change.Change.{Change};
+ghost use Rattle.s80_disk.specs.Image.{Image};
+ghost use Rattle.s80_keeper.specs.declared.start.Damage.{Damage};
+ghost use Rattle.s80_keeper.specs.Standing.{FilesStandFor, StandsFor, ReadsFor};
+ghost use Rattle.s80_keeper.specs.Start.{IsDamage};
+
+use s80_disk::Disk;
+
+/// Files stand for one list at most.
+pub fn files_stand_for_one_list()
+    ensures { (files : Image) (changes other : List Change)
+        → FilesStandFor files changes → FilesStandFor files other → changes ≡ other }
+{}
+
+/// Files with a damage stand for no list.
+pub fn damaged_files_stand_for_no_list()
+    ensures { (files : Image) (damage : Damage) (changes : List Change)
+        → IsDamage files damage → FilesStandFor files changes → ⊥ }
+{}
+
+/// Files have one damage at most: the first.
+pub fn files_have_one_damage()
+    ensures { (files : Image) (one other : Damage) → IsDamage files one → IsDamage files other → one ≡ other }
+{}
+
+/// What a disk that stands for a list reads stands for it, and the marked part of its log is on the disk.
+pub fn a_disk_that_stands_reads_so<D: Disk>(_disk: &D)
+    ensures { (changes : List Change)
+        → StandsFor (D.tells _disk.now) (D.reads _disk.now) (D.may_leave _disk.now) changes
+        → ReadsFor (D.tells _disk.now) (D.reads _disk.now) (D.may_leave _disk.now) changes }
+{}

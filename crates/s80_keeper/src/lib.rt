@@ -1,0 +1,18 @@
+//! The keeper of one list of changes on a disk: it finds the list at the start, and keeps each change so that no crash loses it.
+#![tactic(auto)]
+
+mod keep;
+mod keeper;
+mod laws;
+mod start;
+
+pub use keep::KeepFault;
+pub use keeper::{Keeper, Prepared};
+pub use laws::{
+    a_disk_that_stands_reads_so, damaged_files_stand_for_no_list, files_have_one_damage,
+    files_stand_for_one_list,
+};
+pub use start::{Damage, StartFault};
+
+#[cfg(test)]
+mod tests;

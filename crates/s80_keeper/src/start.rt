@@ -1,0 +1,235 @@
+// The start: the list for which the files stand, or what is wrong with them.
+ghost use Rattle.std.specs.Prelude.{◌≡◌, ◌≢◌, ◌⊎◌, ◌<◌, ◌≤◌, ◌+◌, ◌++◌, List, ℕ, length, None, IsTrue, IfOk};
+ghost use Rattle.s80_base.specs.Causes.{Rose};
+ghost use Rattle.s80_base.specs.declared.outside.Call.TheVariants.{Length, Read, Write, Sync};
+ghost use Rattle.s80_change.specs.declared.change.Change.{Change};
+ghost use Rattle.s80_disk.specs.declared.disk.FileId.{FileId};
+ghost use Rattle.s80_disk.specs.declared.disk.FileId.TheVariants.{Mark};
+ghost use Rattle.s80_disk.specs.Image.{Only};
+ghost use Rattle.s80_disk.specs.Moments.{Beside, LeavesOnly};
+ghost use Rattle.s80_mark.specs.Found.{IsLawfulFound, longer_log};
+ghost use Rattle.s80_mark.specs.Stays.{StillLeft};
+ghost use Rattle.s80_log.specs.Log.{log_file, held_in};
+ghost use Rattle.s80_keeper.specs.Standing.{NamesNoImage, ReadsFor, StandsFor, LeavesFor};
+ghost use Rattle.s80_keeper.specs.Start.{HasMark, IsStart, Started, StartLeaves, IfStartDisk};
+ghost use Rattle.s80_keeper.specs.Reading.{IsFound, IsLengthChecked, AreCounted};
+
+use crate::keeper::Keeper;
+use s80_base::Failed;
+use s80_change::Refusal;
+use s80_disk::{Disk, FileId};
+use s80_log::{BlockFault, LOG_LIMIT, Log};
+use s80_mark::{Found, MarkFault, MarkState, NO_IMAGE, init_mark, read_mark};
+use std::alloc::Global;
+use thiserror::Error;
+
+/// What is wrong with the files of a folder.
+#[derive(Clone, Copy, Debug, PartialEq, Eq, Error)]
+pub enum Damage {
+    /// No slot of the mark is open, and the longer log has this length.
+    #[error("no slot of the mark is open, and a log has {0} bytes")]
+    NoMark(u64),
+    /// The mark has this number for a log or an image.
+    #[error("the mark has the number {0} for a log or an image")]
+    BadMark(u64),
+    /// The mark takes so many bytes of the log, which has only so many.
+    #[error("the mark takes {0} bytes of a log that has {1}")]
+    LogShort(u64, u64),
+    /// No block within the marked part begins at this place of the log.
+    #[error("no block begins at byte {0} of the log")]
+    BadBlock(u64),
+    /// The block at this place is refused, by the number of the refusal.
+    #[error("the change at byte {0} of the log is refused by {1}")]
+    Replay(u64, u8),
+}
+
+/// Why a keeper doesn't start.
+#[derive(Clone, Copy, Debug, PartialEq, Eq, Error)]
+pub enum StartFault {
+    #[error("out of memory")]
+    Memory,
+    #[error("{0}")]
+    Disk(Failed),
+    #[error("{0}")]
+    Damaged(Damage),
+}
+
+impl From<Failed> for StartFault {
+    ghost use Rattle.s80_keeper.specs.declared.start.StartFault.TheVariants.{Disk};
+
+    ghost from_gives = { λ failed fault. fault ≡ Disk failed };
+
+    fn from(failed: Failed) -> Self {
+        StartFault::Disk(failed)
+    }
+}
+
+impl From<MarkFault> for StartFault {
+    ghost use Rattle.s80_keeper.specs.Start.{fault_of_mark};
+
+    ghost from_gives = { λ found fault. fault ≡ fault_of_mark found };
+
+    fn from(fault: MarkFault) -> Self {
+        match fault {
+            MarkFault::Disk(failed) => StartFault::Disk(failed),
+            MarkFault::NoGate(length) => StartFault::Damaged(Damage::NoMark(length)),
+            MarkFault::BadField(value) => StartFault::Damaged(Damage::BadMark(value)),
+        }
+    }
+}
+
+impl From<BlockFault> for StartFault {
+    ghost use Rattle.s80_keeper.specs.Start.{fault_of_block};
+
+    ghost from_gives = { λ found fault. fault ≡ fault_of_block found };
+
+    fn from(fault: BlockFault) -> Self {
+        match fault {
+            BlockFault::Memory => StartFault::Memory,
+            BlockFault::Disk(failed) => StartFault::Disk(failed),
+            BlockFault::Bad(place) => StartFault::Damaged(Damage::BadBlock(place)),
+        }
+    }
+}
+
+impl Keeper {
+    /// Finds the list for which the files stand. The mark is on the disk before it is believed; a folder whose logs are empty gets its
+    /// first mark.
+    pub fn start<D: Disk>(alloc: Global, disk: &mut D) -> Result<Keeper, StartFault>
+        ensures answer { IsTrue (D.tells disk.old) → IsStart (D.reads disk.old) result }
+        ensures started { (changes : List Change) → ReadsFor (D.tells disk.old) (D.reads disk.old) (D.may_leave disk.old) changes
+            → Started result (D.tells disk.new) (D.reads disk.new) (D.may_leave disk.new) changes }
+        ensures faultless { IfOk result (λ keeper. keeper.fault ≡ None) }
+
+        // A crash at any moment leaves what it might have left before; but where the logs read empty, they may be so for certain.
+        ensures any_moment { IsTrue (D.tells disk.old) → LeavesOnly D.moment D.left_since disk.old disk.new
+            (StartLeaves (D.reads disk.old) (D.may_leave disk.old) (D.beside disk.old).told) }
+        // So where the disk stands for a list, the files do so at every moment.
+        ensures stands { (changes : List Change) → StandsFor (D.tells disk.old) (D.reads disk.old) (D.may_leave disk.old) changes
+            → LeavesOnly D.moment D.left_since disk.old disk.new (LeavesFor (D.beside disk.old).told changes) }
+
+        ensures untouched { IsTrue (D.tells disk.old) → 0 < longer_log (D.reads disk.old)
+            → (file : FileId) → D.reads disk.new file ≡ D.reads disk.old file }
+        ensures others { (other : FileId) → other ≢ Mark → D.reads disk.new other ≡ D.reads disk.old other }
+        ensures tells { D.tells disk.new ≡ D.tells disk.old }
+        ensures beside { D.beside disk.new ≡ D.beside disk.old }
+        ensures later { D.disk_faults disk.old ≤ D.disk_faults disk.new }
+        ensures cause { IfStartDisk result (λ failed. Rose (D.disk_faults disk.old) (D.disk_faults disk.new)) }
+        ensures named { IfStartDisk result (λ failed.
+            (failed.call ≡ Length) ⊎ (failed.call ≡ Read) ⊎ (failed.call ≡ Write) ⊎ (failed.call ≡ Sync)) }
+    {
+        match find_mark(disk)? {
+            Found::Fresh => Ok(Keeper::at(Log::resume(0, 0), init_mark(disk)?, 0)),
+            Found::Mark(mark) => Keeper::resume(alloc, disk, mark),
+        }
+    }
+
+    /// A keeper of so many changes in this log, with this mark.
+    fn at(log: Log, mark: MarkState, count: u64) -> Keeper
+        ensures { result ≡ record { log = log; mark = mark; count = count; fault = None } }
+    {
+        Keeper {
+            log,
+            mark,
+            count,
+            fault: None,
+        }
+    }
+
+    /// Goes on from a valid mark.
+    fn resume<D: Disk>(alloc: Global, disk: &mut D, mark: MarkState) -> Result<Keeper, StartFault>
+        requires { mark.log ≤ 1 }
+        ensures answer { IsTrue (D.tells disk.old) → HasMark (D.reads disk.old) mark → IsStart (D.reads disk.old) result }
+        ensures keeper { IfOk result (λ keeper. keeper ≡ record {
+          log = record { number = mark.log; end = mark.log_length };
+          mark = mark;
+          count = keeper.count;
+          fault = None;
+        }) }
+        ensures image { IfOk result (λ keeper. NamesNoImage mark) }
+        ensures tells { D.tells disk.new ≡ D.tells disk.old }
+        ensures same { (file : FileId) → D.reads disk.new file ≡ D.reads disk.old file }
+        ensures crash { (c : FileId → List ℕ) → D.may_leave disk.new c → D.may_leave disk.old c }
+        ensures any_moment { LeavesOnly D.moment D.left_since disk.old disk.new
+            (StillLeft (D.may_leave disk.old) (D.beside disk.old).told) }
+        ensures beside { D.beside disk.new ≡ D.beside disk.old }
+        ensures later { D.disk_faults disk.old ≤ D.disk_faults disk.new }
+        ensures cause { IfStartDisk result (λ failed. Rose (D.disk_faults disk.old) (D.disk_faults disk.new)) }
+        ensures named { IfStartDisk result (λ failed. (failed.call ≡ Length) ⊎ (failed.call ≡ Read)) }
+    {
+        if mark.image != NO_IMAGE {
+            return Err(StartFault::Damaged(Damage::BadMark(u64::from(mark.image))));
+        }
+        let log = Log::resume(mark.log, mark.log_length);
+        check_length(disk, &log)?;
+        let count = count_changes(alloc, disk, &log)?;
+        Ok(Keeper::at(log, mark, count))
+    }
+}
+
+/// Finds the valid mark, once it is on the disk.
+fn find_mark<D: Disk>(disk: &mut D) -> Result<Found, StartFault>
+    ensures answer { IsTrue (D.tells disk.old) → IsFound (D.reads disk.old) result }
+    ensures lawful { IfOk result IsLawfulFound }
+    ensures durable { IfOk result (λ _. Only Mark (D.reads disk.old Mark) (D.may_leave disk.new)) }
+    ensures tells { D.tells disk.new ≡ D.tells disk.old }
+    ensures same { (file : FileId) → D.reads disk.new file ≡ D.reads disk.old file }
+    ensures crash { (c : FileId → List ℕ) → D.may_leave disk.new c → D.may_leave disk.old c }
+    ensures any_moment { LeavesOnly D.moment D.left_since disk.old disk.new
+        (StillLeft (D.may_leave disk.old) (D.beside disk.old).told) }
+    ensures beside { D.beside disk.new ≡ D.beside disk.old }
+    ensures later { D.disk_faults disk.old ≤ D.disk_faults disk.new }
+    ensures cause { IfStartDisk result (λ failed. Rose (D.disk_faults disk.old) (D.disk_faults disk.new)) }
+    ensures named { IfStartDisk result (λ failed. (failed.call ≡ Length) ⊎ (failed.call ≡ Read) ⊎ (failed.call ≡ Sync)) }
+{
+    disk.sync(FileId::Mark)?;
+    Ok(read_mark(disk)?)
+}
+
+/// A log's file is as long as what counts of it.
+fn check_length<D: Disk>(disk: &mut D, log: &Log) -> Result<(), StartFault>
+    ensures answer { IsTrue (D.tells disk.old) → IsLengthChecked (D.reads disk.old) log.now result }
+    ensures tells { D.tells disk.new ≡ D.tells disk.old }
+    ensures same { (file : FileId) → D.reads disk.new file ≡ D.reads disk.old file }
+    ensures crash { (c : FileId → List ℕ) → D.may_leave disk.new c → D.may_leave disk.old c }
+    ensures any_moment { LeavesOnly D.moment D.left_since disk.old disk.new
+        (StillLeft (D.may_leave disk.old) (D.beside disk.old).told) }
+    ensures beside { D.beside disk.new ≡ D.beside disk.old }
+    ensures later { D.disk_faults disk.old ≤ D.disk_faults disk.new }
+    ensures cause { IfStartDisk result (λ failed. Rose (D.disk_faults disk.old) (D.disk_faults disk.new)) }
+    ensures named { IfStartDisk result (λ failed. failed.call ≡ Length) }
+{
+    let found = disk.length(log.file())?;
+    if found < log.length() {
+        return Err(StartFault::Damaged(Damage::LogShort(log.length(), found)));
+    }
+    Ok(())
+}
+
+/// How many changes a log keeps, by its blocks.
+fn count_changes<D: Disk>(alloc: Global, disk: &mut D, log: &Log) -> Result<u64, StartFault>
+    ensures answer { IsTrue (D.tells disk.old) → log.now.end ≤ length (D.reads disk.old (log_file log.now.number))
+        → AreCounted (held_in (D.reads disk.old) log.now) result }
+    ensures tells { D.tells disk.new ≡ D.tells disk.old }
+    ensures same { (file : FileId) → D.reads disk.new file ≡ D.reads disk.old file }
+    ensures crash { (c : FileId → List ℕ) → D.may_leave disk.new c → D.may_leave disk.old c }
+    ensures any_moment { LeavesOnly D.moment D.left_since disk.old disk.new
+        (StillLeft (D.may_leave disk.old) (D.beside disk.old).told) }
+    ensures beside { D.beside disk.new ≡ D.beside disk.old }
+    ensures later { D.disk_faults disk.old ≤ D.disk_faults disk.new }
+    ensures cause { IfStartDisk result (λ failed. Rose (D.disk_faults disk.old) (D.disk_faults disk.new)) }
+    ensures named { IfStartDisk result (λ failed. failed.call ≡ Read) }
+{
+    let mut count = 0;
+    let mut at = 0;
+    while at < log.length() {
+        let (_, next) = log.read_block(alloc, disk, at)?;
+        if next > LOG_LIMIT {
+            let refusal = Refusal::LogFull(at);
+            return Err(StartFault::Damaged(Damage::Replay(at, refusal.number())));
+        }
+        count += 1;
+        at = next;
+    }
+    Ok(count)
+}
