@@ -1,5 +1,5 @@
 -- The first items of an input are the front of all its items, and so are their replies.
-use Rattle.std.proofs.Common.{◌≡◌, inl, inr, ℕ, ◌≤◌, List, [], ◌∷◌, ◌++◌, length, take, drop, refl, sym, ap, subst, ◌∙◌, Result, Ok, Err, Some, Bool, true, false, append_assoc, arith, length-append, take-append-drop}
+use Rattle.std.proofs.Common.{◌≡◌, inl, inr, ℕ, ◌≤◌, List, [], ◌∷◌, ◌++◌, length, take, drop, refl, sym, ap, subst, ◌∙◌, Some, Bool, true, false, append_assoc, arith, length-append, take-append-drop}
 use Rattle.std.proofs.lemmas.List.{append-nil}
 use Rattle.s80_chunk.specs.declared.item.Item.{Item}
 use Rattle.s80_chunk.specs.Chunks.{Reads, IsBlank}
@@ -8,17 +8,19 @@ use Rattle.s80_chunk.proofs.Reading.{one_reading}
 use Rattle.s80_chunk.proofs.Stopping.{reads_prefix}
 use Rattle.s80_change.specs.declared.change.Change.{Change}
 use Rattle.s80_disk.specs.Image.{Image}
-use Rattle.st80.specs.declared.session.SessionItem.{SessionItem}
-use Rattle.st80.specs.declared.session.SessionItem.TheVariants.{Chunk, Unended}
-use Rattle.st80.specs.declared.session.SessionEnd.{SessionEnd}
-use Rattle.st80.specs.declared.session.SessionEnd.TheVariants as ends
+use Rattle.s80_session.specs.declared.item.Query.TheVariants as queries
+use Rattle.s80_session.specs.declared.item.SessionItem.{SessionItem}
+use Rattle.s80_session.specs.declared.item.SessionItem.TheVariants.{Chunk, Unended, Query}
+use Rattle.s80_session.specs.Ending.{Faults}
+use Rattle.s80_session.specs.Replies.{reply_to, reply_text, list_after, list_after_all, replies}
+use Rattle.s80_session.specs.Run.{Shown, chunks, ItemsOf, FirstItemsOf, WholeItemsOf, Finished, input_limit}
+use Rattle.s80_session.proofs.Taking.{first_of}
 use Rattle.st80.specs.declared.status.Status.{Status}
 use Rattle.st80.specs.declared.status.Status.TheVariants as status
-use Rattle.st80.specs.Ending.{Faults, NoFault, EndsForReason, StatusHasReason, status_after, IsWhole}
-use Rattle.st80.specs.Keeper.{reply_to, reply_text, list_after, list_after_all, replies}
-use Rattle.st80.specs.Run.{Shown, chunks, ItemsOf, FirstItemsOf, WholeItemsOf, Finished, RunEnds, Leaves, StartsWith, input_limit}
-use Rattle.st80.specs.Working.{IsDiskEnd}
-use Rattle.st80.proofs.Taking.{first_of}
+use Rattle.st80.specs.declared.words.Command.{Command}
+use Rattle.st80.specs.declared.words.Command.TheVariants.{Run, Recover}
+use Rattle.st80.specs.Ending.{NoFault, StatusHasReason, IsWhole}
+use Rattle.st80.specs.Leaves.{RunLeaves, ItemLeaves, Leaves, AllItems, IsWithin}
 
 chunks_append : (given more : List Item) → chunks (given ++ more) ≡ chunks given ++ chunks more
 chunks_append [] more = refl
@@ -88,61 +90,66 @@ part_put now changes before items last count all h taken =
 finished_front : (may_leave : Image → Type 0) (now : Shown) (changes : List Change) (input before : List ℕ) (refused : Bool) (all : List SessionItem) → Finished may_leave now changes input before refused → ItemsOf input all → PutsFront now changes before all
 finished_front may_leave now changes input before refused all h whole = front_put now changes before h.items all ([], sym (one_list input h.items all h.all whole) ∙ sym (append-nil h.items)) h.answered.taken
 
--- whatever the status, a front of all replies was put
-pub front_of : (s : Status) (may_leave : Image → Type 0) (now : Shown) (changes : List Change) (input before : List ℕ) (all : List SessionItem) → Leaves s may_leave now changes input before → ItemsOf input all → PutsFront now changes before all
-front_of status.Done may_leave now changes input before all h whole = finished_front may_leave now changes input before false all h whole
-front_of status.DoneWithRefusals may_leave now changes input before all h whole = finished_front may_leave now changes input before true all h whole
-front_of status.Usage may_leave now changes input before all h whole = absurd h
-front_of status.ReadFault may_leave now changes input before all h whole = front_put now changes before h.items all (first_items input h.items all (whole_first h.got h.left input h.items h.whole h.input_is) whole) h.answered.taken
-front_of status.WriteFault may_leave now changes input before all h whole = part_put now changes before h.items h.last h.count all (first_items input (h.items ++ h.last ∷ []) all h.first whole) h.taken
-front_of status.DiskFault may_leave now changes input before all h whole = front_put now changes before h.items all (first_items input h.items all h.first whole) h.taken
-front_of status.Damaged may_leave now changes input before all h whole = absurd h
-front_of status.OutOfMemory may_leave now changes input before all h whole = front_put now changes before h.items all (first_items input h.items all h.first whole) h.answered.taken
-front_of status.InputTooLong may_leave now changes input before all h whole = front_put now changes before h.items all (first_items input h.items all (whole_first h.got (h.next ∷ h.left) input h.items h.whole h.input_is) whole) h.answered.taken
+-- whatever the status of a run, a front of all replies was put
+run_front : (s : Status) (may_leave : Image → Type 0) (now : Shown) (changes : List Change) (input before : List ℕ) (all : List SessionItem) → RunLeaves s may_leave now changes input before → ItemsOf input all → PutsFront now changes before all
+run_front status.Done may_leave now changes input before all h whole = finished_front may_leave now changes input before false all h whole
+run_front status.DoneWithRefusals may_leave now changes input before all h whole = finished_front may_leave now changes input before true all h whole
+run_front status.Usage may_leave now changes input before all h whole = absurd h
+run_front status.ReadFault may_leave now changes input before all h whole = front_put now changes before h.items all (first_items input h.items all (whole_first h.got h.left input h.items h.whole h.input_is) whole) h.answered.taken
+run_front status.WriteFault may_leave now changes input before all h whole = part_put now changes before h.items h.last h.count all (first_items input (h.items ++ h.last ∷ []) all h.first whole) h.taken
+run_front status.DiskFault may_leave now changes input before all h whole = front_put now changes before h.items all (first_items input h.items all h.first whole) h.taken
+run_front status.Damaged may_leave now changes input before all h whole = absurd h
+run_front status.OutOfMemory may_leave now changes input before all h whole = front_put now changes before h.items all (first_items input h.items all h.first whole) h.answered.taken
+run_front status.InputTooLong may_leave now changes input before all h whole = front_put now changes before h.items all (first_items input h.items all (whole_first h.got (h.next ∷ h.left) input h.items h.whole h.input_is) whole) h.answered.taken
 
--- what a run leaves is what its status says
-pub leaves_after : (r : Result Bool SessionEnd) (may_leave : Image → Type 0) (now : Shown) (changes : List Change) (input before : List ℕ) → RunEnds r may_leave now changes input before → Leaves (status_after r) may_leave now changes input before
-leaves_after (Ok false) may_leave now changes input before h = h
-leaves_after (Ok true) may_leave now changes input before h = h
-leaves_after (Err ends.Memory) may_leave now changes input before h = h
-leaves_after (Err (ends.Read failed)) may_leave now changes input before h = h
-leaves_after (Err (ends.Write failed)) may_leave now changes input before h = h
-leaves_after (Err (ends.Disk failed)) may_leave now changes input before h = h
-leaves_after (Err ends.TooLong) may_leave now changes input before h = h
+-- the same where one item is worked
+item_front : (s : Status) (may_leave : Image → Type 0) (now : Shown) (changes : List Change) (item : SessionItem) (before : List ℕ) → ItemLeaves s may_leave now changes item before → PutsFront now changes before (item ∷ [])
+item_front status.Done may_leave now changes item before h = front_put now changes before (item ∷ []) (item ∷ []) ([], refl) h.0.taken
+item_front status.DoneWithRefusals may_leave now changes item before h = front_put now changes before (item ∷ []) (item ∷ []) ([], refl) h.0.taken
+item_front status.Usage may_leave now changes item before h = absurd h
+item_front status.ReadFault may_leave now changes item before h = absurd h
+item_front status.WriteFault may_leave now changes item before h =
+    let line = reply_text (reply_to changes item) in
+    (take h.0 line, drop h.0 line, h.2, append-nil line ∙ sym (take-append-drop h.0 line))
+item_front status.DiskFault may_leave now changes item before h = ([], replies changes (item ∷ []), h ∙ ap Some (sym (append-nil before)), refl)
+item_front status.Damaged may_leave now changes item before h = absurd h
+item_front status.OutOfMemory may_leave now changes item before h = front_put now changes before [] (item ∷ []) (item ∷ [], refl) h.taken
+item_front status.InputTooLong may_leave now changes item before h = absurd h
+
+-- whatever the command and the status, a front of all replies was put
+pub front_of : (command : Command) (s : Status) (may_leave : Image → Type 0) (now : Shown) (changes : List Change) (input before : List ℕ) (all : List SessionItem) → Leaves command s may_leave now changes input before → AllItems command input all → PutsFront now changes before all
+front_of Run s may_leave now changes input before all h whole = run_front s may_leave now changes input before all h whole
+front_of Recover s may_leave now changes input before all h is =
+    let P : List SessionItem → Type 0 = λ l. PutsFront now changes before l in
+    subst P (sym is) (item_front s may_leave now changes (Query queries.Recover) before h.0)
 
 longer : (got left : List ℕ) (next : ℕ) (input : List ℕ) → input ≡ got ++ next ∷ left → length got ≡ input_limit → length input ≤ input_limit → ⊥
 longer got left next input is limit within =
     let size = ap length is ∙ length-append got (next ∷ left) in omega (arith, size, limit, within)
 
--- with no fault and a short input, all is done or memory is wanting
-pub whole_without_fault : (s : Status) (old new : Faults) (may_leave : Image → Type 0) (now : Shown) (changes : List Change) (input before : List ℕ) → Leaves s may_leave now changes input before → StatusHasReason old new s → NoFault old new → length input ≤ input_limit → IsWhole s
-whole_without_fault status.Done old new may_leave now changes input before h reason none within = tt
-whole_without_fault status.DoneWithRefusals old new may_leave now changes input before h reason none within = tt
-whole_without_fault status.Usage old new may_leave now changes input before h reason none within = absurd h
-whole_without_fault status.ReadFault old new may_leave now changes input before h reason none within = absurd (none.read reason)
-whole_without_fault status.WriteFault old new may_leave now changes input before h reason none within = absurd (none.write reason)
-whole_without_fault status.DiskFault old new may_leave now changes input before h reason none within = absurd (none.disk reason)
-whole_without_fault status.Damaged old new may_leave now changes input before h reason none within = absurd h
-whole_without_fault status.OutOfMemory old new may_leave now changes input before h reason none within = tt
-whole_without_fault status.InputTooLong old new may_leave now changes input before h reason none within = absurd (longer h.got h.left h.next input h.input_is h.limit within)
+-- with no fault and a short input, all of a run is done or memory is wanting
+run_whole : (s : Status) (old new : Faults) (may_leave : Image → Type 0) (now : Shown) (changes : List Change) (input before : List ℕ) → RunLeaves s may_leave now changes input before → StatusHasReason old new s → NoFault old new → length input ≤ input_limit → IsWhole s
+run_whole status.Done old new may_leave now changes input before h reason none within = tt
+run_whole status.DoneWithRefusals old new may_leave now changes input before h reason none within = tt
+run_whole status.Usage old new may_leave now changes input before h reason none within = absurd h
+run_whole status.ReadFault old new may_leave now changes input before h reason none within = absurd (none.read reason)
+run_whole status.WriteFault old new may_leave now changes input before h reason none within = absurd (none.write reason)
+run_whole status.DiskFault old new may_leave now changes input before h reason none within = absurd (none.disk reason)
+run_whole status.Damaged old new may_leave now changes input before h reason none within = absurd h
+run_whole status.OutOfMemory old new may_leave now changes input before h reason none within = tt
+run_whole status.InputTooLong old new may_leave now changes input before h reason none within = absurd (longer h.got h.left h.next input h.input_is h.limit within)
 
--- a disk that fails before the first item
-pub lost_at_start : (end : SessionEnd) (was may_leave : Image → Type 0) (old now : Shown) (changes : List Change) (input before : List ℕ) → IsDiskEnd end → StartsWith was old changes input before → now ≡ old → RunEnds (Err end) may_leave now changes input before
-lost_at_start (ends.Disk failed) was may_leave old now changes input before is h same = record {
-  items = [];
-  first = inl ([], input, stop refl refl, refl);
-  taken = ap (λ (s : Shown). s.taken) same ∙ h.taken ∙ ap Some (sym (append-nil before));
-}
-lost_at_start ends.Memory was may_leave old now changes input before is h same = absurd is
-lost_at_start (ends.Read failed) was may_leave old now changes input before is h same = absurd is
-lost_at_start (ends.Write failed) was may_leave old now changes input before is h same = absurd is
-lost_at_start ends.TooLong was may_leave old now changes input before is h same = absurd is
+item_whole : (s : Status) (old new : Faults) (may_leave : Image → Type 0) (now : Shown) (changes : List Change) (item : SessionItem) (before : List ℕ) → ItemLeaves s may_leave now changes item before → StatusHasReason old new s → NoFault old new → IsWhole s
+item_whole status.Done old new may_leave now changes item before h reason none = tt
+item_whole status.DoneWithRefusals old new may_leave now changes item before h reason none = tt
+item_whole status.Usage old new may_leave now changes item before h reason none = absurd h
+item_whole status.ReadFault old new may_leave now changes item before h reason none = absurd h
+item_whole status.WriteFault old new may_leave now changes item before h reason none = absurd (none.write reason)
+item_whole status.DiskFault old new may_leave now changes item before h reason none = absurd (none.disk reason)
+item_whole status.Damaged old new may_leave now changes item before h reason none = absurd h
+item_whole status.OutOfMemory old new may_leave now changes item before h reason none = tt
+item_whole status.InputTooLong old new may_leave now changes item before h reason none = absurd h
 
-pub reason_after : (r : Result Bool SessionEnd) (before now : Faults) → EndsForReason before now r → StatusHasReason before now (status_after r)
-reason_after (Ok false) before now h = tt
-reason_after (Ok true) before now h = tt
-reason_after (Err ends.Memory) before now h = tt
-reason_after (Err (ends.Read failed)) before now h = h
-reason_after (Err (ends.Write failed)) before now h = h
-reason_after (Err (ends.Disk failed)) before now h = h
-reason_after (Err ends.TooLong) before now h = tt
+pub whole_without_fault : (command : Command) (s : Status) (old new : Faults) (may_leave : Image → Type 0) (now : Shown) (changes : List Change) (input before : List ℕ) → Leaves command s may_leave now changes input before → StatusHasReason old new s → NoFault old new → IsWithin command input → IsWhole s
+whole_without_fault Run s old new may_leave now changes input before h reason none within = run_whole s old new may_leave now changes input before h reason none within
+whole_without_fault Recover s old new may_leave now changes input before h reason none within = item_whole s old new may_leave now changes (Query queries.Recover) before h.0 reason none

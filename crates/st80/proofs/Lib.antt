@@ -1,7 +1,3 @@
-pub mod Answering
-pub mod Finishing
-pub mod Fronts
-pub mod Lasting
-pub mod Stepping
-pub mod Taking
-pub mod UnderWay
+mod Fronts
+mod Beginning
+mod Ends

@@ -1,6 +1,3 @@
-pub mod Keeper
-pub mod Ending
-pub mod Putting
-pub mod Run
-pub mod Working
 pub mod Words
+pub mod Ending
+pub mod Leaves

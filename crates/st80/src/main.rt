@@ -1,26 +1,21 @@
 //! `st80 FOLDER COMMAND`: a day's work in Smalltalk-80, kept in a folder that no crash loses.
 #![tactic(auto)]
 
-mod input;
 mod outside;
 mod program;
 mod real;
-mod reply;
-mod session;
 mod status;
 mod words;
 
-pub use outside::put_all;
 pub use program::st80;
 pub use real::RealOutside;
-pub use reply::Reply;
 use s80_base::Text;
-pub use session::{SessionEnd, SessionItem};
 pub use status::Status;
 use std::env::Env;
 use std::io::ErrorKind;
 use std::process::ExitCode;
 use std::{env, io};
+pub use words::Command;
 
 /// The words that the program was started with.
 fn words_given<R: Env + AllocGlobal>(rt: &R) -> io::Result<Vec<Text>> {

@@ -1,86 +1,119 @@
 // What the program does with its words.
-ghost use Rattle.std.specs.Prelude.{◌≡◌, ◌≢◌, ◌≤◌, ◌++◌, ℕ, List, Some, length, IfErr};
+ghost use Rattle.std.specs.Prelude.{◌≡◌, ◌≢◌, ◌++◌, ℕ, List, IsTrue, false, Some, IfErr};
 ghost use Rattle.s80_change.specs.declared.change.Change.{Change};
-ghost use Rattle.st80.specs.declared.session.SessionItem.{SessionItem};
 ghost use Rattle.s80_disk.specs.declared.disk.FileId.{FileId};
 ghost use Rattle.s80_disk.specs.Moments.{LeavesOnly};
-ghost use Rattle.st80.specs.Ending.{faults, Counts, NoFault, StatusHasReason, status_after, IsWhole};
-ghost use Rattle.st80.specs.Keeper.{replies};
-ghost use Rattle.st80.specs.Putting.{IsAsBefore};
-ghost use Rattle.st80.specs.Run.{shown, input_limit, StartsWith, ItemsOf, Keeps, Leaves, RunEnds};
-ghost use Rattle.st80.specs.Words.{IsRun};
-ghost use Rattle.st80.specs.Working.{IsDiskEnd};
+ghost use Rattle.s80_keeper.specs.declared.start.Damage.{Damage};
+ghost use Rattle.s80_keeper.specs.Standing.{StandsFor};
+ghost use Rattle.s80_keeper.specs.Start.{IsDamage};
+ghost use Rattle.s80_session.specs.declared.item.SessionItem.{SessionItem};
+ghost use Rattle.s80_session.specs.Ending.{faults, Counts};
+ghost use Rattle.s80_session.specs.Replies.{replies};
+ghost use Rattle.s80_session.specs.Putting.{IsAsBefore};
+ghost use Rattle.s80_session.specs.Run.{shown, Keeps};
+ghost use Rattle.s80_session.specs.Session.{keeper_of, troubled_of, IsFaultless};
+ghost use Rattle.s80_session.specs.Working.{IsAt, IsDiskEnd, StepLeaves};
+ghost use Rattle.st80.specs.Ending.{NoFault, StatusHasReason, status_after, IsWhole};
+ghost use Rattle.st80.specs.Leaves.{StartsWith, Leaves, RunLeaves, ItemLeaves, CommandKeeps, AllItems, IsWithin, TellsDamage};
+ghost use Rattle.st80.specs.Words.{Asks};
 
 use crate::outside::attach;
-use crate::session::{Session, SessionEnd};
 use crate::status::Status;
-use crate::words::folder_of;
+use crate::words::{Command, request_of};
 use s80_base::Text;
 use s80_disk::Outside;
+use s80_session::{Query, Session, SessionEnd, SessionItem};
 use std::alloc::Global;
 
-/// Does what the words ask for: the program's name, a folder and `run`. Each chunk of the input is kept in the folder's log,
-/// on the disk, and then answered by a line of the output.
+/// Does what the words ask for: the program's name, a folder and a command. `run` keeps each chunk of the input in the folder, on the
+/// disk, and then answers it by a line of the output; `recover` says how much there is.
 pub fn st80<O: Outside>(alloc: Global, words: &[Text], outside: &mut O) -> Status
     // Bad usage is answered exactly where the words ask for nothing, and then the outside isn't called.
-    ensures usage { result ≡ Status.Usage → ((folder : List ℕ) → IsRun words.now folder → ⊥) × (outside.new ≡ outside.old) }
-    ensures lawful { result ≢ Status.Usage → (folder : List ℕ) × IsRun words.now folder }
+    ensures usage { result ≡ Status.Usage
+        → ((folder : List ℕ) (command : Command) → Asks words.now folder command → ⊥) × (outside.new ≡ outside.old) }
+    ensures lawful { result ≢ Status.Usage → (folder : List ℕ) × (command : Command) × Asks words.now folder command }
 
     // A fault is answered only where its count rose in this call.
     ensures reason { StatusHasReason (faults O.read_faults O.write_faults O.disk_faults outside.old)
         (faults O.read_faults O.write_faults O.disk_faults outside.new) result }
 
-    // From a disk that stands for a list of changes, the bytes written are the model keeper's replies to the items of the input.
-    ensures leaves { (folder : List ℕ) (changes : List Change) (input before : List ℕ) → IsRun words.now folder
+    // From a disk that stands for a list of changes, the bytes written are the model keeper's replies to the items of the command.
+    ensures leaves { (folder : List ℕ) (command : Command) (changes : List Change) (input before : List ℕ)
+        → Asks words.now folder command
         → StartsWith (O.may_leave outside.old) (shown O.tells O.reads O.left O.taken O.told outside.old) changes input before
-        → Leaves result (O.may_leave outside.new)
+        → Leaves command result (O.may_leave outside.new)
         (shown O.tells O.reads O.left O.taken O.told outside.new) changes input before }
 
-    // Each change is in the log and on the disk before it is answered: a crash at any moment, inside a write too, leaves a log that
-    // begins with the blocks of all changes that were answered by then.
-    ensures any_moment { (folder : List ℕ) (changes : List Change) (input before : List ℕ) → IsRun words.now folder
+    // A crash at any moment, inside a write too, leaves files that stand for the list after the first items, and no change is lost that
+    // was answered by then.
+    ensures any_moment { (folder : List ℕ) (command : Command) (changes : List Change) (input before : List ℕ)
+        → Asks words.now folder command
         → StartsWith (O.may_leave outside.old) (shown O.tells O.reads O.left O.taken O.told outside.old) changes input before
-        → LeavesOnly O.moment O.left_since outside.old outside.new (Keeps changes input before) }
+        → StandsFor (O.tells outside.old) (O.reads outside.old) (O.may_leave outside.old) changes
+        → LeavesOnly O.moment O.left_since outside.old outside.new (CommandKeeps command changes input before) }
 
-    // However the run ends, what it wrote is a front of the replies to the whole input.
-    ensures front { (folder : List ℕ) (changes : List Change) (input before : List ℕ) (items : List SessionItem)
-        → IsRun words.now folder
+    // However it ends, what it wrote is a front of the replies to all items.
+    ensures front { (folder : List ℕ) (command : Command) (changes : List Change) (input before : List ℕ) (items : List SessionItem)
+        → Asks words.now folder command
         → StartsWith (O.may_leave outside.old) (shown O.tells O.reads O.left O.taken O.told outside.old) changes input before
-        → ItemsOf input items
+        → AllItems command input items
         → (put more : List ℕ) × (O.taken outside.new ≡ Some (before ++ put)) × (replies changes items ≡ put ++ more) }
 
     // With no fault and an input within the limit it comes to the end, or memory is wanting.
-    ensures complete { (folder : List ℕ) (changes : List Change) (input before : List ℕ) → IsRun words.now folder
+    ensures complete { (folder : List ℕ) (command : Command) (changes : List Change) (input before : List ℕ)
+        → Asks words.now folder command
         → StartsWith (O.may_leave outside.old) (shown O.tells O.reads O.left O.taken O.told outside.old) changes input before
-        → length input ≤ input_limit
+        → IsWithin command input
         → NoFault (faults O.read_faults O.write_faults O.disk_faults outside.old)
         (faults O.read_faults O.write_faults O.disk_faults outside.new)
         → IsWhole result }
+
+    // Damage is answered only where the files have one. Where they have one nothing is put, and no file changes.
+    ensures found { result ≡ Status.Damaged → IsTrue (O.tells outside.old)
+        → (damage : Damage) × IsDamage (O.reads outside.old) damage }
+    ensures damaged { (folder : List ℕ) (command : Command) (damage : Damage) → Asks words.now folder command
+        → IsTrue (O.tells outside.old) → IsDamage (O.reads outside.old) damage
+        → TellsDamage result × (shown O.tells O.reads O.left O.taken O.told outside.new
+        ≡ record (shown O.tells O.reads O.left O.taken O.told outside.old) { files = O.reads outside.new })
+        × ((file : FileId) → O.reads outside.new file ≡ O.reads outside.old file) }
 {
-    match folder_of(words) {
-        Some(folder) => status_of(run(alloc, folder, outside)),
+    match request_of(words) {
+        Some(request) => status_of(work(alloc, request.folder, request.command, outside)),
         None => Status::Usage,
     }
 }
 
-/// Works the input in a folder. Says whether some item was refused.
-fn run<O: Outside>(alloc: Global, folder: &Text, outside: &mut O) -> Result<bool, SessionEnd>
-    ensures ran { (changes : List Change) (input before : List ℕ)
+/// Does a command in a folder. Says whether some item was refused.
+fn work<O: Outside>(
+    alloc: Global,
+    folder: &Text,
+    command: Command,
+    outside: &mut O,
+) -> Result<bool, SessionEnd>
+    ensures worked { (changes : List Change) (input before : List ℕ)
         → StartsWith (O.may_leave outside.old) (shown O.tells O.reads O.left O.taken O.told outside.old) changes input before
-        → RunEnds result (O.may_leave outside.new)
+        → Leaves command (status_after result) (O.may_leave outside.new)
         (shown O.tells O.reads O.left O.taken O.told outside.new) changes input before }
     ensures any_moment { (changes : List Change) (input before : List ℕ)
         → StartsWith (O.may_leave outside.old) (shown O.tells O.reads O.left O.taken O.told outside.old) changes input before
-        → LeavesOnly O.moment O.left_since outside.old outside.new (Keeps changes input before) }
-    ensures counts { Counts (faults O.read_faults O.write_faults O.disk_faults outside.old)
-        (faults O.read_faults O.write_faults O.disk_faults outside.new) result }
+        → StandsFor (O.tells outside.old) (O.reads outside.old) (O.may_leave outside.old) changes
+        → LeavesOnly O.moment O.left_since outside.old outside.new (CommandKeeps command changes input before) }
+    ensures found { status_after result ≡ Status.Damaged → IsTrue (O.tells outside.old)
+        → (damage : Damage) × IsDamage (O.reads outside.old) damage }
+    ensures damaged { (damage : Damage) → IsTrue (O.tells outside.old) → IsDamage (O.reads outside.old) damage
+        → TellsDamage (status_after result) × (shown O.tells O.reads O.left O.taken O.told outside.new
+        ≡ record (shown O.tells O.reads O.left O.taken O.told outside.old) { files = O.reads outside.new })
+        × ((file : FileId) → O.reads outside.new file ≡ O.reads outside.old file) }
+    ensures reason { StatusHasReason (faults O.read_faults O.write_faults O.disk_faults outside.old)
+        (faults O.read_faults O.write_faults O.disk_faults outside.new) (status_after result) }
+    ensures useful { status_after result ≢ Status.Usage }
 {
     open_folder(outside, folder)?;
-    let mut session = Session::start(outside)?;
-    session.run_items(alloc, outside)?;
-    Ok(session.troubled)
+    let mut session = Session::start(alloc, outside)?;
+    do_command(&mut session, alloc, command, outside)
 }
 
+/// Chooses the folder.
 fn open_folder<O: Outside>(outside: &mut O, folder: &Text) -> Result<(), SessionEnd>
     ensures shown { shown O.tells O.reads O.left O.taken O.told outside.new
         ≡ shown O.tells O.reads O.left O.taken O.told outside.old }
@@ -95,7 +128,85 @@ fn open_folder<O: Outside>(outside: &mut O, folder: &Text) -> Result<(), Session
     Ok(())
 }
 
-/// The status of a run that ended so.
+/// Does a command in a session that has begun.
+fn do_command<O: Outside>(
+    session: &mut Session,
+    alloc: Global,
+    command: Command,
+    outside: &mut O,
+) -> Result<bool, SessionEnd>
+    requires faultless { IsFaultless session.old }
+    ensures worked { (changes : List Change) (input before : List ℕ) → O.left outside.old ≡ Some input
+        → troubled_of session.old ≡ false
+        → IsAt (O.may_leave outside.old)
+        (shown O.tells O.reads O.left O.taken O.told outside.old) (keeper_of session.old) changes before
+        → Leaves command (status_after result) (O.may_leave outside.new)
+        (shown O.tells O.reads O.left O.taken O.told outside.new) changes input before }
+    ensures any_moment { (changes : List Change) (input before : List ℕ) → O.left outside.old ≡ Some input
+        → troubled_of session.old ≡ false
+        → IsAt (O.may_leave outside.old)
+        (shown O.tells O.reads O.left O.taken O.told outside.old) (keeper_of session.old) changes before
+        → LeavesOnly O.moment O.left_since outside.old outside.new (CommandKeeps command changes input before) }
+    ensures counts { Counts (faults O.read_faults O.write_faults O.disk_faults outside.old)
+        (faults O.read_faults O.write_faults O.disk_faults outside.new) result }
+{
+    match command {
+        Command::Run => run_input(session, alloc, outside),
+        Command::Recover => answer_query(session, alloc, Query::Recover, outside),
+    }
+}
+
+/// Works the input to its end. Says whether some item was refused.
+fn run_input<O: Outside>(
+    session: &mut Session,
+    alloc: Global,
+    outside: &mut O,
+) -> Result<bool, SessionEnd>
+    requires faultless { IsFaultless session.old }
+    ensures worked { (changes : List Change) (input before : List ℕ) → O.left outside.old ≡ Some input
+        → troubled_of session.old ≡ false
+        → IsAt (O.may_leave outside.old)
+        (shown O.tells O.reads O.left O.taken O.told outside.old) (keeper_of session.old) changes before
+        → RunLeaves (status_after result) (O.may_leave outside.new)
+        (shown O.tells O.reads O.left O.taken O.told outside.new) changes input before }
+    ensures any_moment { (changes : List Change) (input before : List ℕ) → O.left outside.old ≡ Some input
+        → troubled_of session.old ≡ false
+        → IsAt (O.may_leave outside.old)
+        (shown O.tells O.reads O.left O.taken O.told outside.old) (keeper_of session.old) changes before
+        → LeavesOnly O.moment O.left_since outside.old outside.new (Keeps changes input before) }
+    ensures counts { Counts (faults O.read_faults O.write_faults O.disk_faults outside.old)
+        (faults O.read_faults O.write_faults O.disk_faults outside.new) result }
+{
+    session.run_items(alloc, outside)?;
+    Ok(session.troubled())
+}
+
+/// Answers one query. Says whether it was refused.
+fn answer_query<O: Outside>(
+    session: &mut Session,
+    alloc: Global,
+    query: Query,
+    outside: &mut O,
+) -> Result<bool, SessionEnd>
+    requires faultless { IsFaultless session.old }
+    ensures worked { (changes : List Change) (before : List ℕ) → troubled_of session.old ≡ false
+        → IsAt (O.may_leave outside.old)
+        (shown O.tells O.reads O.left O.taken O.told outside.old) (keeper_of session.old) changes before
+        → ItemLeaves (status_after result) (O.may_leave outside.new)
+        (shown O.tells O.reads O.left O.taken O.told outside.new) changes (SessionItem.Query query) before }
+    ensures any_moment { (changes : List Change) (before : List ℕ)
+        → IsAt (O.may_leave outside.old)
+        (shown O.tells O.reads O.left O.taken O.told outside.old) (keeper_of session.old) changes before
+        → LeavesOnly O.moment O.left_since outside.old outside.new (StepLeaves changes before (SessionItem.Query query)) }
+    ensures left { O.left outside.new ≡ O.left outside.old }
+    ensures counts { Counts (faults O.read_faults O.write_faults O.disk_faults outside.old)
+        (faults O.read_faults O.write_faults O.disk_faults outside.new) result }
+{
+    session.step(alloc, SessionItem::Query(query), outside)?;
+    Ok(session.troubled())
+}
+
+/// The status of work that ended so.
 fn status_of(ended: Result<bool, SessionEnd>) -> Status
     ensures { result ≡ status_after ended }
 {
@@ -106,6 +217,7 @@ fn status_of(ended: Result<bool, SessionEnd>) -> Status
         Err(SessionEnd::Read(_)) => Status::ReadFault,
         Err(SessionEnd::Write(_)) => Status::WriteFault,
         Err(SessionEnd::Disk(_)) => Status::DiskFault,
+        Err(SessionEnd::Damaged(_)) => Status::Damaged,
         Err(SessionEnd::TooLong) => Status::InputTooLong,
     }
 }

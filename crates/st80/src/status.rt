@@ -14,7 +14,7 @@ pub enum Status {
     ReadFault,
     WriteFault,
     DiskFault,
-    /// The folder's files stand for no list of changes. It isn't answered yet.
+    /// The folder's files are damaged: they stand for no list of changes. None is changed.
     Damaged,
     OutOfMemory,
     /// The input has more than 2^30 bytes.

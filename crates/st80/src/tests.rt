@@ -8,7 +8,10 @@ use s80_disk::{Disk, FaultPlan, FileId, MemDisk, MemOutside};
 use std::alloc::Global;
 use std::test::Fail;
 
+mod crashes;
+mod damages;
 mod noting;
+mod recovering;
 
 const ROOM: usize = 1 << 18;
 
@@ -69,6 +72,8 @@ fn run_over<S: Source + Drop>(
 }
 
 const RUN: [&[u8]; 3] = [b"st80", b"F", b"run"];
+
+const RECOVER: [&[u8]; 3] = [b"st80", b"F", b"recover"];
 
 /// Runs `run` on this input, which comes in pieces of this size.
 fn run_on(alloc: Global, input: &[u8], piece: usize) -> Result<Ran, Fail>
@@ -179,11 +184,11 @@ fn a_failing_put_ends_with_a_write_fault(rt: HostRuntime) -> Result<(), Fail> {
     Ok(())
 }
 
-// The calls are attach, length, and for each of the two chunks a write and a sync.
+// The start makes twelve calls on a new folder, the first commit eight, and each later one nine.
 #[test]
 fn a_failing_disk_call_ends_with_a_disk_fault(rt: HostRuntime) -> Result<(), Fail> {
-    let written: [&[u8]; 6] = [b"", b"", b"", b"", b"ok\n", b"ok\n"];
-    for (number, written) in (1..).zip(written) {
+    for number in 1..=29 {
+        let written: &[u8] = if number <= 20 { b"" } else { b"ok\n" };
         for plan in [FaultPlan::One(number), FaultPlan::From(number)] {
             let disk = new_disk(rt.alloc(), plan)?;
             let source = MemSource::make(rt.alloc(), b"1! 2!\n", 4096, &[])?;
@@ -192,6 +197,10 @@ fn a_failing_disk_call_ends_with_a_disk_fault(rt: HostRuntime) -> Result<(), Fai
             assert_eq!(rt; left.written.as_slice(), written);
         }
     }
+    let disk = new_disk(rt.alloc(), FaultPlan::From(30))?;
+    let source = MemSource::make(rt.alloc(), b"1! 2!\n", 4096, &[])?;
+    let left = run_over(rt.alloc(), disk, source, &[], &RUN)?;
+    assert_eq!(rt; left.status, Status::Done);
     Ok(())
 }
 
@@ -212,12 +221,13 @@ fn an_input_of_more_than_a_gibibyte_is_too_long(rt: HostRuntime) -> Result<(), F
 // Each call on this outside would fail.
 #[test]
 fn bad_usage_calls_nothing(rt: HostRuntime) -> Result<(), Fail> {
-    let rows: [&[&[u8]]; 9] = [
+    let rows: [&[&[u8]]; 10] = [
         &[],
         &[b"st80"],
         &[b"st80", b"F"],
         &[b"st80", b"F", b"zork"],
         &[b"st80", b"F", b"run", b"x"],
+        &[b"st80", b"F", b"recover", b"x"],
         &[b"st80", b"-x", b"F", b"run"],
         &[b"st80", b"-x", b"run"],
         &[b"st80", b"", b"run"],

@@ -1,8 +1,24 @@
 // The words of the command line.
-ghost use Rattle.std.specs.Prelude.{◌≡◌, ◌↔◌, ℕ, List, IsTrue, IsUtf8, IfSome, IfNone, codes};
-ghost use Rattle.st80.specs.Words.{IsOption, IsFolder, IsRun};
+ghost use Rattle.std.specs.Prelude.{◌≡◌, ◌↔◌, ℕ, List, IsTrue, IsUtf8, IfSome, IfNone};
+ghost use Rattle.st80.specs.Words.{IsOption, IsFolder, Asks, command_word};
 
 use s80_base::Text;
+
+/// What the program does.
+#[derive(Clone, Copy, Debug, PartialEq, Eq)]
+pub enum Command {
+    /// Works the chunks of the input.
+    Run,
+    /// Says how much there is in the folder.
+    Recover,
+}
+
+/// A command, and the folder that it is for.
+#[derive(Clone, Copy)]
+pub(crate) struct Request<'w> {
+    pub folder: &'w Text,
+    pub command: Command,
+}
 
 fn is_text(word: &Text) -> bool
     ensures { IsTrue result ↔ IsUtf8 word.now }
@@ -23,28 +39,35 @@ fn is_folder(word: &Text) -> bool
     is_text(word) && !word.bytes().is_empty() && !is_option(word)
 }
 
-fn is_run(word: &Text) -> bool
-    ensures { IsTrue result ↔ (word.now ≡ codes "run") }
+/// The command that a word names.
+fn command_of(word: &Text) -> Option<Command>
+    ensures found { IfSome result (λ command. word.now ≡ command_word command) }
+    ensures none { IfNone result ((command : Command) → word.now ≡ command_word command → ⊥) }
 {
-    word.bytes() == b"run".as_slice()
+    let bytes = word.bytes();
+    if bytes == b"run".as_slice() {
+        return Some(Command::Run);
+    }
+    if bytes == b"recover".as_slice() {
+        return Some(Command::Recover);
+    }
+    None
 }
 
-/// The folder, where the words ask for a run in it.
-pub(crate) fn folder_of(words: &[Text]) -> Option<&Text>
-    ensures found { IfSome result (λ folder. IsRun words.now folder.now) }
-    ensures none { IfNone result ((folder : List ℕ) → IsRun words.now folder → ⊥) }
+/// What the words ask for, if anything.
+pub(crate) fn request_of(words: &[Text]) -> Option<Request<'_>>
+    ensures found { IfSome result (λ request. Asks words.now request.folder.now request.command) }
+    ensures none { IfNone result ((folder : List ℕ) (command : Command) → Asks words.now folder command → ⊥) }
 {
     let [program, folder, command] = words else {
         return None;
     };
-    if !is_run(command) {
-        return None;
-    }
+    let command = command_of(command)?;
     if !is_folder(folder) {
         return None;
     }
     if !is_text(program) {
         return None;
     }
-    Some(folder)
+    Some(Request { folder, command })
 }

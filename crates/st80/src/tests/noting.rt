@@ -1,10 +1,10 @@
-// An outside that notes the folder that it is handed, and says how long its log is. It tells nothing of its disk.
+// An outside that notes the folder that it is handed. It tells nothing of its disk, whose files stay empty.
 ghost use Rattle.std.specs.Prelude.{◌≡◌, ℕ, List, false, None, refl, [], length};
 ghost use Rattle.std.proofs.Common.{ap};
 ghost use Rattle.s80_base.specs.Memory.{bytes_of, takes_failed, puts_failed};
 ghost use Rattle.s80_disk.specs.Untold.{untold, files_untold, no_moment_untold};
 
-use super::{RUN, texts};
+use super::texts;
 use crate::{Status, st80};
 use s80_base::{Clock, Failed, MemSink, MemSource, Sink, Source, Text};
 use s80_disk::{Disk, FileId, Outside};
@@ -15,7 +15,6 @@ struct Noting {
     source: MemSource,
     sink: MemSink,
     attached: Text,
-    log_length: u64,
 }
 
 impl Source for Noting {
@@ -88,15 +87,14 @@ impl Disk for Noting {
     }
 
     fn length(&mut self, _file: FileId) -> Result<u64, Failed> {
-        Ok(self.log_length)
+        Ok(0)
     }
 
     fn read_at(&mut self, _file: FileId, _at: u64, _buf: &mut [u8]) -> Result<usize, Failed> {
         Ok(0)
     }
 
-    fn write_at(&mut self, _file: FileId, at: u64, piece: &[u8]) -> Result<(), Failed> {
-        self.log_length = at.saturating_add(piece.len() as u64);
+    fn write_at(&mut self, _file: FileId, _at: u64, _piece: &[u8]) -> Result<(), Failed> {
         Ok(())
     }
 
@@ -135,31 +133,9 @@ fn the_folder_is_handed_on(rt: HostRuntime) -> Result<(), Fail> {
         source: MemSource::make(rt.alloc(), b"", 1, &[])?,
         sink: MemSink::make(rt.alloc(), 64, &[])?,
         attached: Text::empty(rt.alloc()),
-        log_length: 0,
     };
     let words = texts(rt.alloc(), &[b"st80", b"a folder/of mine", b"run"])?;
     assert_eq!(rt; st80(rt.alloc(), &words, &mut outside), Status::Done);
     assert_eq!(rt; outside.attached.bytes(), b"a folder/of mine".as_slice());
-    Ok(())
-}
-
-#[test]
-fn a_log_of_a_gibibyte_is_full(rt: HostRuntime) -> Result<(), Fail> {
-    let mut outside = Noting {
-        source: MemSource::make(rt.alloc(), b"1! 2! 3 + 4!", 4096, &[])?,
-        sink: MemSink::make(rt.alloc(), 256, &[])?,
-        attached: Text::empty(rt.alloc()),
-        log_length: (1 << 30) - 6,
-    };
-    let words = texts(rt.alloc(), &RUN)?;
-    assert_eq!(rt;
-        st80(rt.alloc(), &words, &mut outside),
-        Status::DoneWithRefusals
-    );
-    assert_eq!(rt;
-        outside.sink.bytes(),
-        b"ok\nok\nrefused 12 log full 1073741824\n".as_slice()
-    );
-    assert_eq!(rt; outside.log_length, 1 << 30);
     Ok(())
 }

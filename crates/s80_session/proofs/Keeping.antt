@@ -1,0 +1,39 @@
+-- A keeper at work on a disk, and what a crash now leaves of it.
+use Rattle.std.proofs.Common.{◌≡◌, inl, inr, ⊎_elim, List, Bool, ap, ◌∙◌, sym}
+use Rattle.s80_change.specs.declared.change.Change.{Change}
+use Rattle.s80_disk.specs.declared.disk.FileId.TheVariants.{Mark}
+use Rattle.s80_disk.specs.Image.{Image}
+use Rattle.s80_mark.specs.Mark.{valid_mark}
+use Rattle.s80_keeper.specs.Keeper.{KeeperState, Keeps}
+use Rattle.s80_keeper.specs.Standing.{FilesStandFor, StandsFor}
+
+module _ (tells : Bool) (reads : Image) (may_leave : Image → Type 0) (keeper : KeeperState) (changes : List Change) where
+  -- the same where a crash leaves no more
+  pub keeps_less : (was : Image → Type 0) → ((c : Image) → may_leave c → was c) → Keeps tells reads was keeper changes → Keeps tells reads may_leave keeper changes
+  keeps_less was less h = record {
+    stands = record { told = h.stands.told; files = h.stands.files; mark_stays = λ c left. h.stands.mark_stays c (less c left); log_stays = λ c left. h.stands.log_stays c (less c left) };
+    no_image = h.no_image;
+    named = h.named;
+    end = h.end;
+    count = h.count;
+    faultless = h.faultless;
+  }
+
+  pub keeps_stands : Keeps tells reads may_leave keeper changes → StandsFor tells reads may_leave changes
+  keeps_stands h = record { told = h.stands.told; stands = inr (keeper.mark, h.stands, h.no_image) }
+
+  -- every crash now leaves files that stand for its list
+  pub keeps_leaves : Keeps tells reads may_leave keeper changes → (c : Image) → may_leave c → FilesStandFor c changes
+  keeps_leaves h c left =
+      let files = h.stands.files in
+      inr (
+        keeper.mark,
+        record {
+          valid = ap valid_mark (h.stands.mark_stays c left) ∙ files.valid;
+          numbers = files.numbers;
+          list = files.list;
+          whole = files.whole;
+          bytes = h.stands.log_stays c left ∙ files.bytes;
+        },
+        h.no_image,
+      )

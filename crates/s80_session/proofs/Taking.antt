@@ -1,0 +1,173 @@
+-- The input, taken piece by piece and answered as far as it is whole.
+use Rattle.std.proofs.Common.{◌≡◌, inl, ℕ, ◌≤◌, List, [], ◌∷◌, ◌++◌, length, refl, sym, ap, subst, ◌∙◌, Ok, Err, Some, Bool, true, false, append_assoc, arith}
+use Rattle.std.proofs.lemmas.List.{append-nil}
+use Rattle.s80_chunk.specs.declared.item.Item.{Item}
+use Rattle.s80_chunk.specs.Chunks.{Reads}
+use Rattle.s80_chunk.specs.Chunks.Reads.{stop}
+use Rattle.s80_chunk.specs.Held.{Held, HasRead, HoldsNoMore, fed}
+use Rattle.s80_chunk.proofs.Reading.{reads_more, reads_ended}
+use Rattle.s80_change.specs.declared.change.Change.{Change}
+use Rattle.s80_disk.specs.Image.{Image}
+use Rattle.s80_keeper.specs.Keeper.{KeeperState, Keeps}
+use Rattle.s80_session.specs.declared.item.SessionItem.{SessionItem}
+use Rattle.s80_session.specs.declared.item.SessionItem.TheVariants.{Chunk}
+use Rattle.s80_session.specs.declared.end.SessionEnd.{SessionEnd}
+use Rattle.s80_session.specs.declared.end.SessionEnd.TheVariants as ends
+use Rattle.s80_session.specs.Replies.{list_after_all, replies}
+use Rattle.s80_session.specs.Run.{Shown, ShownFor, chunks, FirstItemsOf, WholeItemsOf, Answered, BrokeOff, Ends, input_limit}
+use Rattle.s80_session.specs.Working.{IsAt, IsWorking, BeginsWith, BreaksOff, AnswersAll, Takes, AtEnd}
+use Rattle.s80_session.proofs.Answering.{chunks_more}
+use Rattle.s80_session.proofs.Keeping.{keeps_less, keeps_stands}
+
+-- a front of the input was taken, and what is whole of it is answered
+pub record IsTaking (may_leave : Image → Type 0) (now : Shown) (keeper : KeeperState) (troubled : Bool) (reader : Held) (changes : List Change) (input before : List ℕ) : Type 0 where
+  pub bytes : List ℕ
+  pub left : List ℕ
+  pub given : List Item
+  pub input_is : input ≡ bytes ++ left
+  pub left_is : now.left ≡ Some left
+  pub working : IsWorking may_leave now keeper troubled reader changes before bytes given
+  pub none : HoldsNoMore false bytes given
+
+-- what a front of the input reads as is what the input begins with
+pub first_of : (ended : Bool) (bytes left input : List ℕ) (given : List Item) → BeginsWith ended bytes given → input ≡ bytes ++ left → (ended ≡ true → left ≡ []) → FirstItemsOf input (chunks given)
+first_of false bytes left input given h is none =
+    let P : List ℕ → Type 0 = λ l. Reads true false l given (h.0 ++ left) in
+    inl (given, h.0 ++ left, subst P (sym is) (reads_ended false (bytes ++ left) given (h.0 ++ left) (reads_more false bytes left given h.0 h.1)), refl)
+first_of true bytes left input given h is none =
+    let P : List ℕ → Type 0 = λ l. Reads true false l given h.0 in
+    inl (given, h.0, subst P (sym (is ∙ ap (λ (l : List ℕ). bytes ++ l) (none refl) ∙ append-nil bytes)) h.1, refl)
+
+pub answered_all : (may_leave : Image → Type 0) (now : Shown) (keeper : KeeperState) (changes : List Change) (before : List ℕ) (items : List SessionItem) → IsAt may_leave now keeper (list_after_all changes items) (before ++ replies changes items) → Answered may_leave now changes before items
+answered_all may_leave now keeper changes before items h = record { stands = keeps_stands now.tells now.files may_leave keeper (list_after_all changes items) h.keeps; taken = h.taken }
+
+-- where the answering breaks off, the run does
+pub breaks : (T : Type 0) (end : SessionEnd) (may_leave : Image → Type 0) (now : Shown) (keeper : KeeperState) (ended refused : Bool) (changes : List Change) (before bytes left input : List ℕ) → BreaksOff end may_leave now keeper ended changes before bytes → input ≡ bytes ++ left → (ended ≡ true → left ≡ []) → Ends {T = T} (Err end) may_leave now refused changes input before
+breaks T ends.Memory may_leave now keeper ended refused changes before bytes left input h is none = record {
+  items = chunks h.0;
+  first = first_of ended bytes left input h.0 h.1 is none;
+  answered = answered_all may_leave now keeper changes before (chunks h.0) h.2;
+}
+breaks T (ends.Disk failed) may_leave now keeper ended refused changes before bytes left input h is none = record {
+  items = chunks h.0;
+  first = first_of ended bytes left input h.0 h.1 is none;
+  taken = h.2;
+}
+breaks T (ends.Write failed) may_leave now keeper ended refused changes before bytes left input h is none =
+    let P : List SessionItem → Type 0 = λ l. FirstItemsOf input l in
+    let Q : List SessionItem → Type 0 = λ l. ShownFor may_leave now (list_after_all changes l) in
+    record {
+      items = chunks h.0;
+      last = Chunk h.1;
+      count = h.2;
+      first = subst P (chunks_more h.0 h.1) (first_of ended bytes left input (h.0 ++ h.1 ∷ []) h.3 is none);
+      stands = subst Q (chunks_more h.0 h.1) (keeps_stands now.tells now.files may_leave keeper (list_after_all changes (chunks (h.0 ++ h.1 ∷ []))) h.4.keeps);
+      taken = h.4.taken;
+    }
+breaks T (ends.Read failed) may_leave now keeper ended refused changes before bytes left input h is none = absurd h
+breaks T ends.TooLong may_leave now keeper ended refused changes before bytes left input h is none = absurd h
+breaks T (ends.Damaged damage) may_leave now keeper ended refused changes before bytes left input h is none = absurd h
+
+whole_of : (reader : Held) (bytes : List ℕ) (given : List Item) → reader.ended ≡ false → HasRead reader bytes given → HoldsNoMore false bytes given → WholeItemsOf bytes (chunks given)
+whole_of reader bytes given opened read none =
+    let P : Bool → Type 0 = λ b. Reads b false bytes given read.rest in
+    (given, read.rest, subst P opened read.reads, none, refl)
+
+-- taking input leaves what the disk stands for, and what was put
+at_take : (was_left may_leave : Image → Type 0) (mid now : Shown) (keeper : KeeperState) (changes : List Change) (put : List ℕ) → now ≡ record mid { left = now.left } → ((c : Image) → may_leave c → was_left c) → IsAt was_left mid keeper changes put → IsAt may_leave now keeper changes put
+at_take was_left may_leave mid now keeper changes put e less h =
+    let P : Shown → Type 0 = λ s. IsAt may_leave s keeper changes put in
+    subst P (sym e) (record { keeps = keeps_less mid.tells mid.files may_leave keeper changes was_left less h.keeps; taken = h.taken; told = h.told })
+
+-- a run to which no more input came
+pub no_more : (T : Type 0) (end : SessionEnd) (was_left may_leave : Image → Type 0) (mid now : Shown) (keeper : KeeperState) (troubled refused : Bool) (was reader : Held) (changes : List Change) (input before : List ℕ) → (h : IsTaking was_left mid keeper troubled was changes input before) → was.ended ≡ false → now ≡ record mid { left = now.left } → ((c : Image) → may_leave c → was_left c) → (n : ℕ) → fed was ≡ n → Takes (Err end) now n reader h.left h.bytes h.given → Ends {T = T} (Err end) may_leave now refused changes input before
+no_more T (ends.Read failed) was_left may_leave mid now keeper troubled refused was reader changes input before h opened e less n counted t = record {
+  items = chunks h.given;
+  got = h.bytes;
+  left = h.left;
+  input_is = h.input_is;
+  left_is = t.0;
+  whole = whole_of was h.bytes h.given opened h.working.read h.none;
+  answered = answered_all may_leave now keeper changes before (chunks h.given) (at_take was_left may_leave mid now keeper (list_after_all changes (chunks h.given)) (before ++ replies changes (chunks h.given)) e less h.working.at);
+}
+no_more T ends.TooLong was_left may_leave mid now keeper troubled refused was reader changes input before h opened e less n counted t = record {
+  items = chunks h.given;
+  got = h.bytes;
+  next = t.0;
+  left = t.1;
+  input_is = h.input_is ∙ ap (λ (l : List ℕ). h.bytes ++ l) t.2;
+  limit = sym h.working.read.counted ∙ counted ∙ t.5;
+  left_is = t.3;
+  whole = whole_of was h.bytes h.given opened h.working.read h.none;
+  answered = answered_all may_leave now keeper changes before (chunks h.given) (at_take was_left may_leave mid now keeper (list_after_all changes (chunks h.given)) (before ++ replies changes (chunks h.given)) e less h.working.at);
+}
+no_more T ends.Memory was_left may_leave mid now keeper troubled refused was reader changes input before h opened e less n counted t = absurd t
+no_more T (ends.Damaged damage) was_left may_leave mid now keeper troubled refused was reader changes input before h opened e less n counted t = absurd t
+no_more T (ends.Write failed) was_left may_leave mid now keeper troubled refused was reader changes input before h opened e less n counted t = absurd t
+no_more T (ends.Disk failed) was_left may_leave mid now keeper troubled refused was reader changes input before h opened e less n counted t = absurd t
+
+-- a piece more is fed
+pub record IsFed (may_leave : Image → Type 0) (now : Shown) (keeper : KeeperState) (troubled : Bool) (reader : Held) (changes : List Change) (input before : List ℕ) (count : ℕ) : Type 0 where
+  pub bytes : List ℕ
+  pub left : List ℕ
+  pub given : List Item
+  pub input_is : input ≡ bytes ++ left
+  pub left_is : now.left ≡ Some left
+  pub working : IsWorking may_leave now keeper troubled reader changes before bytes given
+  pub none : count ≡ 0 → left ≡ []
+
+pub fed_more : (was_left may_leave : Image → Type 0) (mid now : Shown) (keeper : KeeperState) (troubled : Bool) (was reader : Held) (changes : List Change) (input before : List ℕ) (n count : ℕ) → (h : IsTaking was_left mid keeper troubled was changes input before) → now ≡ record mid { left = now.left } → ((c : Image) → may_leave c → was_left c) → Takes (Ok count) now n reader h.left h.bytes h.given → IsFed may_leave now keeper troubled reader changes input before count
+fed_more was_left may_leave mid now keeper troubled was reader changes input before n count h e less t = record {
+  bytes = h.bytes ++ t.0;
+  left = t.1;
+  given = h.given;
+  input_is = h.input_is ∙ ap (λ (l : List ℕ). h.bytes ++ l) t.3 ∙ sym (append_assoc h.bytes t.0 t.1);
+  left_is = t.4;
+  working = record {
+    read = t.5;
+    at = at_take was_left may_leave mid now keeper (list_after_all changes (chunks h.given)) (before ++ replies changes (chunks h.given)) e less h.working.at;
+    refused = h.working.refused;
+  };
+  none = t.6;
+}
+
+-- what is whole of it is answered
+pub taking_on : (may_leave : Image → Type 0) (mid now : Shown) (keeper : KeeperState) (troubled : Bool) (reader : Held) (changes : List Change) (input before bytes left : List ℕ) → input ≡ bytes ++ left → mid.left ≡ Some left → now.left ≡ mid.left → reader.ended ≡ false → AnswersAll {T = Unit {0}} (Ok tt) may_leave now keeper troubled reader changes before bytes → IsTaking may_leave now keeper troubled reader changes input before
+taking_on may_leave mid now keeper troubled reader changes input before bytes left is left_is same opened h = record {
+  bytes = bytes;
+  left = left;
+  given = h.0;
+  input_is = is;
+  left_is = same ∙ left_is;
+  working = h.1;
+  none = let P : Bool → Type 0 = λ b. HoldsNoMore b bytes h.0 in subst P opened h.2;
+}
+
+-- the input is at its end
+pub at_end : (may_leave : Image → Type 0) (now : Shown) (keeper : KeeperState) (troubled : Bool) (was reader : Held) (changes : List Change) (input before : List ℕ) (count : ℕ) → (h : IsFed may_leave now keeper troubled was changes input before count) → count ≡ 0 → fed was ≤ input_limit → HasRead reader h.bytes h.given → AtEnd may_leave now keeper troubled reader changes input before
+at_end may_leave now keeper troubled was reader changes input before count h none within read =
+    let input_is : input ≡ h.bytes = h.input_is ∙ ap (λ (l : List ℕ). h.bytes ++ l) (h.none none) ∙ append-nil h.bytes in
+    let P : List ℕ → Type 0 = λ l. HasRead reader l h.given in
+    let size : length input ≡ fed was = ap length input_is ∙ sym h.working.read.counted in
+    record {
+      given = h.given;
+      working = record { read = subst P (sym input_is) read; at = h.working.at; refused = h.working.refused };
+      left = h.left_is ∙ ap Some (h.none none);
+      within = omega (arith, size, within);
+    }
+
+pub still_open : (b : Bool) (left : List ℕ) → b ≡ false → b ≡ true → left ≡ []
+still_open b left is not = cc
+
+-- before any item
+pub starts_working : (may_leave : Image → Type 0) (o : Shown) (keeper : KeeperState) (troubled : Bool) (reader : Held) (changes : List Change) (before : List ℕ) → HasRead reader [] [] → troubled ≡ false → IsAt may_leave o keeper changes before → IsWorking may_leave o keeper troubled reader changes before [] []
+starts_working may_leave o keeper troubled reader changes before read calm h =
+    let P : List ℕ → Type 0 = λ l. IsAt may_leave o keeper changes l in
+    record { read = read; at = subst P (sym (append-nil before)) h; refused = calm }
+
+pub broke_at_start : (may_leave : Image → Type 0) (now : Shown) (keeper : KeeperState) (changes : List Change) (input before : List ℕ) → IsAt may_leave now keeper changes before → BrokeOff may_leave now changes input before
+broke_at_start may_leave now keeper changes input before h = record {
+  items = [];
+  first = inl ([], input, stop refl refl, refl);
+  answered = record { stands = keeps_stands now.tells now.files may_leave keeper changes h.keeps; taken = h.taken ∙ ap Some (sym (append-nil before)) };
+}

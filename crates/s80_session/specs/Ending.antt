@@ -1,0 +1,49 @@
+-- Why a run ends, and what its counts of faults say of that.
+use Rattle.std.specs.Prelude.{ℕ, ◌≤◌, Result, Ok, Err}
+use Rattle.s80_base.specs.Causes.{Rose}
+use Rattle.s80_session.specs.declared.end.SessionEnd.{SessionEnd}
+use Rattle.s80_session.specs.declared.end.SessionEnd.TheVariants as ends
+
+-- how often a read, a write and a call of the disk have failed
+pub record Faults : Type 0 where
+  pub read : ℕ
+  pub write : ℕ
+  pub disk : ℕ
+
+-- the counts of faults of an outside
+abbrev pub faults : {O : Type 0} → (O → ℕ) → (O → ℕ) → (O → ℕ) → O → Faults
+faults read write disk o = record { read = read o; write = write o; disk = disk o }
+
+-- no count falls
+pub record NoFewer (before now : Faults) : Type 0 where
+  pub read : before.read ≤ now.read
+  pub write : before.write ≤ now.write
+  pub disk : before.disk ≤ now.disk
+
+-- A fault is answered only where its count rose. No damage is met after the start.
+abbrev pub HasReason : Faults → Faults → SessionEnd → Type 0
+HasReason before now ends.Memory = Unit {0}
+HasReason before now (ends.Read failed) = Rose before.read now.read
+HasReason before now (ends.Write failed) = Rose before.write now.write
+HasReason before now (ends.Disk failed) = Rose before.disk now.disk
+HasReason before now (ends.Damaged damage) = ⊥
+HasReason before now ends.TooLong = Unit {0}
+
+abbrev pub EndsForReason : {T : Type 0} → Faults → Faults → Result T SessionEnd → Type 0
+EndsForReason before now (Ok value) = Unit {0}
+EndsForReason before now (Err end) = HasReason before now end
+
+-- the counts of faults before and after a call, and what it answered
+pub record Counts {T : Type 0} (before now : Faults) (result : Result T SessionEnd) : Type 0 where
+  pub later : NoFewer before now
+  pub reason : EndsForReason before now result
+
+-- the same for a start: it meets no fault of the input or the output
+abbrev pub StartsForReason : {T : Type 0} → Faults → Faults → Result T SessionEnd → Type 0
+StartsForReason before now (Ok value) = Unit {0}
+StartsForReason before now (Err ends.Memory) = Unit {0}
+StartsForReason before now (Err (ends.Disk failed)) = Rose before.disk now.disk
+StartsForReason before now (Err (ends.Damaged damage)) = Unit {0}
+StartsForReason before now (Err (ends.Read failed)) = ⊥
+StartsForReason before now (Err (ends.Write failed)) = ⊥
+StartsForReason before now (Err ends.TooLong) = ⊥

@@ -1,0 +1,7 @@
+pub mod Replies
+pub mod Ending
+pub mod Ends
+pub mod Putting
+pub mod Run
+pub mod Session
+pub mod Working

@@ -1,0 +1,128 @@
+-- What a run leaves: on its disk, of its input and in its output.
+use Rattle.std.specs.Prelude.{◌≡◌, ◌⊎◌, ℕ, ◌^◌, ◌≤◌, Bool, true, false, List, [], ◌∷◌, ◌++◌, length, map, take, Option, Some, Result, Ok, Err}
+use Rattle.s80_chunk.specs.declared.item.Item.{Item}
+use Rattle.s80_chunk.specs.Chunks.{Reads, IsReading, IsBlank}
+use Rattle.s80_chunk.specs.Held.{HoldsNoMore}
+use Rattle.s80_change.specs.declared.change.Change.{Change}
+use Rattle.s80_disk.specs.Image.{Image}
+use Rattle.s80_keeper.specs.Standing.{FilesStandFor, StandsFor}
+use Rattle.s80_session.specs.declared.item.SessionItem.{SessionItem}
+use Rattle.s80_session.specs.declared.item.SessionItem.TheVariants.{Chunk, Unended}
+use Rattle.s80_session.specs.declared.end.SessionEnd.{SessionEnd}
+use Rattle.s80_session.specs.declared.end.SessionEnd.TheVariants as ends
+use Rattle.s80_session.specs.Replies.{replies, reply_to, reply_text, list_after_all, any_refused}
+
+-- what an outside shows: whether it tells its contents, what its files read, what is left of its input, the bytes that it took, and their number
+pub record Shown : Type 0 where
+  pub tells : Bool
+  pub files : Image
+  pub left : Option (List ℕ)
+  pub taken : Option (List ℕ)
+  pub told : ℕ
+
+abbrev pub shown : {O : Type 0} → (O → Bool) → (O → Image) → (O → Option (List ℕ)) → (O → Option (List ℕ)) → (O → ℕ) → O → Shown
+shown tells reads left taken told o = record { tells = tells o; files = reads o; left = left o; taken = taken o; told = told o }
+
+-- what an outside shows stands for a list
+abbrev pub ShownFor : (Image → Type 0) → Shown → List Change → Type 0
+ShownFor may_leave o changes = StandsFor o.tells o.files may_leave changes
+
+-- at most so many bytes are told, and a crash leaves files that stand for this list
+pub record HasKept (changes : List Change) (most told : ℕ) (c : Image) : Type 0 where
+  pub no_more : told ≤ most
+  pub files : FilesStandFor c changes
+
+abbrev pub chunks : List Item → List SessionItem
+chunks given = map Chunk given
+
+-- the items of a whole input: those of its reading, and one more where it ends within an item
+abbrev pub ItemsOf : List ℕ → List SessionItem → Type 0
+ItemsOf input items =
+    (given : List Item) × (rest : List ℕ) × IsReading input given rest
+    × ((IsBlank rest × (items ≡ chunks given)) ⊎ ((IsBlank rest → ⊥) × (items ≡ chunks given ++ Unended ∷ [])))
+
+-- the first items of an input: a front of it reads as these, or they are all of them
+abbrev pub FirstItemsOf : List ℕ → List SessionItem → Type 0
+FirstItemsOf input items =
+    ((given : List Item) × (rest : List ℕ) × Reads true false input given rest × (items ≡ chunks given)) ⊎ ItemsOf input items
+
+-- all whole items of bytes behind which more may follow
+abbrev pub WholeItemsOf : List ℕ → List SessionItem → Type 0
+WholeItemsOf bytes items =
+    (given : List Item) × (rest : List ℕ) × Reads false false bytes given rest × HoldsNoMore false bytes given × (items ≡ chunks given)
+
+abbrev pub input_limit : ℕ
+input_limit = 2 ^ 30
+
+-- the items were worked: the disk stands for the list after them, and their replies were put behind what was there
+pub record Answered (may_leave : Image → Type 0) (now : Shown) (changes : List Change) (before : List ℕ) (items : List SessionItem) : Type 0 where
+  pub stands : ShownFor may_leave now (list_after_all changes items)
+  pub taken : now.taken ≡ Some (before ++ replies changes items)
+
+-- a run that came to the end of its input
+pub record Finished (may_leave : Image → Type 0) (now : Shown) (changes : List Change) (input before : List ℕ) (refused : Bool) : Type 0 where
+  pub items : List SessionItem
+  pub all : ItemsOf input items
+  pub within : length input ≤ input_limit
+  pub left : now.left ≡ Some []
+  pub answered : Answered may_leave now changes before items
+  pub troubled : any_refused changes items ≡ refused
+
+-- a run to which no more input came: all whole items of the bytes taken are answered
+pub record CutOff (may_leave : Image → Type 0) (now : Shown) (changes : List Change) (input before : List ℕ) : Type 0 where
+  pub items : List SessionItem
+  pub got : List ℕ
+  pub left : List ℕ
+  pub input_is : input ≡ got ++ left
+  pub left_is : now.left ≡ Some left
+  pub whole : WholeItemsOf got items
+  pub answered : Answered may_leave now changes before items
+
+-- the same, where the limit of the input was reached and one byte came behind it
+pub record TooLong (may_leave : Image → Type 0) (now : Shown) (changes : List Change) (input before : List ℕ) : Type 0 where
+  pub items : List SessionItem
+  pub got : List ℕ
+  pub next : ℕ
+  pub left : List ℕ
+  pub input_is : input ≡ got ++ next ∷ left
+  pub limit : length got ≡ input_limit
+  pub left_is : now.left ≡ Some left
+  pub whole : WholeItemsOf got items
+  pub answered : Answered may_leave now changes before items
+
+-- a run that broke off between two items, or before an item had changed anything
+pub record BrokeOff (may_leave : Image → Type 0) (now : Shown) (changes : List Change) (input before : List ℕ) : Type 0 where
+  pub items : List SessionItem
+  pub first : FirstItemsOf input items
+  pub answered : Answered may_leave now changes before items
+
+-- a run whose output failed within the reply to an item that it had worked
+pub record Unanswered (may_leave : Image → Type 0) (now : Shown) (changes : List Change) (input before : List ℕ) : Type 0 where
+  pub items : List SessionItem
+  pub last : SessionItem
+  pub count : ℕ
+  pub first : FirstItemsOf input (items ++ last ∷ [])
+  pub stands : ShownFor may_leave now (list_after_all changes (items ++ last ∷ []))
+  pub taken : now.taken ≡ Some ((before ++ replies changes items) ++ take count (reply_text (reply_to (list_after_all changes items) last)))
+
+-- a run whose disk failed: nothing is said of the disk
+pub record LostDisk (now : Shown) (changes : List Change) (input before : List ℕ) : Type 0 where
+  pub items : List SessionItem
+  pub first : FirstItemsOf input items
+  pub taken : now.taken ≡ Some (before ++ replies changes items)
+
+-- what a run leaves, by how it ends
+abbrev pub Ends : {T : Type 0} → Result T SessionEnd → (Image → Type 0) → Shown → Bool → List Change → List ℕ → List ℕ → Type 0
+Ends (Ok done) may_leave now refused changes input before = Finished may_leave now changes input before refused
+Ends (Err ends.Memory) may_leave now refused changes input before = BrokeOff may_leave now changes input before
+Ends (Err (ends.Read failed)) may_leave now refused changes input before = CutOff may_leave now changes input before
+Ends (Err (ends.Write failed)) may_leave now refused changes input before = Unanswered may_leave now changes input before
+Ends (Err (ends.Disk failed)) may_leave now refused changes input before = LostDisk now changes input before
+Ends (Err (ends.Damaged damage)) may_leave now refused changes input before = ⊥
+Ends (Err ends.TooLong) may_leave now refused changes input before = TooLong may_leave now changes input before
+
+-- What a crash leaves at a moment at which so many bytes are told: files that stand for the list after the first items of the input, up
+-- to one at least whose reply is among the bytes told. So no change is answered that a crash takes.
+abbrev pub Keeps : List Change → List ℕ → List ℕ → ℕ → Image → Type 0
+Keeps changes input before told c =
+    (items : List SessionItem) × FirstItemsOf input items × HasKept (list_after_all changes items) (length (before ++ replies changes items)) told c

@@ -1,0 +1,15 @@
+-- What a session holds.
+use Rattle.std.specs.Prelude.{◌≡◌, Bool, None}
+use Rattle.s80_keeper.specs.Keeper.{KeeperState}
+use Rattle.s80_session.specs.declared.session.Session.{Session}
+
+abbrev pub keeper_of : Session → KeeperState
+keeper_of session = session.keeper
+
+-- whether some item was refused
+abbrev pub troubled_of : Session → Bool
+troubled_of session = session.troubled
+
+-- no call of the disk has failed in it
+abbrev pub IsFaultless : Session → Type 0
+IsFaultless session = session.keeper.fault ≡ None

@@ -1,0 +1,162 @@
+// The input of a run, taken in pieces and worked item by item.
+ghost use Rattle.std.specs.Prelude.{◌≡◌, ◌+◌, ◌≤◌, ◌<◌, ℕ, List, [], false, true, length, Some, IfOk, OnOk};
+ghost use Rattle.s80_chunk.specs.declared.item.Item.{Item};
+ghost use Rattle.s80_chunk.specs.Held.{HasRead, IsSpent, fed};
+ghost use Rattle.s80_change.specs.declared.change.Change.{Change};
+ghost use Rattle.s80_session.specs.Ending.{faults, Counts};
+ghost use Rattle.s80_disk.specs.declared.disk.FileId.{FileId};
+ghost use Rattle.s80_disk.specs.Moments.{LeavesOnly};
+ghost use Rattle.s80_session.specs.Putting.{IsAsBefore};
+ghost use Rattle.s80_session.specs.Run.{shown, input_limit, Ends, Keeps};
+ghost use Rattle.s80_session.specs.Session.{keeper_of, troubled_of, IsFaultless};
+ghost use Rattle.s80_session.specs.Working.{IsAt, IsWorking, AnswersAll, AnswersLeave, Takes, TakesAll};
+
+use crate::end::SessionEnd;
+use crate::item::SessionItem;
+use crate::outside::take_some;
+use crate::session::Session;
+use s80_chunk::{ChunkReader, Rest};
+use s80_disk::Outside;
+use std::alloc::Global;
+
+/// The greatest length of an input.
+const INPUT_LIMIT: u64 = 1 << 30;
+
+/// How many bytes are taken at once.
+const PIECE: usize = 4096;
+
+/// Takes the next piece of the input and feeds it. Says how many bytes it has: none at the end of the input.
+fn take_piece<O: Outside>(
+    reader: &mut ChunkReader,
+    taken: u64,
+    outside: &mut O,
+) -> Result<usize, SessionEnd>
+    requires open { reader.old.ended ≡ false }
+    requires room { reader.old.room ≡ 4096 }
+    requires counted { fed reader.old ≡ taken }
+    requires within { taken ≤ input_limit }
+    ensures took { (left bytes : List ℕ) (given : List Item) → O.left outside.old ≡ Some left → HasRead reader.old bytes given
+        → Takes result (shown O.tells O.reads O.left O.taken O.told outside.new) taken reader.new left bytes given }
+    ensures shown { shown O.tells O.reads O.left O.taken O.told outside.new
+        ≡ record (shown O.tells O.reads O.left O.taken O.told outside.old) { left = O.left outside.new } }
+    ensures counts { Counts (faults O.read_faults O.write_faults O.disk_faults outside.old)
+        (faults O.read_faults O.write_faults O.disk_faults outside.new) result }
+    ensures images { (c : FileId → List ℕ) → O.may_leave outside.new c → O.may_leave outside.old c }
+    ensures any_moment { LeavesOnly O.moment O.left_since outside.old outside.new
+        (IsAsBefore (O.may_leave outside.old) (O.told outside.old) 0) }
+    ensures open { reader.new.ended ≡ false }
+    ensures counted { IfOk result (λ count. fed reader.new ≡ taken + count) }
+    ensures within { IfOk result (λ count. taken + count ≤ input_limit) }
+{
+    let mut buf = [0; PIECE];
+    let wanted = (INPUT_LIMIT - taken).clamp(1, PIECE as u64) as usize;
+    let count = take_some(outside, &mut buf[..wanted]).map_err(SessionEnd::Read)?;
+    if taken == INPUT_LIMIT && count > 0 {
+        return Err(SessionEnd::TooLong);
+    }
+    reader.feed(&buf[..count]);
+    Ok(count)
+}
+
+impl Session {
+    /// Works and answers all whole items that the reader holds.
+    fn answer_items<O: Outside>(
+        &mut self,
+        alloc: Global,
+        reader: &mut ChunkReader,
+        outside: &mut O,
+    ) -> Result<(), SessionEnd>
+        requires faultless { IsFaultless self.old }
+        ensures answered { (changes : List Change) (before bytes : List ℕ) (given : List Item)
+            → IsWorking (O.may_leave outside.old)
+            (shown O.tells O.reads O.left O.taken O.told outside.old) (keeper_of self.old) (troubled_of self.old) reader.old changes before bytes given
+            → AnswersAll result (O.may_leave outside.new)
+            (shown O.tells O.reads O.left O.taken O.told outside.new) (keeper_of self.new) (troubled_of self.new) reader.new changes before bytes }
+        ensures any_moment { (changes : List Change) (before bytes : List ℕ) (given : List Item)
+            → IsWorking (O.may_leave outside.old)
+            (shown O.tells O.reads O.left O.taken O.told outside.old) (keeper_of self.old) (troubled_of self.old) reader.old changes before bytes given
+            → LeavesOnly O.moment O.left_since outside.old outside.new (AnswersLeave reader.old.ended changes before bytes) }
+        ensures left { O.left outside.new ≡ O.left outside.old }
+        ensures counts { Counts (faults O.read_faults O.write_faults O.disk_faults outside.old)
+            (faults O.read_faults O.write_faults O.disk_faults outside.new) result }
+        ensures faultless { OnOk result (IsFaultless self.new) }
+        ensures spent { OnOk result (IsSpent reader.new × (reader.new.room ≡ 4096)) }
+        ensures fed { fed reader.new ≡ fed reader.old }
+        ensures ended { reader.new.ended ≡ reader.old.ended }
+    {
+        while let Some(item) = reader.next_item(alloc)? {
+            self.step(alloc, SessionItem::Chunk(item), outside)?;
+        }
+        Ok(())
+    }
+
+    /// Takes and feeds the whole input, and answers what is whole of it before more is taken.
+    fn take_all<O: Outside>(
+        &mut self,
+        alloc: Global,
+        reader: &mut ChunkReader,
+        outside: &mut O,
+    ) -> Result<(), SessionEnd>
+        requires faultless { IsFaultless self.old }
+        requires open { reader.old.ended ≡ false }
+        requires room { reader.old.room ≡ 4096 }
+        requires counted { fed reader.old ≡ 0 }
+        ensures took { (changes : List Change) (input before : List ℕ) → O.left outside.old ≡ Some input
+            → IsWorking (O.may_leave outside.old)
+            (shown O.tells O.reads O.left O.taken O.told outside.old) (keeper_of self.old) (troubled_of self.old) reader.old changes before [] []
+            → TakesAll result (O.may_leave outside.new)
+            (shown O.tells O.reads O.left O.taken O.told outside.new) (keeper_of self.new) (troubled_of self.new) reader.new changes input before }
+        ensures any_moment { (changes : List Change) (input before : List ℕ) → O.left outside.old ≡ Some input
+            → IsWorking (O.may_leave outside.old)
+            (shown O.tells O.reads O.left O.taken O.told outside.old) (keeper_of self.old) (troubled_of self.old) reader.old changes before [] []
+            → LeavesOnly O.moment O.left_since outside.old outside.new (Keeps changes input before) }
+        ensures counts { Counts (faults O.read_faults O.write_faults O.disk_faults outside.old)
+            (faults O.read_faults O.write_faults O.disk_faults outside.new) result }
+        ensures faultless { OnOk result (IsFaultless self.new) }
+        ensures ended { OnOk result (reader.new.ended ≡ true) }
+    {
+        let mut taken = 0;
+        self.answer_items(alloc, reader, outside)?;
+        'pieces: loop {
+            let count = take_piece(reader, taken, outside)?;
+            if count == 0 {
+                break;
+            }
+            taken += count as u64;
+            self.answer_items(alloc, reader, outside)?;
+        }
+        reader.end_input();
+        Ok(())
+    }
+
+    /// Works and answers the items of the input, to its end.
+    pub fn run_items<O: Outside>(
+        &mut self,
+        alloc: Global,
+        outside: &mut O,
+    ) -> Result<(), SessionEnd>
+        requires faultless { IsFaultless self.old }
+        ensures ran { (changes : List Change) (input before : List ℕ) → O.left outside.old ≡ Some input
+            → (troubled_of self.old) ≡ false
+            → IsAt (O.may_leave outside.old)
+            (shown O.tells O.reads O.left O.taken O.told outside.old) (keeper_of self.old) changes before
+            → Ends result (O.may_leave outside.new)
+            (shown O.tells O.reads O.left O.taken O.told outside.new) (troubled_of self.new) changes input before }
+        ensures any_moment { (changes : List Change) (input before : List ℕ) → O.left outside.old ≡ Some input
+            → (troubled_of self.old) ≡ false
+            → IsAt (O.may_leave outside.old)
+            (shown O.tells O.reads O.left O.taken O.told outside.old) (keeper_of self.old) changes before
+            → LeavesOnly O.moment O.left_since outside.old outside.new (Keeps changes input before) }
+        ensures counts { Counts (faults O.read_faults O.write_faults O.disk_faults outside.old)
+            (faults O.read_faults O.write_faults O.disk_faults outside.new) result }
+        ensures faultless { OnOk result (IsFaultless self.new) }
+    {
+        let mut reader = ChunkReader::make(alloc)?;
+        self.take_all(alloc, &mut reader, outside)?;
+        self.answer_items(alloc, &mut reader, outside)?;
+        match reader.rest() {
+            Rest::Clean => Ok(()),
+            Rest::Unended(_) => self.step(alloc, SessionItem::Unended, outside),
+        }
+    }
+}

@@ -1,0 +1,142 @@
+-- The status of work that ended so.
+use Rattle.std.proofs.Common.{◌≡◌, ◌≢◌, ℕ, List, [], ◌∷◌, ◌++◌, refl, sym, ap, subst, ◌∙◌, Result, Ok, Err, Some, Bool, true, false, arith}
+use Rattle.std.proofs.lemmas.List.{append-nil}
+use Rattle.std.specs.Prelude.{◌||◌, ◌≤◌, length, codes}
+use Rattle.s80_change.specs.declared.change.Change.{Change}
+use Rattle.s80_base.specs.Causes.{Rose}
+use Rattle.s80_disk.specs.Image.{Image}
+use Rattle.s80_keeper.specs.Keeper.{KeeperState}
+use Rattle.s80_session.specs.declared.end.SessionEnd.{SessionEnd}
+use Rattle.s80_session.specs.declared.end.SessionEnd.TheVariants as ends
+use Rattle.s80_session.specs.declared.item.SessionItem.{SessionItem}
+use Rattle.s80_session.specs.Ending.{Faults, NoFewer, HasReason, EndsForReason, StartsForReason}
+use Rattle.s80_session.specs.Replies.{reply_to, reply_text, is_refused, list_after}
+use Rattle.s80_session.specs.Run.{Shown, Answered, Ends}
+use Rattle.s80_session.specs.Working.{IsAt, IsDiskEnd, Stepped}
+use Rattle.s80_session.specs.declared.session.Session.{Session}
+use Rattle.s80_session.proofs.Keeping.{keeps_stands}
+use Rattle.st80.specs.declared.status.Status.{Status}
+use Rattle.st80.specs.declared.status.Status.TheVariants as status
+use Rattle.st80.specs.declared.words.Command.{Command}
+use Rattle.st80.specs.declared.words.Command.TheVariants.{Run, Recover}
+use Rattle.st80.specs.Ending.{StatusHasReason, status_after}
+use Rattle.st80.specs.Leaves.{RunLeaves, ItemLeaves, TellsDamage}
+use Rattle.st80.specs.Words.{command_word, Asks}
+
+-- a run that came to its end
+pub run_done : {T : Type 0} (done : T) (may_leave : Image → Type 0) (now : Shown) (troubled : Bool) (changes : List Change) (input before : List ℕ) → Ends (Ok done) may_leave now troubled changes input before → RunLeaves (status_after (Ok troubled)) may_leave now changes input before
+run_done done may_leave now true changes input before h = h
+run_done done may_leave now false changes input before h = h
+
+-- a run that broke off
+pub run_ended : (T : Type 0) (end : SessionEnd) (may_leave : Image → Type 0) (now : Shown) (troubled : Bool) (changes : List Change) (input before : List ℕ) → Ends {T = T} (Err end) may_leave now troubled changes input before → RunLeaves (status_after (Err end)) may_leave now changes input before
+run_ended T ends.Memory may_leave now troubled changes input before h = h
+run_ended T (ends.Read failed) may_leave now troubled changes input before h = h
+run_ended T (ends.Write failed) may_leave now troubled changes input before h = h
+run_ended T (ends.Disk failed) may_leave now troubled changes input before h = h
+run_ended T (ends.Damaged damage) may_leave now troubled changes input before h = absurd h
+run_ended T ends.TooLong may_leave now troubled changes input before h = h
+
+answered_item : (may_leave : Image → Type 0) (now : Shown) (keeper : KeeperState) (changes : List Change) (item : SessionItem) (before : List ℕ) → IsAt may_leave now keeper (list_after changes item) (before ++ reply_text (reply_to changes item)) → Answered may_leave now changes before (item ∷ [])
+answered_item may_leave now keeper changes item before h = record {
+  stands = keeps_stands now.tells now.files may_leave keeper (list_after changes item) h.keeps;
+  taken = h.taken ∙ ap (λ (l : List ℕ). Some (before ++ l)) (sym (append-nil (reply_text (reply_to changes item))));
+}
+
+-- an item that was worked and answered
+pub item_done : {T : Type 0} (done : T) (may_leave : Image → Type 0) (now : Shown) (keeper : KeeperState) (was troubled : Bool) (changes : List Change) (item : SessionItem) (before : List ℕ) → Stepped (Ok done) may_leave now keeper changes before item → was ≡ false → troubled ≡ (was || is_refused (reply_to changes item)) → ItemLeaves (status_after (Ok troubled)) may_leave now changes item before
+item_done done may_leave now keeper was true changes item before h calm is = (answered_item may_leave now keeper changes item before h, let P : Bool → Type 0 = λ b. true ≡ (b || is_refused (reply_to changes item)) in sym (subst P calm is))
+item_done done may_leave now keeper was false changes item before h calm is = (answered_item may_leave now keeper changes item before h, let P : Bool → Type 0 = λ b. false ≡ (b || is_refused (reply_to changes item)) in sym (subst P calm is))
+
+-- one that broke off
+pub item_ended : (T : Type 0) (end : SessionEnd) (may_leave : Image → Type 0) (now : Shown) (keeper : KeeperState) (changes : List Change) (item : SessionItem) (before : List ℕ) → Stepped {T = T} (Err end) may_leave now keeper changes before item → ItemLeaves (status_after (Err end)) may_leave now changes item before
+item_ended T ends.Memory may_leave now keeper changes item before h = record { stands = keeps_stands now.tells now.files may_leave keeper changes h.keeps; taken = h.taken ∙ ap Some (sym (append-nil before)) }
+item_ended T (ends.Disk failed) may_leave now keeper changes item before h = h
+item_ended T (ends.Write failed) may_leave now keeper changes item before h = (h.0, keeps_stands now.tells now.files may_leave keeper (list_after changes item) h.1.keeps, h.1.taken)
+item_ended T (ends.Read failed) may_leave now keeper changes item before h = absurd h
+item_ended T (ends.Damaged damage) may_leave now keeper changes item before h = absurd h
+item_ended T ends.TooLong may_leave now keeper changes item before h = absurd h
+
+pub reason_err : (end : SessionEnd) (before now : Faults) → HasReason before now end → StatusHasReason before now (status_after (Err end))
+reason_err ends.Memory before now h = tt
+reason_err (ends.Read failed) before now h = h
+reason_err (ends.Write failed) before now h = h
+reason_err (ends.Disk failed) before now h = h
+reason_err (ends.Damaged damage) before now h = tt
+reason_err ends.TooLong before now h = tt
+
+pub undamaged : (r : Result Bool SessionEnd) (before now : Faults) → EndsForReason before now r → status_after r ≡ status.Damaged → ⊥
+undamaged (Ok false) before now h is = cc is
+undamaged (Ok true) before now h is = cc is
+undamaged (Err ends.Memory) before now h is = cc is
+undamaged (Err (ends.Read failed)) before now h is = cc is
+undamaged (Err (ends.Write failed)) before now h is = cc is
+undamaged (Err (ends.Disk failed)) before now h is = cc is
+undamaged (Err (ends.Damaged damage)) before now h is = h
+undamaged (Err ends.TooLong) before now h is = cc is
+
+pub never_usage : (r : Result Bool SessionEnd) → status_after r ≢ status.Usage
+never_usage (Ok false) is = cc is
+never_usage (Ok true) is = cc is
+never_usage (Err ends.Memory) is = cc is
+never_usage (Err (ends.Read failed)) is = cc is
+never_usage (Err (ends.Write failed)) is = cc is
+never_usage (Err (ends.Disk failed)) is = cc is
+never_usage (Err (ends.Damaged damage)) is = cc is
+never_usage (Err ends.TooLong) is = cc is
+
+-- a fault of the disk alone
+pub disk_undamaged : (end : SessionEnd) → IsDiskEnd end → status_after (Err end) ≡ status.Damaged → ⊥
+disk_undamaged (ends.Disk failed) disk is = cc is
+disk_undamaged ends.Memory disk is = disk
+disk_undamaged (ends.Read failed) disk is = disk
+disk_undamaged (ends.Write failed) disk is = disk
+disk_undamaged (ends.Damaged damage) disk is = disk
+disk_undamaged ends.TooLong disk is = disk
+
+pub disk_tells : (end : SessionEnd) → IsDiskEnd end → TellsDamage (status_after (Err end))
+disk_tells (ends.Disk failed) disk = tt
+disk_tells ends.Memory disk = absurd disk
+disk_tells (ends.Read failed) disk = absurd disk
+disk_tells (ends.Write failed) disk = absurd disk
+disk_tells (ends.Damaged damage) disk = absurd disk
+disk_tells ends.TooLong disk = absurd disk
+
+-- reasons since an earlier moment
+rose_earlier : (first before now : ℕ) → first ≤ before → Rose before now → Rose first now
+rose_earlier first before now le rose = omega (arith, le, rose)
+
+pub starts_reason : (end : SessionEnd) (first before now : Faults) → NoFewer first before → StartsForReason {T = Session} before now (Err end) → StatusHasReason first now (status_after (Err end))
+starts_reason ends.Memory first before now le h = tt
+starts_reason (ends.Disk failed) first before now le h = rose_earlier first.disk before.disk now.disk le.disk h
+starts_reason (ends.Damaged damage) first before now le h = tt
+starts_reason (ends.Read failed) first before now le h = absurd h
+starts_reason (ends.Write failed) first before now le h = absurd h
+starts_reason ends.TooLong first before now le h = absurd h
+
+pub later_reason : (r : Result Bool SessionEnd) (first before now : Faults) → NoFewer first before → EndsForReason before now r → StatusHasReason first now (status_after r)
+later_reason (Ok false) first before now le h = tt
+later_reason (Ok true) first before now le h = tt
+later_reason (Err ends.Memory) first before now le h = tt
+later_reason (Err (ends.Read failed)) first before now le h = rose_earlier first.read before.read now.read le.read h
+later_reason (Err (ends.Write failed)) first before now le h = rose_earlier first.write before.write now.write le.write h
+later_reason (Err (ends.Disk failed)) first before now le h = rose_earlier first.disk before.disk now.disk le.disk h
+later_reason (Err (ends.Damaged damage)) first before now le h = tt
+later_reason (Err ends.TooLong) first before now le h = tt
+
+pub no_fewer : (first before now : Faults) → NoFewer first before → NoFewer before now → NoFewer first now
+no_fewer first before now p q = record { read = omega (arith, p.read, q.read); write = omega (arith, p.write, q.write); disk = omega (arith, p.disk, q.disk) }
+
+-- words ask for one command
+commands_differ : (one other : Command) → command_word one ≡ command_word other → one ≡ other
+commands_differ Run Run is = refl
+commands_differ Recover Recover is = refl
+commands_differ Run Recover is = let h : 3 ≡ 7 = ap (λ (l : List ℕ). length l) is in absurd (omega (arith, h))
+commands_differ Recover Run is = let h : 7 ≡ 3 = ap (λ (l : List ℕ). length l) is in absurd (omega (arith, h))
+
+abbrev third : List (List ℕ) → List ℕ
+third (first ∷ second ∷ word ∷ rest) = word
+third _ = []
+
+pub one_command : (words : List (List ℕ)) (folder other : List ℕ) (one two : Command) → Asks words folder one → Asks words other two → one ≡ two
+one_command words folder other one two asked again = commands_differ one two (ap third (sym asked.words_are ∙ again.words_are))

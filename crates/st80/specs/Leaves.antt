@@ -1,0 +1,79 @@
+-- What the program leaves: on its disk, of its input and in its output.
+use Rattle.std.specs.Prelude.{◌≡◌, ◌≤◌, ℕ, true, false, List, [], ◌∷◌, ◌++◌, length, take, Some}
+use Rattle.s80_change.specs.declared.change.Change.{Change}
+use Rattle.s80_disk.specs.Image.{Image}
+use Rattle.s80_keeper.specs.Standing.{ReadsFor}
+use Rattle.s80_session.specs.declared.item.Query.TheVariants as queries
+use Rattle.s80_session.specs.declared.item.SessionItem.{SessionItem}
+use Rattle.s80_session.specs.declared.item.SessionItem.TheVariants.{Query}
+use Rattle.s80_session.specs.Replies.{reply_to, reply_text, list_after, is_refused}
+use Rattle.s80_session.specs.Run.{Shown, ShownFor, Answered, Finished, CutOff, TooLong, BrokeOff, Unanswered, LostDisk, Keeps, ItemsOf, input_limit}
+use Rattle.s80_session.specs.Working.{StepLeaves}
+use Rattle.st80.specs.declared.status.Status.{Status}
+use Rattle.st80.specs.declared.status.Status.TheVariants as status
+use Rattle.st80.specs.declared.words.Command.{Command}
+use Rattle.st80.specs.declared.words.Command.TheVariants.{Run, Recover}
+
+-- an outside that tells its contents: what its disk reads stands for this list, this input is left, and these bytes were taken
+pub record StartsWith (may_leave : Image → Type 0) (o : Shown) (changes : List Change) (input before : List ℕ) : Type 0 where
+  pub reads : ReadsFor o.tells o.files may_leave changes
+  pub left : o.left ≡ Some input
+  pub taken : o.taken ≡ Some before
+  pub told : o.told ≡ length before
+
+-- what a run leaves, by its status
+abbrev pub RunLeaves : Status → (Image → Type 0) → Shown → List Change → List ℕ → List ℕ → Type 0
+RunLeaves status.Done may_leave now changes input before = Finished may_leave now changes input before false
+RunLeaves status.DoneWithRefusals may_leave now changes input before = Finished may_leave now changes input before true
+RunLeaves status.Usage may_leave now changes input before = ⊥
+RunLeaves status.ReadFault may_leave now changes input before = CutOff may_leave now changes input before
+RunLeaves status.WriteFault may_leave now changes input before = Unanswered may_leave now changes input before
+RunLeaves status.DiskFault may_leave now changes input before = LostDisk now changes input before
+RunLeaves status.Damaged may_leave now changes input before = ⊥
+RunLeaves status.OutOfMemory may_leave now changes input before = BrokeOff may_leave now changes input before
+RunLeaves status.InputTooLong may_leave now changes input before = TooLong may_leave now changes input before
+
+-- one item was worked, and answered
+abbrev pub IsAnswered : (Image → Type 0) → Shown → List Change → SessionItem → List ℕ → Type 0
+IsAnswered may_leave now changes item before = Answered may_leave now changes before (item ∷ [])
+
+-- what is left where one item is worked, by the status
+abbrev pub ItemLeaves : Status → (Image → Type 0) → Shown → List Change → SessionItem → List ℕ → Type 0
+ItemLeaves status.Done may_leave now changes item before = IsAnswered may_leave now changes item before × (is_refused (reply_to changes item) ≡ false)
+ItemLeaves status.DoneWithRefusals may_leave now changes item before = IsAnswered may_leave now changes item before × (is_refused (reply_to changes item) ≡ true)
+ItemLeaves status.Usage may_leave now changes item before = ⊥
+ItemLeaves status.ReadFault may_leave now changes item before = ⊥
+ItemLeaves status.WriteFault may_leave now changes item before =
+    (count : ℕ) × ShownFor may_leave now (list_after changes item) × (now.taken ≡ Some (before ++ take count (reply_text (reply_to changes item))))
+ItemLeaves status.DiskFault may_leave now changes item before = now.taken ≡ Some before
+ItemLeaves status.Damaged may_leave now changes item before = ⊥
+ItemLeaves status.OutOfMemory may_leave now changes item before = Answered may_leave now changes before []
+ItemLeaves status.InputTooLong may_leave now changes item before = ⊥
+
+-- what a command leaves, by the status: a run works the input, and every other command one item, and takes no input
+abbrev pub Leaves : Command → Status → (Image → Type 0) → Shown → List Change → List ℕ → List ℕ → Type 0
+Leaves Run status may_leave now changes input before = RunLeaves status may_leave now changes input before
+Leaves Recover status may_leave now changes input before = ItemLeaves status may_leave now changes (Query queries.Recover) before × (now.left ≡ Some input)
+
+-- what a crash leaves at a moment at which so many bytes are told: files that stand for the list after the first items, up to one at least
+-- whose reply is among the bytes told
+abbrev pub CommandKeeps : Command → List Change → List ℕ → List ℕ → ℕ → Image → Type 0
+CommandKeeps Run changes input before told c = Keeps changes input before told c
+CommandKeeps Recover changes input before told c = StepLeaves changes before (Query queries.Recover) told c
+
+-- all items that a command works
+abbrev pub AllItems : Command → List ℕ → List SessionItem → Type 0
+AllItems Run input items = ItemsOf input items
+AllItems Recover input items = items ≡ Query queries.Recover ∷ []
+
+-- the input isn't too long for the command
+abbrev pub IsWithin : Command → List ℕ → Type 0
+IsWithin Run input = length input ≤ input_limit
+IsWithin Recover input = Unit {0}
+
+-- where the files at entry are damaged, this is answered, or memory is wanting or a call of the disk fails
+abbrev pub TellsDamage : Status → Type 0
+TellsDamage status.Damaged = Unit {0}
+TellsDamage status.OutOfMemory = Unit {0}
+TellsDamage status.DiskFault = Unit {0}
+TellsDamage _ = ⊥
