@@ -44,6 +44,16 @@ impl Names {
         Ok(())
     }
 
+    pub fn copy(&self, alloc: Global) -> Result<Self, OutOfMemory>
+        ensures { IfOk result (λ names. names ≡ self.now) }
+    {
+        let mut copy = Names::empty(alloc);
+        for name in &self.names {
+            copy.push(name.copy(alloc)?)?;
+        }
+        Ok(copy)
+    }
+
     pub fn count(&self) -> usize
         ensures { result ≡ length self.now }
     {

@@ -9,6 +9,8 @@ fn a_text_grows_and_is_copied(rt: HostRuntime) -> Result<(), Fail> {
     let copy = text.copy(rt.alloc())?;
     assert_eq!(rt; copy.bytes(), b"abcdef".as_slice());
     assert_eq!(rt; Text::empty(rt.alloc()).bytes().len(), 0);
+    let kept = Text::from_vec(copy.into_vec());
+    assert_eq!(rt; kept.bytes(), b"abcdef".as_slice());
     Ok(())
 }
 
@@ -20,6 +22,9 @@ fn names_stand_in_order(rt: HostRuntime) -> Result<(), Fail> {
     assert_eq!(rt; names.count(), 2);
     assert_eq!(rt; names.at(0).bytes(), b"balance".as_slice());
     assert_eq!(rt; names.at(1).bytes(), b"owner".as_slice());
+    let copy = names.copy(rt.alloc())?;
+    assert_eq!(rt; copy.count(), 2);
+    assert_eq!(rt; copy.at(1).bytes(), b"owner".as_slice());
     Ok(())
 }
 
