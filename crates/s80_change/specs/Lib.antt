@@ -1,2 +1,6 @@
 pub mod Block
 pub mod Refusal
+pub mod Name
+pub mod Definition
+pub mod Form
+pub mod Read

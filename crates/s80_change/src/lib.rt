@@ -3,11 +3,20 @@
 
 mod block;
 mod change;
+mod definition;
+mod form;
+mod name;
+mod names;
+mod read;
 mod refusal;
 
 pub use block::{block_text, blocks_part_in_one_way};
 pub use change::{Change, Changes};
-pub use refusal::{FitWord, Refusal, Refused};
+pub use definition::{Definition, Kind, definition_text};
+pub use form::{joined_names_are_split, one_definition, one_form, recognise_definition};
+pub use name::{is_class_name, is_name};
+pub use read::read_definition;
+pub use refusal::{FitWord, ManyKind, Refusal, Refused, SyntaxKind};
 
 #[cfg(test)]
 mod tests;

@@ -1,0 +1,29 @@
+-- Names of classes and variables.
+use Rattle.std.specs.Prelude.{◌≡◌, ℕ, List, [], ◌∷◌, Bool, true, false, not, ◌&&◌, ◌||◌, codes}
+use Rattle.std.specs.Char.{is_ascii_alphabetic, is_ascii_alphanumeric, is_ascii_uppercase}
+use Rattle.std.specs.List.{All, list_all}
+use Rattle.std.specs.Str.{bytes_eq}
+use Rattle.s80_grammar.specs.Word.{is_reserved}
+
+-- a letter, then letters and digits
+abbrev pub is_identifier : List ℕ → Bool
+is_identifier [] = false
+is_identifier (b ∷ bytes) = is_ascii_alphabetic b && list_all is_ascii_alphanumeric bytes
+
+-- an identifier that is no reserved word
+abbrev pub is_name : List ℕ → Bool
+is_name word = is_identifier word && not (is_reserved word)
+
+abbrev pub begins_with_capital : List ℕ → Bool
+begins_with_capital [] = false
+begins_with_capital (b ∷ bytes) = is_ascii_uppercase b
+
+-- a name that a class can be given: it begins with a capital letter, and isn't that of one of two objects
+abbrev pub is_class_name : List ℕ → Bool
+is_class_name word = is_name word && begins_with_capital word && not (bytes_eq word (codes "Smalltalk") || bytes_eq word (codes "Transcript"))
+
+abbrev pub IsName : List ℕ → Type 0
+IsName word = is_name word ≡ true
+
+abbrev pub AreNames : List (List ℕ) → Type 0
+AreNames words = All IsName words
