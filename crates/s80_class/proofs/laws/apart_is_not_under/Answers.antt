@@ -1,0 +1,5 @@
+use Rattle.s80_class.proofs.Lines.{apart_passed as law}
+use Rattle.s80_class.proofs.laws.apart_is_not_under.Goals as goal
+
+pub returns : goal.returns
+returns c = λ classes name other differs below. law classes name other differs below

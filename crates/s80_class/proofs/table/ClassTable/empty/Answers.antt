@@ -1,0 +1,6 @@
+use Rattle.std.proofs.Common.{arith}
+use Rattle.s80_class.proofs.Keeping.{none_kept}
+use Rattle.s80_class.proofs.table.ClassTable.empty.Goals as goal
+
+pub invariant_of-result : goal.invariant_of-result
+invariant_of-result c = record { kept = rw (c.new.ensures.items, c.new-2.ensures.items) none_kept; room = omega arith; order_room = omega arith; numbers = omega arith }

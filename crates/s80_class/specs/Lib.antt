@@ -1,0 +1,5 @@
+pub mod Classes
+pub mod Table
+pub mod Counted
+pub mod Kept
+pub mod Sound

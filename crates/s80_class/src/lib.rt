@@ -1,0 +1,16 @@
+//! The table of classes: each has a name, a number and a superclass.
+#![tactic(auto)]
+
+mod entry;
+mod inherited;
+mod laws;
+mod table;
+
+pub use entry::ClassEntry;
+pub use inherited::{Greatest, Totals};
+pub use laws::{apart_is_not_under, lineage_is_the_line, one_line};
+pub use s80_change::Kind;
+pub use table::ClassTable;
+
+#[cfg(test)]
+mod tests;
