@@ -1,10 +1,9 @@
 -- A change that a keeper prepares and keeps, and the model's list with it.
-use Rattle.std.proofs.Common.{◌≡◌, inl, inr, ⊎_elim, ℕ, ◌+◌, ◌≤◌, List, [], ◌∷◌, ◌++◌, length, refl, sym, ap, subst, ◌∙◌, Ok, Err, Some, Bool, false, arith}
-use Rattle.std.specs.Prelude.{◌<◌, leb}
+use Rattle.std.proofs.Common.{◌≡◌, inl, inr, ⊎_elim, ℕ, ◌+◌, ◌≤◌, List, [], ◌∷◌, ◌++◌, length, refl, sym, ap, ◌∙◌, Ok, Err, Some, arith}
+use Rattle.std.specs.Prelude.{◌<◌}
 use Rattle.std.proofs.lemmas.Bool.{le-leb}
 use Rattle.std.proofs.lemmas.Bool.Decides.{leb_tells}
 use Rattle.s80_change.specs.declared.change.Change.{Change}
-use Rattle.s80_change.specs.declared.refusal.Refusal.{Refusal}
 use Rattle.s80_change.specs.declared.refusal.Refusal.TheVariants.{LogFull}
 use Rattle.s80_change.specs.Block.{block, blocks, log_limit}
 use Rattle.s80_disk.specs.Image.{Image}
@@ -12,8 +11,7 @@ use Rattle.s80_disk.specs.Moments.{LeavesOnly}
 use Rattle.s80_disk.proofs.Run.{weaker}
 use Rattle.s80_keeper.specs.List.{add}
 use Rattle.s80_keeper.specs.Keeper.{KeeperState, Keeps}
-use Rattle.s80_keeper.specs.Standing.{FilesStandFor, LeavesEither}
-use Rattle.s80_session.specs.declared.reply.Reply.{Reply}
+use Rattle.s80_keeper.specs.Standing.{LeavesEither}
 use Rattle.s80_session.specs.declared.reply.Reply.TheVariants.{Accepted, Refused}
 use Rattle.s80_session.specs.Replies.{reply_to_adding, list_or}
 use Rattle.s80_session.specs.Run.{Shown, HasKept}

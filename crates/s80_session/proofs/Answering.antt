@@ -1,5 +1,5 @@
 -- The items that a reader holds, worked and answered one after another.
-use Rattle.std.proofs.Common.{◌≡◌, ℕ, List, [], ◌∷◌, ◌++◌, take, refl, sym, ap, subst, ◌∙◌, Err, Option, Some, Bool, append_assoc, arith, IfSome, IfNone}
+use Rattle.std.proofs.Common.{◌≡◌, ℕ, List, [], ◌∷◌, ◌++◌, take, refl, sym, ap, subst, ◌∙◌, Ok, Err, Option, Some, Bool, append_assoc, arith, IfSome, IfNone}
 use Rattle.std.specs.Prelude.{◌||◌, false, true, option_to_list, None}
 use Rattle.std.proofs.lemmas.List.{append-nil}
 use Rattle.s80_chunk.specs.declared.item.Item.{Item}
@@ -8,28 +8,25 @@ use Rattle.s80_chunk.specs.Held.{Held, HasRead, HoldsNoMore}
 use Rattle.s80_change.specs.declared.change.Change.{Change}
 use Rattle.s80_disk.specs.Image.{Image}
 use Rattle.s80_keeper.specs.Keeper.{KeeperState}
-use Rattle.s80_session.specs.declared.item.SessionItem.{SessionItem}
 use Rattle.s80_session.specs.declared.item.SessionItem.TheVariants.{Chunk}
 use Rattle.s80_session.specs.declared.end.SessionEnd.{SessionEnd}
 use Rattle.s80_session.specs.declared.end.SessionEnd.TheVariants as ends
 use Rattle.s80_session.specs.Ending.{Faults, NoFewer}
 use Rattle.s80_session.specs.Replies.{reply_to, reply_text, is_refused, list_after, list_after_all, replies, any_refused}
+use Rattle.s80_session.specs.Asked.{Ask, AllAsk}
 use Rattle.s80_session.specs.Run.{Shown, chunks}
 use Rattle.s80_session.specs.Working.{IsAt, Stepped, IsWorking, BeginsWith, BreaksOff}
+use Rattle.s80_session.proofs.Asking.{given_asks_more}
 
-pub chunks_more : (given : List Item) (item : Item) → chunks (given ++ item ∷ []) ≡ chunks given ++ Chunk item ∷ []
-chunks_more [] item = refl
-chunks_more (first ∷ given) item = ap (λ l. Chunk first ∷ l) (chunks_more given item)
+pub list_after_more : (changes : List Change) (asks : List Ask) (ask : Ask) → list_after_all changes (asks ++ ask ∷ []) ≡ list_after (list_after_all changes asks) ask
+list_after_more changes [] ask = refl
+list_after_more changes (first ∷ asks) ask = list_after_more (list_after changes first) asks ask
 
-pub list_after_more : (changes : List Change) (items : List SessionItem) (item : SessionItem) → list_after_all changes (items ++ item ∷ []) ≡ list_after (list_after_all changes items) item
-list_after_more changes [] item = refl
-list_after_more changes (first ∷ items) item = list_after_more (list_after changes first) items item
-
-pub replies_more : (changes : List Change) (items : List SessionItem) (item : SessionItem) → replies changes (items ++ item ∷ []) ≡ replies changes items ++ reply_text (reply_to (list_after_all changes items) item)
-replies_more changes [] item = append-nil (reply_text (reply_to changes item))
-replies_more changes (first ∷ items) item =
-    ap (λ l. reply_text (reply_to changes first) ++ l) (replies_more (list_after changes first) items item)
-    ∙ sym (append_assoc (reply_text (reply_to changes first)) (replies (list_after changes first) items) (reply_text (reply_to (list_after_all (list_after changes first) items) item)))
+pub replies_more : (changes : List Change) (asks : List Ask) (ask : Ask) → replies changes (asks ++ ask ∷ []) ≡ replies changes asks ++ reply_text (reply_to (list_after_all changes asks) ask)
+replies_more changes [] ask = append-nil (reply_text (reply_to changes ask))
+replies_more changes (first ∷ asks) ask =
+    ap (λ l. reply_text (reply_to changes first) ++ l) (replies_more (list_after changes first) asks ask)
+    ∙ sym (append_assoc (reply_text (reply_to changes first)) (replies (list_after changes first) asks) (reply_text (reply_to (list_after_all (list_after changes first) asks) ask)))
 
 or_false : (a : Bool) → (a || false) ≡ a
 or_false true = refl
@@ -39,61 +36,55 @@ or_assoc : (a b c : Bool) → (a || (b || c)) ≡ ((a || b) || c)
 or_assoc true b c = refl
 or_assoc false b c = refl
 
-pub refused_more : (changes : List Change) (items : List SessionItem) (item : SessionItem) → any_refused changes (items ++ item ∷ []) ≡ (any_refused changes items || is_refused (reply_to (list_after_all changes items) item))
-refused_more changes [] item = or_false (is_refused (reply_to changes item))
-refused_more changes (first ∷ items) item =
-    ap (λ b. is_refused (reply_to changes first) || b) (refused_more (list_after changes first) items item)
-    ∙ or_assoc (is_refused (reply_to changes first)) (any_refused (list_after changes first) items) (is_refused (reply_to (list_after_all (list_after changes first) items) item))
+pub refused_more : (changes : List Change) (asks : List Ask) (ask : Ask) → any_refused changes (asks ++ ask ∷ []) ≡ (any_refused changes asks || is_refused (reply_to (list_after_all changes asks) ask))
+refused_more changes [] ask = or_false (is_refused (reply_to changes ask))
+refused_more changes (first ∷ asks) ask =
+    ap (λ b. is_refused (reply_to changes first) || b) (refused_more (list_after changes first) asks ask)
+    ∙ or_assoc (is_refused (reply_to changes first)) (any_refused (list_after changes first) asks) (is_refused (reply_to (list_after_all (list_after changes first) asks) ask))
 
--- after one item more, what stands after all of them
-pub is_at_more : (may_leave : Image → Type 0) (now : Shown) (keeper : KeeperState) (changes : List Change) (before : List ℕ) (items : List SessionItem) (item : SessionItem)
-    → IsAt may_leave now keeper (list_after (list_after_all changes items) item) ((before ++ replies changes items) ++ reply_text (reply_to (list_after_all changes items) item))
-    → IsAt may_leave now keeper (list_after_all changes (items ++ item ∷ [])) (before ++ replies changes (items ++ item ∷ []))
-is_at_more may_leave now keeper changes before items item h =
-    let P : List Change → Type 0 = λ l. IsAt may_leave now keeper l (before ++ replies changes (items ++ item ∷ [])) in
-    let Q : List ℕ → Type 0 = λ l. IsAt may_leave now keeper (list_after (list_after_all changes items) item) l in
-    subst P (sym (list_after_more changes items item))
-    (subst Q (append_assoc before (replies changes items) (reply_text (reply_to (list_after_all changes items) item)) ∙ ap (λ l. before ++ l) (sym (replies_more changes items item))) h)
+-- after one ask more, what stands after all of them
+pub is_at_more : (may_leave : Image → Type 0) (now : Shown) (keeper : KeeperState) (changes : List Change) (before : List ℕ) (asks : List Ask) (ask : Ask)
+    → IsAt may_leave now keeper (list_after (list_after_all changes asks) ask) ((before ++ replies changes asks) ++ reply_text (reply_to (list_after_all changes asks) ask))
+    → IsAt may_leave now keeper (list_after_all changes (asks ++ ask ∷ [])) (before ++ replies changes (asks ++ ask ∷ []))
+is_at_more may_leave now keeper changes before asks ask h =
+    let P : List Change → Type 0 = λ l. IsAt may_leave now keeper l (before ++ replies changes (asks ++ ask ∷ [])) in
+    let Q : List ℕ → Type 0 = λ l. IsAt may_leave now keeper (list_after (list_after_all changes asks) ask) l in
+    subst P (sym (list_after_more changes asks ask))
+    (subst Q (append_assoc before (replies changes asks) (reply_text (reply_to (list_after_all changes asks) ask)) ∙ ap (λ l. before ++ l) (sym (replies_more changes asks ask))) h)
 
-pub list_more : (may_leave : Image → Type 0) (now : Shown) (keeper : KeeperState) (changes : List Change) (put : List ℕ) (items : List SessionItem) (item : SessionItem) → IsAt may_leave now keeper (list_after (list_after_all changes items) item) put → IsAt may_leave now keeper (list_after_all changes (items ++ item ∷ [])) put
-list_more may_leave now keeper changes put items item h = let P : List Change → Type 0 = λ l. IsAt may_leave now keeper l put in subst P (sym (list_after_more changes items item)) h
+pub list_more : (may_leave : Image → Type 0) (now : Shown) (keeper : KeeperState) (changes : List Change) (put : List ℕ) (asks : List Ask) (ask : Ask) → IsAt may_leave now keeper (list_after (list_after_all changes asks) ask) put → IsAt may_leave now keeper (list_after_all changes (asks ++ ask ∷ [])) put
+list_more may_leave now keeper changes put asks ask h = let P : List Change → Type 0 = λ l. IsAt may_leave now keeper l put in subst P (sym (list_after_more changes asks ask)) h
 
--- the same for an item that a reader gave
-pub given_more : (may_leave : Image → Type 0) (now : Shown) (keeper : KeeperState) (changes : List Change) (before : List ℕ) (given : List Item) (item : Item)
-    → IsAt may_leave now keeper (list_after (list_after_all changes (chunks given)) (Chunk item)) ((before ++ replies changes (chunks given)) ++ reply_text (reply_to (list_after_all changes (chunks given)) (Chunk item)))
-    → IsAt may_leave now keeper (list_after_all changes (chunks (given ++ item ∷ []))) (before ++ replies changes (chunks (given ++ item ∷ [])))
-given_more may_leave now keeper changes before given item h =
-    let P : List SessionItem → Type 0 = λ l. IsAt may_leave now keeper (list_after_all changes l) (before ++ replies changes l) in
-    subst P (sym (chunks_more given item)) (is_at_more may_leave now keeper changes before (chunks given) (Chunk item) h)
+-- whether something was refused by then
+pub refused_by_now : (changes : List Change) (asks : List Ask) (ask : Ask) (was troubled : Bool) → was ≡ any_refused changes asks → troubled ≡ (was || is_refused (reply_to (list_after_all changes asks) ask)) → troubled ≡ any_refused changes (asks ++ ask ∷ [])
+refused_by_now changes asks ask was troubled refused is = is ∙ ap (λ b. b || is_refused (reply_to (list_after_all changes asks) ask)) refused ∙ sym (refused_more changes asks ask)
 
-pub worked_on : (may_leave : Image → Type 0) (now : Shown) (keeper : KeeperState) (was troubled : Bool) (reader : Held) (changes : List Change) (before bytes : List ℕ) (given : List Item) (item : Item) → HasRead reader bytes (given ++ item ∷ [])
-    → IsAt may_leave now keeper (list_after (list_after_all changes (chunks given)) (Chunk item)) ((before ++ replies changes (chunks given)) ++ reply_text (reply_to (list_after_all changes (chunks given)) (Chunk item)))
-    → was ≡ any_refused changes (chunks given) → troubled ≡ (was || is_refused (reply_to (list_after_all changes (chunks given)) (Chunk item)))
+-- an item more that a reader gave is worked and answered
+pub worked_on : (was_left may_leave : Image → Type 0) (mid now : Shown) (at_work keeper : KeeperState) (was troubled : Bool) (had reader : Held) (changes : List Change) (before bytes : List ℕ) (given : List Item) (item : Item) → (w : IsWorking was_left mid at_work was had changes before bytes given) → HasRead reader bytes (given ++ item ∷ [])
+    → Stepped {T = Unit {0}} (Ok tt) may_leave now keeper was troubled (list_after_all changes w.asks) (before ++ replies changes w.asks) (Chunk item)
     → IsWorking may_leave now keeper troubled reader changes before bytes (given ++ item ∷ [])
-worked_on may_leave now keeper was troubled reader changes before bytes given item read at refused is = record {
+worked_on was_left may_leave mid now at_work keeper was troubled had reader changes before bytes given item w read h = record {
+  asks = w.asks ++ h.0 ∷ [];
   read = read;
-  at = given_more may_leave now keeper changes before given item at;
-  refused =
-      is ∙ ap (λ b. b || is_refused (reply_to (list_after_all changes (chunks given)) (Chunk item))) refused
-      ∙ sym (refused_more changes (chunks given) (Chunk item)) ∙ ap (any_refused changes) (sym (chunks_more given item));
+  asked = given_asks_more given w.asks item h.0 w.asked h.1;
+  at = is_at_more may_leave now keeper changes before w.asks h.0 h.3;
+  refused = refused_by_now changes w.asks h.0 was troubled w.refused h.2;
 }
 
 pub begins : (reader : Held) (ended : Bool) (bytes : List ℕ) (given : List Item) → reader.ended ≡ ended → HasRead reader bytes given → BeginsWith ended bytes given
 begins reader ended bytes given is h = let P : Bool → Type 0 = λ b. BeginsWith b bytes given in subst P is (h.rest, h.reads)
 
 -- a step that broke off
-pub broke_off : (T : Type 0) (end : SessionEnd) (may_leave : Image → Type 0) (now : Shown) (keeper : KeeperState) (ended : Bool) (changes : List Change) (before bytes : List ℕ) (given : List Item) (item : Item) → BeginsWith ended bytes given → BeginsWith ended bytes (given ++ item ∷ [])
-    → Stepped {T = T} (Err end) may_leave now keeper (list_after_all changes (chunks given)) (before ++ replies changes (chunks given)) (Chunk item) → BreaksOff end may_leave now keeper ended changes before bytes
-broke_off T ends.Memory may_leave now keeper ended changes before bytes given item had has h = (given, had, h)
-broke_off T (ends.Disk failed) may_leave now keeper ended changes before bytes given item had has h = (given, had, h)
-broke_off T (ends.Write failed) may_leave now keeper ended changes before bytes given item had has h =
-    let line = reply_text (reply_to (list_after_all changes (chunks given)) (Chunk item)) in
-    let put = (before ++ replies changes (chunks given)) ++ take h.0 line in
-    let P : List SessionItem → Type 0 = λ l. IsAt may_leave now keeper (list_after_all changes l) put in
-    (given, item, h.0, has, subst P (sym (chunks_more given item)) (list_more may_leave now keeper changes put (chunks given) (Chunk item) h.1))
-broke_off T (ends.Read failed) may_leave now keeper ended changes before bytes given item had has h = absurd h
-broke_off T ends.TooLong may_leave now keeper ended changes before bytes given item had has h = absurd h
-broke_off T (ends.Damaged damage) may_leave now keeper ended changes before bytes given item had has h = absurd h
+pub broke_off : (T : Type 0) (end : SessionEnd) (may_leave : Image → Type 0) (now : Shown) (keeper : KeeperState) (was troubled ended : Bool) (changes : List Change) (before bytes : List ℕ) (given : List Item) (asks : List Ask) (item : Item) → BeginsWith ended bytes given → AllAsk (chunks given) asks → BeginsWith ended bytes (given ++ item ∷ [])
+    → Stepped {T = T} (Err end) may_leave now keeper was troubled (list_after_all changes asks) (before ++ replies changes asks) (Chunk item) → BreaksOff end may_leave now keeper ended changes before bytes
+broke_off T ends.Memory may_leave now keeper was troubled ended changes before bytes given asks item had asked has h = (asks, (given, had, asked), h)
+broke_off T (ends.Disk failed) may_leave now keeper was troubled ended changes before bytes given asks item had asked has h = (asks, (given, had, asked), h)
+broke_off T (ends.Write failed) may_leave now keeper was troubled ended changes before bytes given asks item had asked has h =
+    let put = (before ++ replies changes asks) ++ take h.2 (reply_text (reply_to (list_after_all changes asks) h.0)) in
+    (asks, h.0, h.2, (given ++ item ∷ [], has, given_asks_more given asks item h.0 asked h.1), list_more may_leave now keeper changes put asks h.0 h.3)
+broke_off T (ends.Read failed) may_leave now keeper was troubled ended changes before bytes given asks item had asked has h = absurd h
+broke_off T ends.TooLong may_leave now keeper was troubled ended changes before bytes given asks item had asked has h = absurd h
+broke_off T (ends.Damaged damage) may_leave now keeper was troubled ended changes before bytes given asks item had asked has h = absurd h
 
 -- an item that a reader gave
 pub read_some : (reader : Held) (bytes : List ℕ) (given : List Item) (o : Option Item) (item : Item) → o ≡ Some item → HasRead reader bytes (given ++ option_to_list o) → HasRead reader bytes (given ++ item ∷ [])

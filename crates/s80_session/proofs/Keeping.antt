@@ -1,7 +1,6 @@
 -- A keeper at work on a disk, and what a crash now leaves of it.
-use Rattle.std.proofs.Common.{◌≡◌, inl, inr, ⊎_elim, List, Bool, ap, ◌∙◌, sym}
+use Rattle.std.proofs.Common.{inr, List, Bool, ap, ◌∙◌}
 use Rattle.s80_change.specs.declared.change.Change.{Change}
-use Rattle.s80_disk.specs.declared.disk.FileId.TheVariants.{Mark}
 use Rattle.s80_disk.specs.Image.{Image}
 use Rattle.s80_mark.specs.Mark.{valid_mark}
 use Rattle.s80_keeper.specs.Keeper.{KeeperState, Keeps}

@@ -1,5 +1,6 @@
 pub mod Adding
 pub mod Answering
+pub mod Asking
 pub mod Finishing
 pub mod Keeping
 pub mod Lasting

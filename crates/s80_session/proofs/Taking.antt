@@ -8,15 +8,13 @@ use Rattle.s80_chunk.specs.Held.{Held, HasRead, HoldsNoMore, fed}
 use Rattle.s80_chunk.proofs.Reading.{reads_more, reads_ended}
 use Rattle.s80_change.specs.declared.change.Change.{Change}
 use Rattle.s80_disk.specs.Image.{Image}
-use Rattle.s80_keeper.specs.Keeper.{KeeperState, Keeps}
-use Rattle.s80_session.specs.declared.item.SessionItem.{SessionItem}
-use Rattle.s80_session.specs.declared.item.SessionItem.TheVariants.{Chunk}
+use Rattle.s80_keeper.specs.Keeper.{KeeperState}
 use Rattle.s80_session.specs.declared.end.SessionEnd.{SessionEnd}
 use Rattle.s80_session.specs.declared.end.SessionEnd.TheVariants as ends
 use Rattle.s80_session.specs.Replies.{list_after_all, replies}
-use Rattle.s80_session.specs.Run.{Shown, ShownFor, chunks, FirstItemsOf, WholeItemsOf, Answered, BrokeOff, Ends, input_limit}
-use Rattle.s80_session.specs.Working.{IsAt, IsWorking, BeginsWith, BreaksOff, AnswersAll, Takes, AtEnd}
-use Rattle.s80_session.proofs.Answering.{chunks_more}
+use Rattle.s80_session.specs.Asked.{Ask, AllAsk}
+use Rattle.s80_session.specs.Run.{Shown, chunks, FirstItemsOf, FirstAsksOf, WholeAsksOf, Answered, BrokeOff, Ends, input_limit}
+use Rattle.s80_session.specs.Working.{IsAt, IsWorking, BeginsWith, BeginsAsking, BreaksOff, AnswersAll, Takes, AtEnd}
 use Rattle.s80_session.proofs.Keeping.{keeps_less, keeps_stands}
 
 -- a front of the input was taken, and what is whole of it is answered
@@ -38,40 +36,41 @@ first_of true bytes left input given h is none =
     let P : List ℕ → Type 0 = λ l. Reads true false l given h.0 in
     inl (given, h.0, subst P (sym (is ∙ ap (λ (l : List ℕ). bytes ++ l) (none refl) ∙ append-nil bytes)) h.1, refl)
 
-pub answered_all : (may_leave : Image → Type 0) (now : Shown) (keeper : KeeperState) (changes : List Change) (before : List ℕ) (items : List SessionItem) → IsAt may_leave now keeper (list_after_all changes items) (before ++ replies changes items) → Answered may_leave now changes before items
-answered_all may_leave now keeper changes before items h = record { stands = keeps_stands now.tells now.files may_leave keeper (list_after_all changes items) h.keeps; taken = h.taken }
+-- and asks what the front does
+pub first_asks : (ended : Bool) (bytes left input : List ℕ) (asks : List Ask) → BeginsAsking ended bytes asks → input ≡ bytes ++ left → (ended ≡ true → left ≡ []) → FirstAsksOf input asks
+first_asks ended bytes left input asks h is none = (chunks h.0, first_of ended bytes left input h.0 h.1 is none, h.2)
+
+pub answered_all : (may_leave : Image → Type 0) (now : Shown) (keeper : KeeperState) (changes : List Change) (before : List ℕ) (asks : List Ask) → IsAt may_leave now keeper (list_after_all changes asks) (before ++ replies changes asks) → Answered may_leave now changes before asks
+answered_all may_leave now keeper changes before asks h = record { stands = keeps_stands now.tells now.files may_leave keeper (list_after_all changes asks) h.keeps; taken = h.taken }
 
 -- where the answering breaks off, the run does
 pub breaks : (T : Type 0) (end : SessionEnd) (may_leave : Image → Type 0) (now : Shown) (keeper : KeeperState) (ended refused : Bool) (changes : List Change) (before bytes left input : List ℕ) → BreaksOff end may_leave now keeper ended changes before bytes → input ≡ bytes ++ left → (ended ≡ true → left ≡ []) → Ends {T = T} (Err end) may_leave now refused changes input before
 breaks T ends.Memory may_leave now keeper ended refused changes before bytes left input h is none = record {
-  items = chunks h.0;
-  first = first_of ended bytes left input h.0 h.1 is none;
-  answered = answered_all may_leave now keeper changes before (chunks h.0) h.2;
+  asks = h.0;
+  first = first_asks ended bytes left input h.0 h.1 is none;
+  answered = answered_all may_leave now keeper changes before h.0 h.2;
 }
 breaks T (ends.Disk failed) may_leave now keeper ended refused changes before bytes left input h is none = record {
-  items = chunks h.0;
-  first = first_of ended bytes left input h.0 h.1 is none;
+  asks = h.0;
+  first = first_asks ended bytes left input h.0 h.1 is none;
   taken = h.2;
 }
-breaks T (ends.Write failed) may_leave now keeper ended refused changes before bytes left input h is none =
-    let P : List SessionItem → Type 0 = λ l. FirstItemsOf input l in
-    let Q : List SessionItem → Type 0 = λ l. ShownFor may_leave now (list_after_all changes l) in
-    record {
-      items = chunks h.0;
-      last = Chunk h.1;
-      count = h.2;
-      first = subst P (chunks_more h.0 h.1) (first_of ended bytes left input (h.0 ++ h.1 ∷ []) h.3 is none);
-      stands = subst Q (chunks_more h.0 h.1) (keeps_stands now.tells now.files may_leave keeper (list_after_all changes (chunks (h.0 ++ h.1 ∷ []))) h.4.keeps);
-      taken = h.4.taken;
-    }
+breaks T (ends.Write failed) may_leave now keeper ended refused changes before bytes left input h is none = record {
+  asks = h.0;
+  last = h.1;
+  count = h.2;
+  first = first_asks ended bytes left input (h.0 ++ h.1 ∷ []) h.3 is none;
+  stands = keeps_stands now.tells now.files may_leave keeper (list_after_all changes (h.0 ++ h.1 ∷ [])) h.4.keeps;
+  taken = h.4.taken;
+}
 breaks T (ends.Read failed) may_leave now keeper ended refused changes before bytes left input h is none = absurd h
 breaks T ends.TooLong may_leave now keeper ended refused changes before bytes left input h is none = absurd h
 breaks T (ends.Damaged damage) may_leave now keeper ended refused changes before bytes left input h is none = absurd h
 
-whole_of : (reader : Held) (bytes : List ℕ) (given : List Item) → reader.ended ≡ false → HasRead reader bytes given → HoldsNoMore false bytes given → WholeItemsOf bytes (chunks given)
-whole_of reader bytes given opened read none =
+whole_of : (reader : Held) (bytes : List ℕ) (given : List Item) (asks : List Ask) → reader.ended ≡ false → HasRead reader bytes given → AllAsk (chunks given) asks → HoldsNoMore false bytes given → WholeAsksOf bytes asks
+whole_of reader bytes given asks opened read asked none =
     let P : Bool → Type 0 = λ b. Reads b false bytes given read.rest in
-    (given, read.rest, subst P opened read.reads, none, refl)
+    (chunks given, (given, read.rest, subst P opened read.reads, none, refl), asked)
 
 -- taking input leaves what the disk stands for, and what was put
 at_take : (was_left may_leave : Image → Type 0) (mid now : Shown) (keeper : KeeperState) (changes : List Change) (put : List ℕ) → now ≡ record mid { left = now.left } → ((c : Image) → may_leave c → was_left c) → IsAt was_left mid keeper changes put → IsAt may_leave now keeper changes put
@@ -82,24 +81,24 @@ at_take was_left may_leave mid now keeper changes put e less h =
 -- a run to which no more input came
 pub no_more : (T : Type 0) (end : SessionEnd) (was_left may_leave : Image → Type 0) (mid now : Shown) (keeper : KeeperState) (troubled refused : Bool) (was reader : Held) (changes : List Change) (input before : List ℕ) → (h : IsTaking was_left mid keeper troubled was changes input before) → was.ended ≡ false → now ≡ record mid { left = now.left } → ((c : Image) → may_leave c → was_left c) → (n : ℕ) → fed was ≡ n → Takes (Err end) now n reader h.left h.bytes h.given → Ends {T = T} (Err end) may_leave now refused changes input before
 no_more T (ends.Read failed) was_left may_leave mid now keeper troubled refused was reader changes input before h opened e less n counted t = record {
-  items = chunks h.given;
+  asks = h.working.asks;
   got = h.bytes;
   left = h.left;
   input_is = h.input_is;
   left_is = t.0;
-  whole = whole_of was h.bytes h.given opened h.working.read h.none;
-  answered = answered_all may_leave now keeper changes before (chunks h.given) (at_take was_left may_leave mid now keeper (list_after_all changes (chunks h.given)) (before ++ replies changes (chunks h.given)) e less h.working.at);
+  whole = whole_of was h.bytes h.given h.working.asks opened h.working.read h.working.asked h.none;
+  answered = answered_all may_leave now keeper changes before h.working.asks (at_take was_left may_leave mid now keeper (list_after_all changes h.working.asks) (before ++ replies changes h.working.asks) e less h.working.at);
 }
 no_more T ends.TooLong was_left may_leave mid now keeper troubled refused was reader changes input before h opened e less n counted t = record {
-  items = chunks h.given;
+  asks = h.working.asks;
   got = h.bytes;
   next = t.0;
   left = t.1;
   input_is = h.input_is ∙ ap (λ (l : List ℕ). h.bytes ++ l) t.2;
   limit = sym h.working.read.counted ∙ counted ∙ t.5;
   left_is = t.3;
-  whole = whole_of was h.bytes h.given opened h.working.read h.none;
-  answered = answered_all may_leave now keeper changes before (chunks h.given) (at_take was_left may_leave mid now keeper (list_after_all changes (chunks h.given)) (before ++ replies changes (chunks h.given)) e less h.working.at);
+  whole = whole_of was h.bytes h.given h.working.asks opened h.working.read h.working.asked h.none;
+  answered = answered_all may_leave now keeper changes before h.working.asks (at_take was_left may_leave mid now keeper (list_after_all changes h.working.asks) (before ++ replies changes h.working.asks) e less h.working.at);
 }
 no_more T ends.Memory was_left may_leave mid now keeper troubled refused was reader changes input before h opened e less n counted t = absurd t
 no_more T (ends.Damaged damage) was_left may_leave mid now keeper troubled refused was reader changes input before h opened e less n counted t = absurd t
@@ -124,8 +123,10 @@ fed_more was_left may_leave mid now keeper troubled was reader changes input bef
   input_is = h.input_is ∙ ap (λ (l : List ℕ). h.bytes ++ l) t.3 ∙ sym (append_assoc h.bytes t.0 t.1);
   left_is = t.4;
   working = record {
+    asks = h.working.asks;
     read = t.5;
-    at = at_take was_left may_leave mid now keeper (list_after_all changes (chunks h.given)) (before ++ replies changes (chunks h.given)) e less h.working.at;
+    asked = h.working.asked;
+    at = at_take was_left may_leave mid now keeper (list_after_all changes h.working.asks) (before ++ replies changes h.working.asks) e less h.working.at;
     refused = h.working.refused;
   };
   none = t.6;
@@ -151,7 +152,7 @@ at_end may_leave now keeper troubled was reader changes input before count h non
     let size : length input ≡ fed was = ap length input_is ∙ sym h.working.read.counted in
     record {
       given = h.given;
-      working = record { read = subst P (sym input_is) read; at = h.working.at; refused = h.working.refused };
+      working = record { asks = h.working.asks; read = subst P (sym input_is) read; asked = h.working.asked; at = h.working.at; refused = h.working.refused };
       left = h.left_is ∙ ap Some (h.none none);
       within = omega (arith, size, within);
     }
@@ -163,11 +164,11 @@ still_open b left is not = cc
 pub starts_working : (may_leave : Image → Type 0) (o : Shown) (keeper : KeeperState) (troubled : Bool) (reader : Held) (changes : List Change) (before : List ℕ) → HasRead reader [] [] → troubled ≡ false → IsAt may_leave o keeper changes before → IsWorking may_leave o keeper troubled reader changes before [] []
 starts_working may_leave o keeper troubled reader changes before read calm h =
     let P : List ℕ → Type 0 = λ l. IsAt may_leave o keeper changes l in
-    record { read = read; at = subst P (sym (append-nil before)) h; refused = calm }
+    record { asks = []; read = read; asked = tt; at = subst P (sym (append-nil before)) h; refused = calm }
 
 pub broke_at_start : (may_leave : Image → Type 0) (now : Shown) (keeper : KeeperState) (changes : List Change) (input before : List ℕ) → IsAt may_leave now keeper changes before → BrokeOff may_leave now changes input before
 broke_at_start may_leave now keeper changes input before h = record {
-  items = [];
-  first = inl ([], input, stop refl refl, refl);
+  asks = [];
+  first = ([], inl ([], input, stop refl refl, refl), tt);
   answered = record { stands = keeps_stands now.tells now.files may_leave keeper changes h.keeps; taken = h.taken ∙ ap Some (sym (append-nil before)) };
 }

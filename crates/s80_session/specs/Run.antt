@@ -10,6 +10,7 @@ use Rattle.s80_session.specs.declared.item.SessionItem.{SessionItem}
 use Rattle.s80_session.specs.declared.item.SessionItem.TheVariants.{Chunk, Unended}
 use Rattle.s80_session.specs.declared.end.SessionEnd.{SessionEnd}
 use Rattle.s80_session.specs.declared.end.SessionEnd.TheVariants as ends
+use Rattle.s80_session.specs.Asked.{Ask, AllAsk}
 use Rattle.s80_session.specs.Replies.{replies, reply_to, reply_text, list_after_all, any_refused}
 
 -- what an outside shows: whether it tells its contents, what its files read, what is left of its input, the bytes that it took, and their number
@@ -51,65 +52,75 @@ abbrev pub WholeItemsOf : List ℕ → List SessionItem → Type 0
 WholeItemsOf bytes items =
     (given : List Item) × (rest : List ℕ) × Reads false false bytes given rest × HoldsNoMore false bytes given × (items ≡ chunks given)
 
+-- what all items of a whole input ask, what its first items do, and what all whole items of bytes do
+abbrev pub AsksOf : List ℕ → List Ask → Type 0
+AsksOf input asks = (items : List SessionItem) × ItemsOf input items × AllAsk items asks
+
+abbrev pub FirstAsksOf : List ℕ → List Ask → Type 0
+FirstAsksOf input asks = (items : List SessionItem) × FirstItemsOf input items × AllAsk items asks
+
+abbrev pub WholeAsksOf : List ℕ → List Ask → Type 0
+WholeAsksOf bytes asks = (items : List SessionItem) × WholeItemsOf bytes items × AllAsk items asks
+
 abbrev pub input_limit : ℕ
 input_limit = 2 ^ 30
 
--- the items were worked: the disk stands for the list after them, and their replies were put behind what was there
-pub record Answered (may_leave : Image → Type 0) (now : Shown) (changes : List Change) (before : List ℕ) (items : List SessionItem) : Type 0 where
-  pub stands : ShownFor may_leave now (list_after_all changes items)
-  pub taken : now.taken ≡ Some (before ++ replies changes items)
+-- what was asked is worked: the disk stands for the list after it, and the replies were put behind what was there
+pub record Answered (may_leave : Image → Type 0) (now : Shown) (changes : List Change) (before : List ℕ) (asks : List Ask) : Type 0 where
+  pub stands : ShownFor may_leave now (list_after_all changes asks)
+  pub taken : now.taken ≡ Some (before ++ replies changes asks)
 
 -- a run that came to the end of its input
 pub record Finished (may_leave : Image → Type 0) (now : Shown) (changes : List Change) (input before : List ℕ) (refused : Bool) : Type 0 where
-  pub items : List SessionItem
-  pub all : ItemsOf input items
+  pub asks : List Ask
+  pub all : AsksOf input asks
   pub within : length input ≤ input_limit
   pub left : now.left ≡ Some []
-  pub answered : Answered may_leave now changes before items
-  pub troubled : any_refused changes items ≡ refused
+  pub answered : Answered may_leave now changes before asks
+  pub troubled : any_refused changes asks ≡ refused
 
 -- a run to which no more input came: all whole items of the bytes taken are answered
 pub record CutOff (may_leave : Image → Type 0) (now : Shown) (changes : List Change) (input before : List ℕ) : Type 0 where
-  pub items : List SessionItem
+  pub asks : List Ask
   pub got : List ℕ
   pub left : List ℕ
   pub input_is : input ≡ got ++ left
   pub left_is : now.left ≡ Some left
-  pub whole : WholeItemsOf got items
-  pub answered : Answered may_leave now changes before items
+  pub whole : WholeAsksOf got asks
+  pub answered : Answered may_leave now changes before asks
 
 -- the same, where the limit of the input was reached and one byte came behind it
 pub record TooLong (may_leave : Image → Type 0) (now : Shown) (changes : List Change) (input before : List ℕ) : Type 0 where
-  pub items : List SessionItem
+  pub asks : List Ask
   pub got : List ℕ
   pub next : ℕ
   pub left : List ℕ
   pub input_is : input ≡ got ++ next ∷ left
   pub limit : length got ≡ input_limit
   pub left_is : now.left ≡ Some left
-  pub whole : WholeItemsOf got items
-  pub answered : Answered may_leave now changes before items
+  pub whole : WholeAsksOf got asks
+  pub answered : Answered may_leave now changes before asks
 
 -- a run that broke off between two items, or before an item had changed anything
 pub record BrokeOff (may_leave : Image → Type 0) (now : Shown) (changes : List Change) (input before : List ℕ) : Type 0 where
-  pub items : List SessionItem
-  pub first : FirstItemsOf input items
-  pub answered : Answered may_leave now changes before items
+  pub asks : List Ask
+  pub first : FirstAsksOf input asks
+  pub answered : Answered may_leave now changes before asks
 
 -- a run whose output failed within the reply to an item that it had worked
 pub record Unanswered (may_leave : Image → Type 0) (now : Shown) (changes : List Change) (input before : List ℕ) : Type 0 where
-  pub items : List SessionItem
-  pub last : SessionItem
+  pub asks : List Ask
+  pub last : Ask
   pub count : ℕ
-  pub first : FirstItemsOf input (items ++ last ∷ [])
-  pub stands : ShownFor may_leave now (list_after_all changes (items ++ last ∷ []))
-  pub taken : now.taken ≡ Some ((before ++ replies changes items) ++ take count (reply_text (reply_to (list_after_all changes items) last)))
+  pub first : FirstAsksOf input (asks ++ last ∷ [])
+  pub stands : ShownFor may_leave now (list_after_all changes (asks ++ last ∷ []))
+  pub taken : now.taken ≡ Some ((before ++ replies changes asks) ++ take count (reply_text (reply_to (list_after_all changes asks) last)))
 
 -- a run whose disk failed: nothing is said of the disk
 pub record LostDisk (now : Shown) (changes : List Change) (input before : List ℕ) : Type 0 where
-  pub items : List SessionItem
-  pub first : FirstItemsOf input items
-  pub taken : now.taken ≡ Some (before ++ replies changes items)
+  pub asks : List Ask
+  pub first : FirstAsksOf input asks
+  pub taken : now.taken ≡ Some (before ++ replies changes asks)
 
 -- what a run leaves, by how it ends
 abbrev pub Ends : {T : Type 0} → Result T SessionEnd → (Image → Type 0) → Shown → Bool → List Change → List ℕ → List ℕ → Type 0
@@ -125,4 +136,4 @@ Ends (Err ends.TooLong) may_leave now refused changes input before = TooLong may
 -- to one at least whose reply is among the bytes told. So no change is answered that a crash takes.
 abbrev pub Keeps : List Change → List ℕ → List ℕ → ℕ → Image → Type 0
 Keeps changes input before told c =
-    (items : List SessionItem) × FirstItemsOf input items × HasKept (list_after_all changes items) (length (before ++ replies changes items)) told c
+    (asks : List Ask) × FirstAsksOf input asks × HasKept (list_after_all changes asks) (length (before ++ replies changes asks)) told c

@@ -1,5 +1,5 @@
 -- A session in the middle of its work.
-use Rattle.std.specs.Prelude.{◌≡◌, ◌⊎◌, ℕ, ◌≤◌, Bool, false, List, [], ◌∷◌, ◌++◌, length, take, Option, Some, Result, Ok, Err}
+use Rattle.std.specs.Prelude.{◌≡◌, ◌⊎◌, ℕ, ◌≤◌, Bool, false, ◌||◌, List, [], ◌∷◌, ◌++◌, length, take, Option, Some, Result, Ok, Err}
 use Rattle.s80_chunk.specs.declared.item.Item.{Item}
 use Rattle.s80_chunk.specs.Chunks.{Reads, IsSound}
 use Rattle.s80_chunk.specs.Held.{Held, HasRead, HoldsNoMore}
@@ -16,7 +16,8 @@ use Rattle.s80_session.specs.declared.item.SessionItem.{SessionItem}
 use Rattle.s80_session.specs.declared.item.SessionItem.TheVariants.{Chunk, Unended, Query}
 use Rattle.s80_session.specs.declared.end.SessionEnd.{SessionEnd}
 use Rattle.s80_session.specs.declared.end.SessionEnd.TheVariants as ends
-use Rattle.s80_session.specs.Replies.{list_or, reply_to_adding, reply_to, reply_text, list_after, list_after_all, replies, any_refused}
+use Rattle.s80_session.specs.Asked.{Ask, Asks, AllAsk}
+use Rattle.s80_session.specs.Replies.{list_or, reply_to_adding, reply_to, reply_text, is_refused, list_after, list_after_all, replies, any_refused}
 use Rattle.s80_session.specs.Run.{Shown, ShownFor, HasKept, chunks, input_limit, Ends}
 
 -- the keeper is at work on a disk that stands for this list, and these bytes were put
@@ -57,7 +58,7 @@ Kept (Err ends.TooLong) may_leave now keeper changes put change = ⊥
 
 -- after an item was worked, and before it is answered
 abbrev pub Worked : Result Reply SessionEnd → (Image → Type 0) → Shown → KeeperState → List Change → List ℕ → SessionItem → Type 0
-Worked (Ok reply) may_leave now keeper changes put item = (reply ≡ reply_to changes item) × IsAt may_leave now keeper (list_after changes item) put
+Worked (Ok reply) may_leave now keeper changes put item = (ask : Ask) × Asks item ask × (reply ≡ reply_to changes ask) × IsAt may_leave now keeper (list_after changes ask) put
 Worked (Err ends.Memory) may_leave now keeper changes put item = IsAt may_leave now keeper changes put
 Worked (Err (ends.Disk failed)) may_leave now keeper changes put item = now.taken ≡ Some put
 Worked (Err (ends.Read failed)) may_leave now keeper changes put item = ⊥
@@ -65,35 +66,48 @@ Worked (Err (ends.Write failed)) may_leave now keeper changes put item = ⊥
 Worked (Err (ends.Damaged damage)) may_leave now keeper changes put item = ⊥
 Worked (Err ends.TooLong) may_leave now keeper changes put item = ⊥
 
--- after an item was worked and answered
-abbrev pub Stepped : {T : Type 0} → Result T SessionEnd → (Image → Type 0) → Shown → KeeperState → List Change → List ℕ → SessionItem → Type 0
-Stepped (Ok done) may_leave now keeper changes put item = IsAt may_leave now keeper (list_after changes item) (put ++ reply_text (reply_to changes item))
-Stepped (Err ends.Memory) may_leave now keeper changes put item = IsAt may_leave now keeper changes put
-Stepped (Err (ends.Disk failed)) may_leave now keeper changes put item = now.taken ≡ Some put
-Stepped (Err (ends.Write failed)) may_leave now keeper changes put item = (count : ℕ) × IsAt may_leave now keeper (list_after changes item) (put ++ take count (reply_text (reply_to changes item)))
-Stepped (Err (ends.Read failed)) may_leave now keeper changes put item = ⊥
-Stepped (Err (ends.Damaged damage)) may_leave now keeper changes put item = ⊥
-Stepped (Err ends.TooLong) may_leave now keeper changes put item = ⊥
+-- after an item was worked and answered, with whether something was refused before and now
+abbrev pub Stepped : {T : Type 0} → Result T SessionEnd → (Image → Type 0) → Shown → KeeperState → Bool → Bool → List Change → List ℕ → SessionItem → Type 0
+Stepped (Ok done) may_leave now keeper was troubled changes put item =
+    (ask : Ask) × Asks item ask × (troubled ≡ (was || is_refused (reply_to changes ask)))
+    × IsAt may_leave now keeper (list_after changes ask) (put ++ reply_text (reply_to changes ask))
+Stepped (Err ends.Memory) may_leave now keeper was troubled changes put item = IsAt may_leave now keeper changes put
+Stepped (Err (ends.Disk failed)) may_leave now keeper was troubled changes put item = now.taken ≡ Some put
+Stepped (Err (ends.Write failed)) may_leave now keeper was troubled changes put item =
+    (ask : Ask) × Asks item ask × (count : ℕ) × IsAt may_leave now keeper (list_after changes ask) (put ++ take count (reply_text (reply_to changes ask)))
+Stepped (Err (ends.Read failed)) may_leave now keeper was troubled changes put item = ⊥
+Stepped (Err (ends.Damaged damage)) may_leave now keeper was troubled changes put item = ⊥
+Stepped (Err ends.TooLong) may_leave now keeper was troubled changes put item = ⊥
 
--- of these bytes the reader gave these items, and each was worked and answered
+-- some bytes were fed to the reader
+abbrev pub HasReadSome : Held → Type 0
+HasReadSome reader = (bytes : List ℕ) × (given : List Item) × HasRead reader bytes given
+
+-- of these bytes the reader gave these items, and what each asks was worked and answered
 pub record IsWorking (may_leave : Image → Type 0) (o : Shown) (keeper : KeeperState) (troubled : Bool) (reader : Held) (changes : List Change) (before bytes : List ℕ) (given : List Item) : Type 0 where
+  pub asks : List Ask
   pub read : HasRead reader bytes given
-  pub at : IsAt may_leave o keeper (list_after_all changes (chunks given)) (before ++ replies changes (chunks given))
-  pub refused : troubled ≡ any_refused changes (chunks given)
+  pub asked : AllAsk (chunks given) asks
+  pub at : IsAt may_leave o keeper (list_after_all changes asks) (before ++ replies changes asks)
+  pub refused : troubled ≡ any_refused changes asks
 
 -- these are the first items of the bytes
 abbrev pub BeginsWith : Bool → List ℕ → List Item → Type 0
 BeginsWith ended bytes given = (rest : List ℕ) × Reads ended false bytes given rest
 
+-- the first items of the bytes ask this
+abbrev pub BeginsAsking : Bool → List ℕ → List Ask → Type 0
+BeginsAsking ended bytes asks = (given : List Item) × BeginsWith ended bytes given × AllAsk (chunks given) asks
+
 -- the work broke off for this reason
 abbrev pub BreaksOff : SessionEnd → (Image → Type 0) → Shown → KeeperState → Bool → List Change → List ℕ → List ℕ → Type 0
 BreaksOff ends.Memory may_leave now keeper ended changes before bytes =
-    (given : List Item) × BeginsWith ended bytes given × IsAt may_leave now keeper (list_after_all changes (chunks given)) (before ++ replies changes (chunks given))
+    (asks : List Ask) × BeginsAsking ended bytes asks × IsAt may_leave now keeper (list_after_all changes asks) (before ++ replies changes asks)
 BreaksOff (ends.Disk failed) may_leave now keeper ended changes before bytes =
-    (given : List Item) × BeginsWith ended bytes given × (now.taken ≡ Some (before ++ replies changes (chunks given)))
+    (asks : List Ask) × BeginsAsking ended bytes asks × (now.taken ≡ Some (before ++ replies changes asks))
 BreaksOff (ends.Write failed) may_leave now keeper ended changes before bytes =
-    (given : List Item) × (last : Item) × (count : ℕ) × BeginsWith ended bytes (given ++ last ∷ [])
-    × IsAt may_leave now keeper (list_after_all changes (chunks (given ++ last ∷ []))) ((before ++ replies changes (chunks given)) ++ take count (reply_text (reply_to (list_after_all changes (chunks given)) (Chunk last))))
+    (asks : List Ask) × (last : Ask) × (count : ℕ) × BeginsAsking ended bytes (asks ++ last ∷ [])
+    × IsAt may_leave now keeper (list_after_all changes (asks ++ last ∷ [])) ((before ++ replies changes asks) ++ take count (reply_text (reply_to (list_after_all changes asks) last)))
 BreaksOff (ends.Read failed) may_leave now keeper ended changes before bytes = ⊥
 BreaksOff (ends.Damaged damage) may_leave now keeper ended changes before bytes = ⊥
 BreaksOff ends.TooLong may_leave now keeper ended changes before bytes = ⊥
@@ -133,16 +147,19 @@ KeepLeaves changes put change told c = HasKept changes (length put) told c ⊎ H
 
 -- what a crash leaves while an item is worked, and before it is answered
 abbrev pub WorkLeaves : List Change → List ℕ → SessionItem → ℕ → Image → Type 0
-WorkLeaves changes put item told c = HasKept changes (length put) told c ⊎ HasKept (list_after changes item) (length put) told c
+WorkLeaves changes put item told c =
+    HasKept changes (length put) told c ⊎ ((ask : Ask) × Asks item ask × HasKept (list_after changes ask) (length put) told c)
 
 -- what a crash leaves while an item is worked and answered
 abbrev pub StepLeaves : List Change → List ℕ → SessionItem → ℕ → Image → Type 0
-StepLeaves changes put item told c = HasKept changes (length put) told c ⊎ HasKept (list_after changes item) (length (put ++ reply_text (reply_to changes item))) told c
+StepLeaves changes put item told c =
+    HasKept changes (length put) told c
+    ⊎ ((ask : Ask) × Asks item ask × HasKept (list_after changes ask) (length (put ++ reply_text (reply_to changes ask))) told c)
 
 -- what a crash leaves while the whole items are answered that a reader holds
 abbrev pub AnswersLeave : Bool → List Change → List ℕ → List ℕ → ℕ → Image → Type 0
 AnswersLeave ended changes before bytes told c =
-    (given : List Item) × BeginsWith ended bytes given × HasKept (list_after_all changes (chunks given)) (length (before ++ replies changes (chunks given))) told c
+    (asks : List Ask) × BeginsAsking ended bytes asks × HasKept (list_after_all changes asks) (length (before ++ replies changes asks)) told c
 
 -- after a start on a disk that reads for this list
 abbrev pub Starts : Result Session SessionEnd → (Image → Type 0) → Shown → List Change → List ℕ → Type 0

@@ -9,7 +9,7 @@ ghost use Rattle.s80_disk.specs.Moments.{LeavesOnly};
 ghost use Rattle.s80_session.specs.Putting.{IsAsBefore};
 ghost use Rattle.s80_session.specs.Run.{shown, input_limit, Ends, Keeps};
 ghost use Rattle.s80_session.specs.Session.{keeper_of, troubled_of, IsFaultless};
-ghost use Rattle.s80_session.specs.Working.{IsAt, IsWorking, AnswersAll, AnswersLeave, Takes, TakesAll};
+ghost use Rattle.s80_session.specs.Working.{HasReadSome, IsAt, IsWorking, AnswersAll, AnswersLeave, Takes, TakesAll};
 
 use crate::end::SessionEnd;
 use crate::item::SessionItem;
@@ -45,6 +45,7 @@ fn take_piece<O: Outside>(
     ensures any_moment { LeavesOnly O.moment O.left_since outside.old outside.new
         (IsAsBefore (O.may_leave outside.old) (O.told outside.old) 0) }
     ensures open { reader.new.ended ≡ false }
+    ensures reading { HasReadSome reader.old → HasReadSome reader.new }
     ensures counted { IfOk result (λ count. fed reader.new ≡ taken + count) }
     ensures within { IfOk result (λ count. taken + count ≤ input_limit) }
 {
@@ -67,6 +68,7 @@ impl Session {
         outside: &mut O,
     ) -> Result<(), SessionEnd>
         requires faultless { IsFaultless self.old }
+        requires reading { HasReadSome reader.old }
         ensures answered { (changes : List Change) (before bytes : List ℕ) (given : List Item)
             → IsWorking (O.may_leave outside.old)
             (shown O.tells O.reads O.left O.taken O.told outside.old) (keeper_of self.old) (troubled_of self.old) reader.old changes before bytes given
@@ -80,6 +82,7 @@ impl Session {
         ensures counts { Counts (faults O.read_faults O.write_faults O.disk_faults outside.old)
             (faults O.read_faults O.write_faults O.disk_faults outside.new) result }
         ensures faultless { OnOk result (IsFaultless self.new) }
+        ensures reading { OnOk result (HasReadSome reader.new) }
         ensures spent { OnOk result (IsSpent reader.new × (reader.new.room ≡ 4096)) }
         ensures fed { fed reader.new ≡ fed reader.old }
         ensures ended { reader.new.ended ≡ reader.old.ended }
@@ -98,6 +101,7 @@ impl Session {
         outside: &mut O,
     ) -> Result<(), SessionEnd>
         requires faultless { IsFaultless self.old }
+        requires reading { HasReadSome reader.old }
         requires open { reader.old.ended ≡ false }
         requires room { reader.old.room ≡ 4096 }
         requires counted { fed reader.old ≡ 0 }
@@ -113,6 +117,7 @@ impl Session {
         ensures counts { Counts (faults O.read_faults O.write_faults O.disk_faults outside.old)
             (faults O.read_faults O.write_faults O.disk_faults outside.new) result }
         ensures faultless { OnOk result (IsFaultless self.new) }
+        ensures reading { OnOk result (HasReadSome reader.new) }
         ensures ended { OnOk result (reader.new.ended ≡ true) }
     {
         let mut taken = 0;

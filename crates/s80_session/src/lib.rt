@@ -4,12 +4,15 @@
 mod end;
 mod input;
 mod item;
+mod laws;
 mod outside;
 mod reply;
 mod session;
+mod syntax;
 
 pub use end::SessionEnd;
 pub use item::{Query, SessionItem};
+pub use laws::one_ask;
 pub use outside::put_all;
 pub use reply::Reply;
 pub use session::Session;

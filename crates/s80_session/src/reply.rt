@@ -1,9 +1,11 @@
 // What an item is answered, and how that is written.
 ghost use Rattle.std.specs.Prelude.{◌≡◌, ◌++◌, ◌∷◌, [], IfOk};
-ghost use Rattle.s80_session.specs.Replies.{refusal_text, recovered_line};
+ghost use Rattle.s80_print.specs.Refusal.{refusal_text};
+ghost use Rattle.s80_session.specs.Replies.{recovered_line};
 
 use s80_base::{OutOfMemory, Text};
-use s80_change::{FitWord, Refusal};
+use s80_change::Refusal;
+use s80_print::refusal_text;
 use std::alloc::Global;
 
 /// What an item is answered.
@@ -22,33 +24,9 @@ pub enum Reply {
 pub(crate) fn refusal_line(alloc: Global, refusal: &Refusal) -> Result<Text, OutOfMemory>
     ensures { IfOk result (λ line. line ≡ refusal_text refusal.now ++ 10 ∷ []) }
 {
-    match refusal {
-        Refusal::Unended => Text::from_bytes(alloc, b"refused 1 unended\n"),
-        Refusal::TooLarge(FitWord::Chunk, count) => too_large_line(alloc, *count),
-        Refusal::LogFull(length) => log_full_line(alloc, *length),
-        Refusal::NoSection(head) => {
-            let mut line = Text::from_bytes(alloc, b"refused 13 no section ")?;
-            line.append(head.bytes())?;
-            line.append(b"\n")?;
-            Ok(line)
-        }
-    }
-}
-
-fn too_large_line(alloc: Global, count: u64) -> Result<Text, OutOfMemory>
-    ensures { IfOk result (λ line. line ≡ refusal_text (Refusal.TooLarge FitWord.Chunk count) ++ 10 ∷ []) }
-{
-    let line = format!(in alloc; "refused 3 too large chunk {count}\n")?;
-    let text = Text::from_bytes(alloc, line.as_bytes())?;
-    Ok(text)
-}
-
-fn log_full_line(alloc: Global, length: u64) -> Result<Text, OutOfMemory>
-    ensures { IfOk result (λ line. line ≡ refusal_text (Refusal.LogFull length) ++ 10 ∷ []) }
-{
-    let line = format!(in alloc; "refused 12 log full {length}\n")?;
-    let text = Text::from_bytes(alloc, line.as_bytes())?;
-    Ok(text)
+    let mut line = refusal_text(alloc, refusal)?;
+    line.append(b"\n")?;
+    Ok(line)
 }
 
 /// The line that says how many changes are kept.

@@ -1,12 +1,13 @@
 // A session works items: it keeps what they change, and answers them.
-ghost use Rattle.std.specs.Prelude.{◌≡◌, ◌<◌, ℕ, Bool, false, ◌||◌, List, ◌++◌, length, Some, IsTrue, IfOk, OnOk};
+ghost use Rattle.std.specs.Prelude.{◌≡◌, ◌<◌, ℕ, Bool, false, List, ◌++◌, length, Some, IsTrue, IfOk, OnOk};
 ghost use Rattle.s80_change.specs.declared.change.Change.{Change};
 ghost use Rattle.s80_disk.specs.declared.disk.FileId.{FileId};
 ghost use Rattle.s80_disk.specs.Moments.{LeavesOnly};
 ghost use Rattle.s80_mark.specs.Found.{longer_log};
 ghost use Rattle.s80_keeper.specs.Standing.{FilesStandFor, ReadsFor, StandsFor};
 ghost use Rattle.s80_session.specs.Ending.{faults, Counts, NoFewer, StartsForReason};
-ghost use Rattle.s80_session.specs.Replies.{reply_to_too_long};
+ghost use Rattle.s80_session.specs.Asked.{ask_of_too_long};
+ghost use Rattle.s80_session.specs.Replies.{reply_to};
 ghost use Rattle.s80_session.specs.Run.{shown, HasKept};
 ghost use Rattle.s80_session.specs.Working.{AnswerPut};
 
@@ -14,10 +15,13 @@ use crate::end::SessionEnd;
 use crate::item::{Query, SessionItem};
 use crate::outside::{keep_change, put_all, start_keeper};
 use crate::reply::{Reply, recovered_line, refusal_line};
+use crate::syntax::refusal_of;
+use s80_base::Text;
 use s80_change::{Change, FitWord, Refusal, Refused};
 use s80_chunk::{Item, Role};
 use s80_disk::Outside;
 use s80_keeper::{KeepFault, Keeper};
+use s80_syntax::parse_doit;
 use std::alloc::Global;
 
 /// A session at work on a folder.
@@ -30,7 +34,7 @@ pub struct Session {
 
 impl Session {
     ghost use Rattle.s80_change.specs.Block.{IsLawful};
-    ghost use Rattle.s80_session.specs.Replies.{reply_to, is_refused};
+    ghost use Rattle.s80_chunk.specs.Chunks.{IsPlainText};
     ghost use Rattle.s80_session.specs.Session.{keeper_of, troubled_of, IsFaultless};
     ghost use Rattle.s80_session.specs.Working.{IsAt, IsReadable, IsSessionStart, Kept, KeepLeaves, Starts, Worked, WorkLeaves, Stepped, StepLeaves};
 
@@ -77,19 +81,16 @@ impl Session {
         outside: &mut O,
     ) -> Result<(), SessionEnd>
         requires faultless { IsFaultless self.old }
-        ensures stepped { (changes : List Change) (put : List ℕ) → IsReadable item
+        requires readable { IsReadable item }
+        ensures stepped { (changes : List Change) (put : List ℕ)
             → IsAt (O.may_leave outside.old)
             (shown O.tells O.reads O.left O.taken O.told outside.old) (keeper_of self.old) changes put
             → Stepped result (O.may_leave outside.new)
-            (shown O.tells O.reads O.left O.taken O.told outside.new) (keeper_of self.new) changes put item }
-        ensures any_moment { (changes : List Change) (put : List ℕ) → IsReadable item
+            (shown O.tells O.reads O.left O.taken O.told outside.new) (keeper_of self.new) (troubled_of self.old) (troubled_of self.new) changes put item }
+        ensures any_moment { (changes : List Change) (put : List ℕ)
             → IsAt (O.may_leave outside.old)
             (shown O.tells O.reads O.left O.taken O.told outside.old) (keeper_of self.old) changes put
             → LeavesOnly O.moment O.left_since outside.old outside.new (StepLeaves changes put item) }
-        ensures troubled { (changes : List Change) (put : List ℕ) → IsReadable item
-            → IsAt (O.may_leave outside.old)
-            (shown O.tells O.reads O.left O.taken O.told outside.old) (keeper_of self.old) changes put
-            → OnOk result (troubled_of self.new ≡ (troubled_of self.old || is_refused (reply_to changes item))) }
         ensures faultless { OnOk result (IsFaultless self.new) }
         ensures left { O.left outside.new ≡ O.left outside.old }
         ensures counts { Counts (faults O.read_faults O.write_faults O.disk_faults outside.old)
@@ -118,12 +119,13 @@ impl Session {
         outside: &mut O,
     ) -> Result<Reply, SessionEnd>
         requires faultless { IsFaultless self.old }
-        ensures worked { (changes : List Change) (put : List ℕ) → IsReadable item
+        requires readable { IsReadable item }
+        ensures worked { (changes : List Change) (put : List ℕ)
             → IsAt (O.may_leave outside.old)
             (shown O.tells O.reads O.left O.taken O.told outside.old) (keeper_of self.old) changes put
             → Worked result (O.may_leave outside.new)
             (shown O.tells O.reads O.left O.taken O.told outside.new) (keeper_of self.new) changes put item }
-        ensures any_moment { (changes : List Change) (put : List ℕ) → IsReadable item
+        ensures any_moment { (changes : List Change) (put : List ℕ)
             → IsAt (O.may_leave outside.old)
             (shown O.tells O.reads O.left O.taken O.told outside.old) (keeper_of self.old) changes put
             → LeavesOnly O.moment O.left_since outside.old outside.new (WorkLeaves changes put item) }
@@ -134,14 +136,42 @@ impl Session {
             (faults O.read_faults O.write_faults O.disk_faults outside.new) result }
     {
         match item {
-            SessionItem::Chunk(Item::Plain(text)) => {
-                self.keep(alloc, Change::DoIt { text }, outside)
-            }
+            SessionItem::Chunk(Item::Plain(text)) => self.keep_doit(alloc, text, outside),
             SessionItem::Chunk(Item::Head(text)) => Ok(Reply::Refused(Refusal::NoSection(text))),
             SessionItem::Chunk(Item::Method(_) | Item::SectionEnd) => Ok(Reply::Silent),
             SessionItem::Chunk(Item::TooLong { role, length }) => Ok(too_long_reply(role, length)),
             SessionItem::Unended => Ok(Reply::Refused(Refusal::Unended)),
             SessionItem::Query(Query::Recover) => Ok(Reply::Recovered(self.keeper.count())),
+        }
+    }
+
+    /// Keeps a text that has a tree as a doIt, and refuses every other one with its first fault.
+    fn keep_doit<O: Outside>(
+        &mut self,
+        alloc: Global,
+        text: Text,
+        outside: &mut O,
+    ) -> Result<Reply, SessionEnd>
+        requires faultless { IsFaultless self.old }
+        requires plain { IsPlainText text }
+        ensures worked { (changes : List Change) (put : List ℕ)
+            → IsAt (O.may_leave outside.old)
+            (shown O.tells O.reads O.left O.taken O.told outside.old) (keeper_of self.old) changes put
+            → Worked result (O.may_leave outside.new)
+            (shown O.tells O.reads O.left O.taken O.told outside.new) (keeper_of self.new) changes put (SessionItem.Chunk (Item.Plain text)) }
+        ensures any_moment { (changes : List Change) (put : List ℕ)
+            → IsAt (O.may_leave outside.old)
+            (shown O.tells O.reads O.left O.taken O.told outside.old) (keeper_of self.old) changes put
+            → LeavesOnly O.moment O.left_since outside.old outside.new (WorkLeaves changes put (SessionItem.Chunk (Item.Plain text))) }
+        ensures troubled { troubled_of self.new ≡ troubled_of self.old }
+        ensures faultless { OnOk result (IsFaultless self.new) }
+        ensures left { O.left outside.new ≡ O.left outside.old }
+        ensures counts { Counts (faults O.read_faults O.write_faults O.disk_faults outside.old)
+            (faults O.read_faults O.write_faults O.disk_faults outside.new) result }
+    {
+        match parse_doit(alloc, &text) {
+            Ok(_) => self.keep(alloc, Change::DoIt { text }, outside),
+            Err(fault) => Ok(Reply::Refused(refusal_of(fault)?)),
         }
     }
 
@@ -184,7 +214,7 @@ impl Session {
 
 /// What a text is answered that is too long. Behind a head nothing is answered.
 fn too_long_reply(role: Role, length: u64) -> Reply
-    ensures { result ≡ reply_to_too_long role length }
+    ensures { (changes : List Change) → result ≡ reply_to changes (ask_of_too_long role length) }
 {
     match role {
         Role::Plain | Role::Head => Reply::Refused(Refusal::TooLarge(FitWord::Chunk, length)),

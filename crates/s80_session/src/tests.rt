@@ -1,5 +1,6 @@
 // A session over an outside in memory, with ample memory.
 ghost use Rattle.std.specs.Prelude.{◌≡◌, IfOk};
+ghost use Rattle.s80_chunk.specs.Chunks.{IsPlainText};
 ghost use Rattle.s80_disk.specs.Memory.{told_by};
 
 use crate::{Query, Session, SessionEnd, SessionItem, put_all};
@@ -55,6 +56,67 @@ fn items_are_answered_one_by_one(rt: HostRuntime) -> Result<(), Fail> {
     assert_eq!(rt;
         sink.bytes(),
         b"ok\nrecovered 1 changes, 0 classes, 0 methods\nrefused 13 no section Object foo\nrefused 3 too large chunk 65536\nrefused 1 unended\n".as_slice()
+    );
+    Ok(())
+}
+
+/// What a session answers to a plain text.
+fn answer_to(alloc: Global, text: &[u8]) -> Result<Vec<u8>, Fail>
+    requires { IsPlainText text.now }
+{
+    let mut outside = outside_of(alloc, new_disk(alloc, FaultPlan::Never)?, b"")?;
+    let mut session = Session::start(alloc, &mut outside)?;
+    let item = Item::Plain(Text::from_bytes(alloc, text)?);
+    session.step(alloc, SessionItem::Chunk(item), &mut outside)?;
+    let (_disk, _source, sink) = outside.parts();
+    Ok(sink.bytes().to_vec(alloc)?)
+}
+
+#[test]
+fn a_text_without_a_tree_is_refused_with_its_first_fault(rt: HostRuntime) -> Result<(), Fail> {
+    let alloc = rt.alloc();
+    let unended = answer_to(alloc, b"'a")?;
+    assert_eq!(rt;
+        unended.as_slice(),
+        b"refused 2 unended-token at 0\n".as_slice()
+    );
+    let bad_byte = answer_to(alloc, b"3 \x01")?;
+    assert_eq!(rt;
+        bad_byte.as_slice(),
+        b"refused 2 bad-byte at 2\n".as_slice()
+    );
+    let bad_number = answer_to(alloc, b"3r9")?;
+    assert_eq!(rt;
+        bad_number.as_slice(),
+        b"refused 2 bad-number at 0\n".as_slice()
+    );
+    let unexpected = answer_to(alloc, b"3 +")?;
+    assert_eq!(rt;
+        unexpected.as_slice(),
+        b"refused 2 unexpected at 3\n".as_slice()
+    );
+    let target = answer_to(alloc, b"self _ 3")?;
+    assert_eq!(rt;
+        target.as_slice(),
+        b"refused 2 not-assignable at 0\n".as_slice()
+    );
+    let nested = answer_to(alloc, &[b'('; 65])?;
+    assert_eq!(rt; nested.as_slice(), b"refused 2 nested at 64\n".as_slice());
+    Ok(())
+}
+
+#[test]
+fn a_refused_text_is_not_kept(rt: HostRuntime) -> Result<(), Fail> {
+    let alloc = rt.alloc();
+    let mut outside = outside_of(alloc, new_disk(alloc, FaultPlan::Never)?, b"1! 3 + ! 2!")?;
+    let mut session = Session::start(alloc, &mut outside)?;
+    session.run_items(alloc, &mut outside)?;
+    session.step(alloc, SessionItem::Query(Query::Recover), &mut outside)?;
+    assert!(rt; session.troubled());
+    let (_disk, _source, sink) = outside.parts();
+    assert_eq!(rt;
+        sink.bytes(),
+        b"ok\nrefused 2 unexpected at 4\nok\nrecovered 2 changes, 0 classes, 0 methods\n".as_slice()
     );
     Ok(())
 }

@@ -1,11 +1,9 @@
 -- The beginning of a command: the folder is chosen, and a session starts.
-use Rattle.std.proofs.Common.{◌≡◌, ◌⊎◌, inl, inr, ⊎_elim, ℕ, List, [], ◌∷◌, ◌++◌, length, refl, sym, ap, subst, ◌∙◌, Result, Ok, Err, Some, Bool, true, false, IsTrue, arith}
-use Rattle.std.specs.Prelude.{◌<◌, ◌≤◌}
+use Rattle.std.proofs.Common.{◌≡◌, inl, inr, ⊎_elim, ℕ, List, [], length, refl, sym, ap, subst, ◌∙◌, Err, Some, Bool, arith}
+use Rattle.std.specs.Prelude.{◌<◌}
 use Rattle.std.proofs.lemmas.List.{append-nil}
 use Rattle.s80_chunk.specs.Chunks.Reads.{stop}
 use Rattle.s80_change.specs.declared.change.Change.{Change}
-use Rattle.s80_disk.specs.declared.disk.FileId.{FileId}
-use Rattle.s80_disk.specs.declared.disk.FileId.TheVariants.{Mark}
 use Rattle.s80_disk.specs.Image.{Image}
 use Rattle.s80_disk.specs.Moments.{LeavesOnly}
 use Rattle.s80_disk.proofs.Run.{joined, weaker}
@@ -17,12 +15,9 @@ use Rattle.s80_keeper.specs.Standing.{FilesStandFor, StandsFor, ReadsFor}
 use Rattle.s80_keeper.specs.Start.{IsDamage}
 use Rattle.s80_session.specs.declared.end.SessionEnd.{SessionEnd}
 use Rattle.s80_session.specs.declared.end.SessionEnd.TheVariants as ends
-use Rattle.s80_session.specs.declared.item.Query.TheVariants as queries
-use Rattle.s80_session.specs.declared.item.SessionItem.TheVariants.{Query}
 use Rattle.s80_session.specs.Putting.{IsAsBefore}
 use Rattle.s80_session.specs.Run.{Shown, HasKept}
 use Rattle.s80_session.specs.Working.{IsDiskEnd, Starts, IsSessionStart}
-use Rattle.s80_session.specs.declared.session.Session.{Session}
 use Rattle.s80_session.proofs.Lasting.{keeps_at_start}
 use Rattle.st80.specs.declared.status.Status.TheVariants as status
 use Rattle.st80.specs.declared.words.Command.{Command}
@@ -73,8 +68,8 @@ module _ (old now : Shown) (same : now ≡ old) (was may_leave : Image → Type 
 -- the disk fails before the first item
 pub lost_at_start : (command : Command) (end : SessionEnd) (may_leave : Image → Type 0) (now : Shown) (changes : List Change) (input before : List ℕ) → IsDiskEnd end → now.left ≡ Some input → now.taken ≡ Some before → Leaves command (status_after (Err end)) may_leave now changes input before
 lost_at_start Run (ends.Disk failed) may_leave now changes input before is left taken = record {
-  items = [];
-  first = inl ([], input, stop refl refl, refl);
+  asks = [];
+  first = ([], inl ([], input, stop refl refl, refl), tt);
   taken = taken ∙ ap Some (sym (append-nil before));
 }
 lost_at_start Recover (ends.Disk failed) may_leave now changes input before is left taken = (taken, left)
@@ -87,8 +82,8 @@ lost_at_start command ends.TooLong may_leave now changes input before is left ta
 -- the session doesn't start
 pub no_session : (command : Command) (end : SessionEnd) (may_leave : Image → Type 0) (now : Shown) (changes : List Change) (input before : List ℕ) → Starts (Err end) may_leave now changes before → now.left ≡ Some input → now.taken ≡ Some before → Leaves command (status_after (Err end)) may_leave now changes input before
 no_session Run ends.Memory may_leave now changes input before h left taken = record {
-  items = [];
-  first = inl ([], input, stop refl refl, refl);
+  asks = [];
+  first = ([], inl ([], input, stop refl refl, refl), tt);
   answered = record { stands = h; taken = taken ∙ ap Some (sym (append-nil before)) };
 }
 no_session Recover ends.Memory may_leave now changes input before h left taken = (record { stands = h; taken = taken ∙ ap Some (sym (append-nil before)) }, left)

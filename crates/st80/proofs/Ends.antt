@@ -1,26 +1,29 @@
 -- The status of work that ended so.
-use Rattle.std.proofs.Common.{◌≡◌, ◌≢◌, ℕ, List, [], ◌∷◌, ◌++◌, refl, sym, ap, subst, ◌∙◌, Result, Ok, Err, Some, Bool, true, false, arith}
+use Rattle.std.proofs.Common.{◌≡◌, ◌≢◌, inl, inr, ℕ, List, [], ◌∷◌, ◌++◌, refl, sym, ap, subst, ◌∙◌, Result, Ok, Err, Some, Bool, true, false, arith}
 use Rattle.std.proofs.lemmas.List.{append-nil}
-use Rattle.std.specs.Prelude.{◌||◌, ◌≤◌, length, codes}
+use Rattle.std.specs.Prelude.{◌||◌, ◌≤◌, length}
 use Rattle.s80_change.specs.declared.change.Change.{Change}
 use Rattle.s80_base.specs.Causes.{Rose}
 use Rattle.s80_disk.specs.Image.{Image}
+use Rattle.s80_disk.specs.Moments.{LeavesOnly}
+use Rattle.s80_disk.proofs.Run.{weaker}
 use Rattle.s80_keeper.specs.Keeper.{KeeperState}
 use Rattle.s80_session.specs.declared.end.SessionEnd.{SessionEnd}
 use Rattle.s80_session.specs.declared.end.SessionEnd.TheVariants as ends
-use Rattle.s80_session.specs.declared.item.SessionItem.{SessionItem}
+use Rattle.s80_session.specs.declared.item.Query.{Query as SessionQuery}
+use Rattle.s80_session.specs.declared.item.SessionItem.TheVariants.{Query}
+use Rattle.s80_session.specs.Asked.{Ask, tells}
 use Rattle.s80_session.specs.Ending.{Faults, NoFewer, HasReason, EndsForReason, StartsForReason}
 use Rattle.s80_session.specs.Replies.{reply_to, reply_text, is_refused, list_after}
 use Rattle.s80_session.specs.Run.{Shown, Answered, Ends}
-use Rattle.s80_session.specs.Working.{IsAt, IsDiskEnd, Stepped}
+use Rattle.s80_session.specs.Working.{IsAt, IsDiskEnd, Stepped, StepLeaves}
 use Rattle.s80_session.specs.declared.session.Session.{Session}
 use Rattle.s80_session.proofs.Keeping.{keeps_stands}
-use Rattle.st80.specs.declared.status.Status.{Status}
 use Rattle.st80.specs.declared.status.Status.TheVariants as status
 use Rattle.st80.specs.declared.words.Command.{Command}
 use Rattle.st80.specs.declared.words.Command.TheVariants.{Run, Recover}
 use Rattle.st80.specs.Ending.{StatusHasReason, status_after}
-use Rattle.st80.specs.Leaves.{RunLeaves, ItemLeaves, TellsDamage}
+use Rattle.st80.specs.Leaves.{RunLeaves, ItemLeaves, AskLeaves, TellsDamage}
 use Rattle.st80.specs.Words.{command_word, Asks}
 
 -- a run that came to its end
@@ -37,25 +40,41 @@ run_ended T (ends.Disk failed) may_leave now troubled changes input before h = h
 run_ended T (ends.Damaged damage) may_leave now troubled changes input before h = absurd h
 run_ended T ends.TooLong may_leave now troubled changes input before h = h
 
-answered_item : (may_leave : Image → Type 0) (now : Shown) (keeper : KeeperState) (changes : List Change) (item : SessionItem) (before : List ℕ) → IsAt may_leave now keeper (list_after changes item) (before ++ reply_text (reply_to changes item)) → Answered may_leave now changes before (item ∷ [])
-answered_item may_leave now keeper changes item before h = record {
-  stands = keeps_stands now.tells now.files may_leave keeper (list_after changes item) h.keeps;
-  taken = h.taken ∙ ap (λ (l : List ℕ). Some (before ++ l)) (sym (append-nil (reply_text (reply_to changes item))));
+answered_ask : (may_leave : Image → Type 0) (now : Shown) (keeper : KeeperState) (changes : List Change) (ask : Ask) (before : List ℕ) → IsAt may_leave now keeper (list_after changes ask) (before ++ reply_text (reply_to changes ask)) → Answered may_leave now changes before (ask ∷ [])
+answered_ask may_leave now keeper changes ask before h = record {
+  stands = keeps_stands now.tells now.files may_leave keeper (list_after changes ask) h.keeps;
+  taken = h.taken ∙ ap (λ (l : List ℕ). Some (before ++ l)) (sym (append-nil (reply_text (reply_to changes ask))));
 }
 
--- an item that was worked and answered
-pub item_done : {T : Type 0} (done : T) (may_leave : Image → Type 0) (now : Shown) (keeper : KeeperState) (was troubled : Bool) (changes : List Change) (item : SessionItem) (before : List ℕ) → Stepped (Ok done) may_leave now keeper changes before item → was ≡ false → troubled ≡ (was || is_refused (reply_to changes item)) → ItemLeaves (status_after (Ok troubled)) may_leave now changes item before
-item_done done may_leave now keeper was true changes item before h calm is = (answered_item may_leave now keeper changes item before h, let P : Bool → Type 0 = λ b. true ≡ (b || is_refused (reply_to changes item)) in sym (subst P calm is))
-item_done done may_leave now keeper was false changes item before h calm is = (answered_item may_leave now keeper changes item before h, let P : Bool → Type 0 = λ b. false ≡ (b || is_refused (reply_to changes item)) in sym (subst P calm is))
+-- what an item asked was worked and answered
+ask_done : (may_leave : Image → Type 0) (now : Shown) (keeper : KeeperState) (was troubled : Bool) (changes : List Change) (ask : Ask) (before : List ℕ) → troubled ≡ (was || is_refused (reply_to changes ask)) → IsAt may_leave now keeper (list_after changes ask) (before ++ reply_text (reply_to changes ask)) → was ≡ false → ItemLeaves (status_after (Ok troubled)) may_leave now changes ask before
+ask_done may_leave now keeper was true changes ask before is h calm = (answered_ask may_leave now keeper changes ask before h, let P : Bool → Type 0 = λ b. true ≡ (b || is_refused (reply_to changes ask)) in sym (subst P calm is))
+ask_done may_leave now keeper was false changes ask before is h calm = (answered_ask may_leave now keeper changes ask before h, let P : Bool → Type 0 = λ b. false ≡ (b || is_refused (reply_to changes ask)) in sym (subst P calm is))
 
--- one that broke off
-pub item_ended : (T : Type 0) (end : SessionEnd) (may_leave : Image → Type 0) (now : Shown) (keeper : KeeperState) (changes : List Change) (item : SessionItem) (before : List ℕ) → Stepped {T = T} (Err end) may_leave now keeper changes before item → ItemLeaves (status_after (Err end)) may_leave now changes item before
-item_ended T ends.Memory may_leave now keeper changes item before h = record { stands = keeps_stands now.tells now.files may_leave keeper changes h.keeps; taken = h.taken ∙ ap Some (sym (append-nil before)) }
-item_ended T (ends.Disk failed) may_leave now keeper changes item before h = h
-item_ended T (ends.Write failed) may_leave now keeper changes item before h = (h.0, keeps_stands now.tells now.files may_leave keeper (list_after changes item) h.1.keeps, h.1.taken)
-item_ended T (ends.Read failed) may_leave now keeper changes item before h = absurd h
-item_ended T (ends.Damaged damage) may_leave now keeper changes item before h = absurd h
-item_ended T ends.TooLong may_leave now keeper changes item before h = absurd h
+pub query_done : (may_leave : Image → Type 0) (now : Shown) (keeper : KeeperState) (was troubled : Bool) (changes : List Change) (query : SessionQuery) (before : List ℕ) → Stepped {T = Unit {0}} (Ok tt) may_leave now keeper was troubled changes before (Query query) → was ≡ false → ItemLeaves (status_after (Ok troubled)) may_leave now changes (tells query) before
+query_done may_leave now keeper was troubled changes query before h calm =
+    let P : Ask → Type 0 = λ a. ItemLeaves (status_after (Ok troubled)) may_leave now changes a before in
+    subst P h.1 (ask_done may_leave now keeper was troubled changes h.0 before h.2 h.3 calm)
+
+-- a query that broke off
+pub query_ended : (T : Type 0) (end : SessionEnd) (may_leave : Image → Type 0) (now : Shown) (keeper : KeeperState) (was troubled : Bool) (changes : List Change) (query : SessionQuery) (before : List ℕ) → Stepped {T = T} (Err end) may_leave now keeper was troubled changes before (Query query) → ItemLeaves (status_after (Err end)) may_leave now changes (tells query) before
+query_ended T ends.Memory may_leave now keeper was troubled changes query before h = record { stands = keeps_stands now.tells now.files may_leave keeper changes h.keeps; taken = h.taken ∙ ap Some (sym (append-nil before)) }
+query_ended T (ends.Disk failed) may_leave now keeper was troubled changes query before h = h
+query_ended T (ends.Write failed) may_leave now keeper was troubled changes query before h =
+    let P : Ask → Type 0 = λ a. ItemLeaves status.WriteFault may_leave now changes a before in
+    subst P h.1 (h.2, keeps_stands now.tells now.files may_leave keeper (list_after changes h.0) h.3.keeps, h.3.taken)
+query_ended T (ends.Read failed) may_leave now keeper was troubled changes query before h = absurd h
+query_ended T (ends.Damaged damage) may_leave now keeper was troubled changes query before h = absurd h
+query_ended T ends.TooLong may_leave now keeper was troubled changes query before h = absurd h
+
+-- what a crash leaves while a query is answered
+query_leaves : (changes : List Change) (query : SessionQuery) (before : List ℕ) (told : ℕ) (c : Image) → StepLeaves changes before (Query query) told c → AskLeaves changes before (tells query) told c
+query_leaves changes query before told c (inl h) = inl h
+query_leaves changes query before told c (inr (ask, is, h)) =
+    let P : Ask → Type 0 = λ a. AskLeaves changes before a told c in subst P is (inr h)
+
+pub query_lasts : {D : Type 0} (moment : D → ℕ) (left_since : D → ℕ → ℕ → Image → Type 0) (old new : D) (changes : List Change) (query : SessionQuery) (before : List ℕ) → LeavesOnly moment left_since old new (StepLeaves changes before (Query query)) → LeavesOnly moment left_since old new (AskLeaves changes before (tells query))
+query_lasts moment left_since old new changes query before run = weaker moment left_since old new (StepLeaves changes before (Query query)) (AskLeaves changes before (tells query)) run (λ told c h. query_leaves changes query before told c h)
 
 pub reason_err : (end : SessionEnd) (before now : Faults) → HasReason before now end → StatusHasReason before now (status_after (Err end))
 reason_err ends.Memory before now h = tt

@@ -3,37 +3,38 @@ use Rattle.std.proofs.Common.{◌≡◌, inl, inr, ℕ, ◌≤◌, List, [], ◌
 use Rattle.std.proofs.lemmas.List.{append-nil}
 use Rattle.s80_chunk.specs.declared.item.Item.{Item}
 use Rattle.s80_chunk.specs.Chunks.{Reads, IsBlank}
-use Rattle.s80_chunk.specs.Chunks.Reads.{stop}
 use Rattle.s80_chunk.proofs.Reading.{one_reading}
 use Rattle.s80_chunk.proofs.Stopping.{reads_prefix}
 use Rattle.s80_change.specs.declared.change.Change.{Change}
 use Rattle.s80_disk.specs.Image.{Image}
 use Rattle.s80_session.specs.declared.item.Query.TheVariants as queries
 use Rattle.s80_session.specs.declared.item.SessionItem.{SessionItem}
-use Rattle.s80_session.specs.declared.item.SessionItem.TheVariants.{Chunk, Unended, Query}
+use Rattle.s80_session.specs.declared.item.SessionItem.TheVariants.{Chunk, Unended}
+use Rattle.s80_session.specs.Asked.{Ask, tells, AllAsk}
 use Rattle.s80_session.specs.Ending.{Faults}
 use Rattle.s80_session.specs.Replies.{reply_to, reply_text, list_after, list_after_all, replies}
-use Rattle.s80_session.specs.Run.{Shown, chunks, ItemsOf, FirstItemsOf, WholeItemsOf, Finished, input_limit}
+use Rattle.s80_session.specs.Run.{Shown, chunks, ItemsOf, FirstItemsOf, AsksOf, FirstAsksOf, WholeAsksOf, Finished, input_limit}
+use Rattle.s80_session.proofs.Asking.{one_ask}
 use Rattle.s80_session.proofs.Taking.{first_of}
 use Rattle.st80.specs.declared.status.Status.{Status}
 use Rattle.st80.specs.declared.status.Status.TheVariants as status
 use Rattle.st80.specs.declared.words.Command.{Command}
 use Rattle.st80.specs.declared.words.Command.TheVariants.{Run, Recover}
 use Rattle.st80.specs.Ending.{NoFault, StatusHasReason, IsWhole}
-use Rattle.st80.specs.Leaves.{RunLeaves, ItemLeaves, Leaves, AllItems, IsWithin}
+use Rattle.st80.specs.Leaves.{RunLeaves, ItemLeaves, Leaves, AllAsks, IsWithin}
 
 chunks_append : (given more : List Item) → chunks (given ++ more) ≡ chunks given ++ chunks more
 chunks_append [] more = refl
 chunks_append (item ∷ given) more = ap (λ l. Chunk item ∷ l) (chunks_append given more)
 
-replies_append : (changes : List Change) (items more : List SessionItem) → replies changes (items ++ more) ≡ replies changes items ++ replies (list_after_all changes items) more
+replies_append : (changes : List Change) (asks more : List Ask) → replies changes (asks ++ more) ≡ replies changes asks ++ replies (list_after_all changes asks) more
 replies_append changes [] more = refl
-replies_append changes (item ∷ items) more =
-    ap (λ l. reply_text (reply_to changes item) ++ l) (replies_append (list_after changes item) items more)
-    ∙ sym (append_assoc (reply_text (reply_to changes item)) (replies (list_after changes item) items) (replies (list_after_all (list_after changes item) items) more))
+replies_append changes (ask ∷ asks) more =
+    ap (λ l. reply_text (reply_to changes ask) ++ l) (replies_append (list_after changes ask) asks more)
+    ∙ sym (append_assoc (reply_text (reply_to changes ask)) (replies (list_after changes ask) asks) (replies (list_after_all (list_after changes ask) asks) more))
 
-abbrev Begins : List SessionItem → List SessionItem → Type 0
-Begins items all = (others : List SessionItem) × (all ≡ items ++ others)
+abbrev Begins : {A : Type 0} → List A → List A → Type 0
+Begins {A} items all = (others : List A) × (all ≡ items ++ others)
 
 -- the items that a front reads as are the first of all
 reading_first : (input : List ℕ) (given : List Item) (rest : List ℕ) (all : List SessionItem) → Reads true false input given rest → ItemsOf input all → Begins (chunks given) all
@@ -58,70 +59,88 @@ first_items input items all (inl (given, rest, reads, is)) whole =
     let P : List SessionItem → Type 0 = λ l. Begins l all in subst P (sym is) (reading_first input given rest all reads whole)
 first_items input items all (inr list) whole = ([], sym (one_list input items all list whole) ∙ sym (append-nil items))
 
-whole_first : (got left input : List ℕ) (items : List SessionItem) → WholeItemsOf got items → input ≡ got ++ left → FirstItemsOf input items
-whole_first got left input items (given, rest, reads, none, is) input_is =
+whole_first : (got left input : List ℕ) (asks : List Ask) → WholeAsksOf got asks → input ≡ got ++ left → FirstAsksOf input asks
+whole_first got left input asks (items, (given, rest, reads, none, is), asked) input_is =
     let P : List SessionItem → Type 0 = λ l. FirstItemsOf input l in
-    subst P (sym is) (first_of false got left input given (rest, reads) input_is (λ e. cc))
+    (items, subst P (sym is) (first_of false got left input given (rest, reads) input_is (λ e. cc)), asked)
+
+-- the first items ask the first of what all items ask
+asks_begin : (items others : List SessionItem) (asks all : List Ask) → AllAsk items asks → AllAsk (items ++ others) all → Begins asks all
+asks_begin [] others [] all h k = (all, refl)
+asks_begin [] others (ask ∷ asks) all h k = absurd h
+asks_begin (item ∷ items) others [] all h k = absurd h
+asks_begin (item ∷ items) others (ask ∷ asks) [] h k = absurd k
+asks_begin (item ∷ items) others (ask ∷ asks) (again ∷ all) h k =
+    let rest = asks_begin items others asks all h.1 k.1 in
+    (rest.0, ap (λ a. a ∷ all) (sym (one_ask item ask again h.0 k.0)) ∙ ap (λ l. ask ∷ l) rest.1)
+
+first_asks : (input : List ℕ) (asks all : List Ask) → FirstAsksOf input asks → AsksOf input all → Begins asks all
+first_asks input asks all (items, first, asked) (list, whole, all_asked) =
+    let begins = first_items input items list first whole in
+    let P : List SessionItem → Type 0 = λ l. AllAsk l all in
+    asks_begin items begins.0 asks all asked (subst P begins.1 all_asked)
 
 -- these bytes were put, a front of all replies
-abbrev PutsFront : Shown → List Change → List ℕ → List SessionItem → Type 0
+abbrev PutsFront : Shown → List Change → List ℕ → List Ask → Type 0
 PutsFront now changes before all = (put more : List ℕ) × (now.taken ≡ Some (before ++ put)) × (replies changes all ≡ put ++ more)
 
-front_put : (now : Shown) (changes : List Change) (before : List ℕ) (items all : List SessionItem) → Begins items all → now.taken ≡ Some (before ++ replies changes items) → PutsFront now changes before all
-front_put now changes before items all h taken = (replies changes items, replies (list_after_all changes items) h.0, taken, ap (replies changes) h.1 ∙ replies_append changes items h.0)
+front_put : (now : Shown) (changes : List Change) (before : List ℕ) (asks all : List Ask) → Begins asks all → now.taken ≡ Some (before ++ replies changes asks) → PutsFront now changes before all
+front_put now changes before asks all h taken = (replies changes asks, replies (list_after_all changes asks) h.0, taken, ap (replies changes) h.1 ∙ replies_append changes asks h.0)
 
 -- the last reply was put in part
-part_put : (now : Shown) (changes : List Change) (before : List ℕ) (items : List SessionItem) (last : SessionItem) (count : ℕ) (all : List SessionItem) → Begins (items ++ last ∷ []) all
-    → now.taken ≡ Some ((before ++ replies changes items) ++ take count (reply_text (reply_to (list_after_all changes items) last))) → PutsFront now changes before all
-part_put now changes before items last count all h taken =
-    let line = reply_text (reply_to (list_after_all changes items) last) in
-    let after = replies (list_after (list_after_all changes items) last) h.0 in
+part_put : (now : Shown) (changes : List Change) (before : List ℕ) (asks : List Ask) (last : Ask) (count : ℕ) (all : List Ask) → Begins (asks ++ last ∷ []) all
+    → now.taken ≡ Some ((before ++ replies changes asks) ++ take count (reply_text (reply_to (list_after_all changes asks) last))) → PutsFront now changes before all
+part_put now changes before asks last count all h taken =
+    let line = reply_text (reply_to (list_after_all changes asks) last) in
+    let after = replies (list_after (list_after_all changes asks) last) h.0 in
     let rest = drop count line ++ after in
-    let whole : replies changes all ≡ replies changes items ++ (line ++ after) =
-    ap (replies changes) (h.1 ∙ append_assoc items (last ∷ []) h.0) ∙ replies_append changes items (last ∷ h.0) in
+    let whole : replies changes all ≡ replies changes asks ++ (line ++ after) =
+    ap (replies changes) (h.1 ∙ append_assoc asks (last ∷ []) h.0) ∙ replies_append changes asks (last ∷ h.0) in
     let cut : line ++ after ≡ take count line ++ rest =
     ap (λ (l : List ℕ). l ++ after) (sym (take-append-drop count line)) ∙ append_assoc (take count line) (drop count line) after in (
-      replies changes items ++ take count line,
+      replies changes asks ++ take count line,
       rest,
-      taken ∙ ap Some (append_assoc before (replies changes items) (take count line)),
-      whole ∙ ap (λ (l : List ℕ). replies changes items ++ l) cut ∙ sym (append_assoc (replies changes items) (take count line) rest),
+      taken ∙ ap Some (append_assoc before (replies changes asks) (take count line)),
+      whole ∙ ap (λ (l : List ℕ). replies changes asks ++ l) cut ∙ sym (append_assoc (replies changes asks) (take count line) rest),
     )
 
-finished_front : (may_leave : Image → Type 0) (now : Shown) (changes : List Change) (input before : List ℕ) (refused : Bool) (all : List SessionItem) → Finished may_leave now changes input before refused → ItemsOf input all → PutsFront now changes before all
-finished_front may_leave now changes input before refused all h whole = front_put now changes before h.items all ([], sym (one_list input h.items all h.all whole) ∙ sym (append-nil h.items)) h.answered.taken
+finished_front : (may_leave : Image → Type 0) (now : Shown) (changes : List Change) (input before : List ℕ) (refused : Bool) (all : List Ask) → Finished may_leave now changes input before refused → AsksOf input all → PutsFront now changes before all
+finished_front may_leave now changes input before refused all h whole =
+    let items_first : FirstAsksOf input h.asks = (h.all.0, inr h.all.1, h.all.2) in
+    front_put now changes before h.asks all (first_asks input h.asks all items_first whole) h.answered.taken
 
 -- whatever the status of a run, a front of all replies was put
-run_front : (s : Status) (may_leave : Image → Type 0) (now : Shown) (changes : List Change) (input before : List ℕ) (all : List SessionItem) → RunLeaves s may_leave now changes input before → ItemsOf input all → PutsFront now changes before all
+run_front : (s : Status) (may_leave : Image → Type 0) (now : Shown) (changes : List Change) (input before : List ℕ) (all : List Ask) → RunLeaves s may_leave now changes input before → AsksOf input all → PutsFront now changes before all
 run_front status.Done may_leave now changes input before all h whole = finished_front may_leave now changes input before false all h whole
 run_front status.DoneWithRefusals may_leave now changes input before all h whole = finished_front may_leave now changes input before true all h whole
 run_front status.Usage may_leave now changes input before all h whole = absurd h
-run_front status.ReadFault may_leave now changes input before all h whole = front_put now changes before h.items all (first_items input h.items all (whole_first h.got h.left input h.items h.whole h.input_is) whole) h.answered.taken
-run_front status.WriteFault may_leave now changes input before all h whole = part_put now changes before h.items h.last h.count all (first_items input (h.items ++ h.last ∷ []) all h.first whole) h.taken
-run_front status.DiskFault may_leave now changes input before all h whole = front_put now changes before h.items all (first_items input h.items all h.first whole) h.taken
+run_front status.ReadFault may_leave now changes input before all h whole = front_put now changes before h.asks all (first_asks input h.asks all (whole_first h.got h.left input h.asks h.whole h.input_is) whole) h.answered.taken
+run_front status.WriteFault may_leave now changes input before all h whole = part_put now changes before h.asks h.last h.count all (first_asks input (h.asks ++ h.last ∷ []) all h.first whole) h.taken
+run_front status.DiskFault may_leave now changes input before all h whole = front_put now changes before h.asks all (first_asks input h.asks all h.first whole) h.taken
 run_front status.Damaged may_leave now changes input before all h whole = absurd h
-run_front status.OutOfMemory may_leave now changes input before all h whole = front_put now changes before h.items all (first_items input h.items all h.first whole) h.answered.taken
-run_front status.InputTooLong may_leave now changes input before all h whole = front_put now changes before h.items all (first_items input h.items all (whole_first h.got (h.next ∷ h.left) input h.items h.whole h.input_is) whole) h.answered.taken
+run_front status.OutOfMemory may_leave now changes input before all h whole = front_put now changes before h.asks all (first_asks input h.asks all h.first whole) h.answered.taken
+run_front status.InputTooLong may_leave now changes input before all h whole = front_put now changes before h.asks all (first_asks input h.asks all (whole_first h.got (h.next ∷ h.left) input h.asks h.whole h.input_is) whole) h.answered.taken
 
 -- the same where one item is worked
-item_front : (s : Status) (may_leave : Image → Type 0) (now : Shown) (changes : List Change) (item : SessionItem) (before : List ℕ) → ItemLeaves s may_leave now changes item before → PutsFront now changes before (item ∷ [])
-item_front status.Done may_leave now changes item before h = front_put now changes before (item ∷ []) (item ∷ []) ([], refl) h.0.taken
-item_front status.DoneWithRefusals may_leave now changes item before h = front_put now changes before (item ∷ []) (item ∷ []) ([], refl) h.0.taken
-item_front status.Usage may_leave now changes item before h = absurd h
-item_front status.ReadFault may_leave now changes item before h = absurd h
-item_front status.WriteFault may_leave now changes item before h =
-    let line = reply_text (reply_to changes item) in
+item_front : (s : Status) (may_leave : Image → Type 0) (now : Shown) (changes : List Change) (ask : Ask) (before : List ℕ) → ItemLeaves s may_leave now changes ask before → PutsFront now changes before (ask ∷ [])
+item_front status.Done may_leave now changes ask before h = front_put now changes before (ask ∷ []) (ask ∷ []) ([], refl) h.0.taken
+item_front status.DoneWithRefusals may_leave now changes ask before h = front_put now changes before (ask ∷ []) (ask ∷ []) ([], refl) h.0.taken
+item_front status.Usage may_leave now changes ask before h = absurd h
+item_front status.ReadFault may_leave now changes ask before h = absurd h
+item_front status.WriteFault may_leave now changes ask before h =
+    let line = reply_text (reply_to changes ask) in
     (take h.0 line, drop h.0 line, h.2, append-nil line ∙ sym (take-append-drop h.0 line))
-item_front status.DiskFault may_leave now changes item before h = ([], replies changes (item ∷ []), h ∙ ap Some (sym (append-nil before)), refl)
-item_front status.Damaged may_leave now changes item before h = absurd h
-item_front status.OutOfMemory may_leave now changes item before h = front_put now changes before [] (item ∷ []) (item ∷ [], refl) h.taken
-item_front status.InputTooLong may_leave now changes item before h = absurd h
+item_front status.DiskFault may_leave now changes ask before h = ([], replies changes (ask ∷ []), h ∙ ap Some (sym (append-nil before)), refl)
+item_front status.Damaged may_leave now changes ask before h = absurd h
+item_front status.OutOfMemory may_leave now changes ask before h = front_put now changes before [] (ask ∷ []) (ask ∷ [], refl) h.taken
+item_front status.InputTooLong may_leave now changes ask before h = absurd h
 
 -- whatever the command and the status, a front of all replies was put
-pub front_of : (command : Command) (s : Status) (may_leave : Image → Type 0) (now : Shown) (changes : List Change) (input before : List ℕ) (all : List SessionItem) → Leaves command s may_leave now changes input before → AllItems command input all → PutsFront now changes before all
+pub front_of : (command : Command) (s : Status) (may_leave : Image → Type 0) (now : Shown) (changes : List Change) (input before : List ℕ) (all : List Ask) → Leaves command s may_leave now changes input before → AllAsks command input all → PutsFront now changes before all
 front_of Run s may_leave now changes input before all h whole = run_front s may_leave now changes input before all h whole
 front_of Recover s may_leave now changes input before all h is =
-    let P : List SessionItem → Type 0 = λ l. PutsFront now changes before l in
-    subst P (sym is) (item_front s may_leave now changes (Query queries.Recover) before h.0)
+    let P : List Ask → Type 0 = λ l. PutsFront now changes before l in
+    subst P (sym is) (item_front s may_leave now changes (tells queries.Recover) before h.0)
 
 longer : (got left : List ℕ) (next : ℕ) (input : List ℕ) → input ≡ got ++ next ∷ left → length got ≡ input_limit → length input ≤ input_limit → ⊥
 longer got left next input is limit within =
@@ -139,17 +158,17 @@ run_whole status.Damaged old new may_leave now changes input before h reason non
 run_whole status.OutOfMemory old new may_leave now changes input before h reason none within = tt
 run_whole status.InputTooLong old new may_leave now changes input before h reason none within = absurd (longer h.got h.left h.next input h.input_is h.limit within)
 
-item_whole : (s : Status) (old new : Faults) (may_leave : Image → Type 0) (now : Shown) (changes : List Change) (item : SessionItem) (before : List ℕ) → ItemLeaves s may_leave now changes item before → StatusHasReason old new s → NoFault old new → IsWhole s
-item_whole status.Done old new may_leave now changes item before h reason none = tt
-item_whole status.DoneWithRefusals old new may_leave now changes item before h reason none = tt
-item_whole status.Usage old new may_leave now changes item before h reason none = absurd h
-item_whole status.ReadFault old new may_leave now changes item before h reason none = absurd h
-item_whole status.WriteFault old new may_leave now changes item before h reason none = absurd (none.write reason)
-item_whole status.DiskFault old new may_leave now changes item before h reason none = absurd (none.disk reason)
-item_whole status.Damaged old new may_leave now changes item before h reason none = absurd h
-item_whole status.OutOfMemory old new may_leave now changes item before h reason none = tt
-item_whole status.InputTooLong old new may_leave now changes item before h reason none = absurd h
+item_whole : (s : Status) (old new : Faults) (may_leave : Image → Type 0) (now : Shown) (changes : List Change) (ask : Ask) (before : List ℕ) → ItemLeaves s may_leave now changes ask before → StatusHasReason old new s → NoFault old new → IsWhole s
+item_whole status.Done old new may_leave now changes ask before h reason none = tt
+item_whole status.DoneWithRefusals old new may_leave now changes ask before h reason none = tt
+item_whole status.Usage old new may_leave now changes ask before h reason none = absurd h
+item_whole status.ReadFault old new may_leave now changes ask before h reason none = absurd h
+item_whole status.WriteFault old new may_leave now changes ask before h reason none = absurd (none.write reason)
+item_whole status.DiskFault old new may_leave now changes ask before h reason none = absurd (none.disk reason)
+item_whole status.Damaged old new may_leave now changes ask before h reason none = absurd h
+item_whole status.OutOfMemory old new may_leave now changes ask before h reason none = tt
+item_whole status.InputTooLong old new may_leave now changes ask before h reason none = absurd h
 
 pub whole_without_fault : (command : Command) (s : Status) (old new : Faults) (may_leave : Image → Type 0) (now : Shown) (changes : List Change) (input before : List ℕ) → Leaves command s may_leave now changes input before → StatusHasReason old new s → NoFault old new → IsWithin command input → IsWhole s
 whole_without_fault Run s old new may_leave now changes input before h reason none within = run_whole s old new may_leave now changes input before h reason none within
-whole_without_fault Recover s old new may_leave now changes input before h reason none within = item_whole s old new may_leave now changes (Query queries.Recover) before h.0 reason none
+whole_without_fault Recover s old new may_leave now changes input before h reason none within = item_whole s old new may_leave now changes (tells queries.Recover) before h.0 reason none

@@ -1,14 +1,12 @@
 -- What the program leaves: on its disk, of its input and in its output.
-use Rattle.std.specs.Prelude.{◌≡◌, ◌≤◌, ℕ, true, false, List, [], ◌∷◌, ◌++◌, length, take, Some}
+use Rattle.std.specs.Prelude.{◌≡◌, ◌⊎◌, ◌≤◌, ℕ, true, false, List, [], ◌∷◌, ◌++◌, length, take, Some}
 use Rattle.s80_change.specs.declared.change.Change.{Change}
 use Rattle.s80_disk.specs.Image.{Image}
 use Rattle.s80_keeper.specs.Standing.{ReadsFor}
 use Rattle.s80_session.specs.declared.item.Query.TheVariants as queries
-use Rattle.s80_session.specs.declared.item.SessionItem.{SessionItem}
-use Rattle.s80_session.specs.declared.item.SessionItem.TheVariants.{Query}
+use Rattle.s80_session.specs.Asked.{Ask, tells}
 use Rattle.s80_session.specs.Replies.{reply_to, reply_text, list_after, is_refused}
-use Rattle.s80_session.specs.Run.{Shown, ShownFor, Answered, Finished, CutOff, TooLong, BrokeOff, Unanswered, LostDisk, Keeps, ItemsOf, input_limit}
-use Rattle.s80_session.specs.Working.{StepLeaves}
+use Rattle.s80_session.specs.Run.{Shown, ShownFor, Answered, Finished, CutOff, TooLong, BrokeOff, Unanswered, LostDisk, HasKept, Keeps, AsksOf, input_limit}
 use Rattle.st80.specs.declared.status.Status.{Status}
 use Rattle.st80.specs.declared.status.Status.TheVariants as status
 use Rattle.st80.specs.declared.words.Command.{Command}
@@ -33,38 +31,43 @@ RunLeaves status.Damaged may_leave now changes input before = ⊥
 RunLeaves status.OutOfMemory may_leave now changes input before = BrokeOff may_leave now changes input before
 RunLeaves status.InputTooLong may_leave now changes input before = TooLong may_leave now changes input before
 
--- one item was worked, and answered
-abbrev pub IsAnswered : (Image → Type 0) → Shown → List Change → SessionItem → List ℕ → Type 0
-IsAnswered may_leave now changes item before = Answered may_leave now changes before (item ∷ [])
+-- what one item asks was worked, and answered
+abbrev pub IsAnswered : (Image → Type 0) → Shown → List Change → Ask → List ℕ → Type 0
+IsAnswered may_leave now changes ask before = Answered may_leave now changes before (ask ∷ [])
 
--- what is left where one item is worked, by the status
-abbrev pub ItemLeaves : Status → (Image → Type 0) → Shown → List Change → SessionItem → List ℕ → Type 0
-ItemLeaves status.Done may_leave now changes item before = IsAnswered may_leave now changes item before × (is_refused (reply_to changes item) ≡ false)
-ItemLeaves status.DoneWithRefusals may_leave now changes item before = IsAnswered may_leave now changes item before × (is_refused (reply_to changes item) ≡ true)
-ItemLeaves status.Usage may_leave now changes item before = ⊥
-ItemLeaves status.ReadFault may_leave now changes item before = ⊥
-ItemLeaves status.WriteFault may_leave now changes item before =
-    (count : ℕ) × ShownFor may_leave now (list_after changes item) × (now.taken ≡ Some (before ++ take count (reply_text (reply_to changes item))))
-ItemLeaves status.DiskFault may_leave now changes item before = now.taken ≡ Some before
-ItemLeaves status.Damaged may_leave now changes item before = ⊥
-ItemLeaves status.OutOfMemory may_leave now changes item before = Answered may_leave now changes before []
-ItemLeaves status.InputTooLong may_leave now changes item before = ⊥
+-- what is left where one item is worked that asks this, by the status
+abbrev pub ItemLeaves : Status → (Image → Type 0) → Shown → List Change → Ask → List ℕ → Type 0
+ItemLeaves status.Done may_leave now changes ask before = IsAnswered may_leave now changes ask before × (is_refused (reply_to changes ask) ≡ false)
+ItemLeaves status.DoneWithRefusals may_leave now changes ask before = IsAnswered may_leave now changes ask before × (is_refused (reply_to changes ask) ≡ true)
+ItemLeaves status.Usage may_leave now changes ask before = ⊥
+ItemLeaves status.ReadFault may_leave now changes ask before = ⊥
+ItemLeaves status.WriteFault may_leave now changes ask before =
+    (count : ℕ) × ShownFor may_leave now (list_after changes ask) × (now.taken ≡ Some (before ++ take count (reply_text (reply_to changes ask))))
+ItemLeaves status.DiskFault may_leave now changes ask before = now.taken ≡ Some before
+ItemLeaves status.Damaged may_leave now changes ask before = ⊥
+ItemLeaves status.OutOfMemory may_leave now changes ask before = Answered may_leave now changes before []
+ItemLeaves status.InputTooLong may_leave now changes ask before = ⊥
+
+-- what a crash leaves while one item is worked and answered that asks this
+abbrev pub AskLeaves : List Change → List ℕ → Ask → ℕ → Image → Type 0
+AskLeaves changes before ask told c =
+    HasKept changes (length before) told c ⊎ HasKept (list_after changes ask) (length (before ++ reply_text (reply_to changes ask))) told c
 
 -- what a command leaves, by the status: a run works the input, and every other command one item, and takes no input
 abbrev pub Leaves : Command → Status → (Image → Type 0) → Shown → List Change → List ℕ → List ℕ → Type 0
 Leaves Run status may_leave now changes input before = RunLeaves status may_leave now changes input before
-Leaves Recover status may_leave now changes input before = ItemLeaves status may_leave now changes (Query queries.Recover) before × (now.left ≡ Some input)
+Leaves Recover status may_leave now changes input before = ItemLeaves status may_leave now changes (tells queries.Recover) before × (now.left ≡ Some input)
 
 -- what a crash leaves at a moment at which so many bytes are told: files that stand for the list after the first items, up to one at least
 -- whose reply is among the bytes told
 abbrev pub CommandKeeps : Command → List Change → List ℕ → List ℕ → ℕ → Image → Type 0
 CommandKeeps Run changes input before told c = Keeps changes input before told c
-CommandKeeps Recover changes input before told c = StepLeaves changes before (Query queries.Recover) told c
+CommandKeeps Recover changes input before told c = AskLeaves changes before (tells queries.Recover) told c
 
--- all items that a command works
-abbrev pub AllItems : Command → List ℕ → List SessionItem → Type 0
-AllItems Run input items = ItemsOf input items
-AllItems Recover input items = items ≡ Query queries.Recover ∷ []
+-- all that a command asks
+abbrev pub AllAsks : Command → List ℕ → List Ask → Type 0
+AllAsks Run input asks = AsksOf input asks
+AllAsks Recover input asks = asks ≡ tells queries.Recover ∷ []
 
 -- the input isn't too long for the command
 abbrev pub IsWithin : Command → List ℕ → Type 0

@@ -6,15 +6,15 @@ ghost use Rattle.s80_disk.specs.Moments.{LeavesOnly};
 ghost use Rattle.s80_keeper.specs.declared.start.Damage.{Damage};
 ghost use Rattle.s80_keeper.specs.Standing.{StandsFor};
 ghost use Rattle.s80_keeper.specs.Start.{IsDamage};
-ghost use Rattle.s80_session.specs.declared.item.SessionItem.{SessionItem};
+ghost use Rattle.s80_session.specs.Asked.{Ask, tells};
 ghost use Rattle.s80_session.specs.Ending.{faults, Counts};
 ghost use Rattle.s80_session.specs.Replies.{replies};
 ghost use Rattle.s80_session.specs.Putting.{IsAsBefore};
 ghost use Rattle.s80_session.specs.Run.{shown, Keeps};
 ghost use Rattle.s80_session.specs.Session.{keeper_of, troubled_of, IsFaultless};
-ghost use Rattle.s80_session.specs.Working.{IsAt, IsDiskEnd, StepLeaves};
+ghost use Rattle.s80_session.specs.Working.{IsAt, IsDiskEnd};
 ghost use Rattle.st80.specs.Ending.{NoFault, StatusHasReason, status_after, IsWhole};
-ghost use Rattle.st80.specs.Leaves.{StartsWith, Leaves, RunLeaves, ItemLeaves, CommandKeeps, AllItems, IsWithin, TellsDamage};
+ghost use Rattle.st80.specs.Leaves.{StartsWith, Leaves, RunLeaves, ItemLeaves, AskLeaves, CommandKeeps, AllAsks, IsWithin, TellsDamage};
 ghost use Rattle.st80.specs.Words.{Asks};
 
 use crate::outside::attach;
@@ -25,8 +25,8 @@ use s80_disk::Outside;
 use s80_session::{Query, Session, SessionEnd, SessionItem};
 use std::alloc::Global;
 
-/// Does what the words ask for: the program's name, a folder and a command. `run` keeps each chunk of the input in the folder, on the
-/// disk, and then answers it by a line of the output; `recover` says how much there is.
+/// Does what the words ask for: the program's name, a folder and a command. `run` keeps each chunk of the input that is a doIt in the
+/// folder, on the disk, and then answers it by a line of the output; `recover` says how much there is.
 pub fn st80<O: Outside>(alloc: Global, words: &[Text], outside: &mut O) -> Status
     // Bad usage is answered exactly where the words ask for nothing, and then the outside isn't called.
     ensures usage { result ≡ Status.Usage
@@ -52,12 +52,12 @@ pub fn st80<O: Outside>(alloc: Global, words: &[Text], outside: &mut O) -> Statu
         → StandsFor (O.tells outside.old) (O.reads outside.old) (O.may_leave outside.old) changes
         → LeavesOnly O.moment O.left_since outside.old outside.new (CommandKeeps command changes input before) }
 
-    // However it ends, what it wrote is a front of the replies to all items.
-    ensures front { (folder : List ℕ) (command : Command) (changes : List Change) (input before : List ℕ) (items : List SessionItem)
+    // However it ends, what it wrote is a front of the replies to all that the command asks.
+    ensures front { (folder : List ℕ) (command : Command) (changes : List Change) (input before : List ℕ) (asks : List Ask)
         → Asks words.now folder command
         → StartsWith (O.may_leave outside.old) (shown O.tells O.reads O.left O.taken O.told outside.old) changes input before
-        → AllItems command input items
-        → (put more : List ℕ) × (O.taken outside.new ≡ Some (before ++ put)) × (replies changes items ≡ put ++ more) }
+        → AllAsks command input asks
+        → (put more : List ℕ) × (O.taken outside.new ≡ Some (before ++ put)) × (replies changes asks ≡ put ++ more) }
 
     // With no fault and an input within the limit it comes to the end, or memory is wanting.
     ensures complete { (folder : List ℕ) (command : Command) (changes : List Change) (input before : List ℕ)
@@ -193,11 +193,11 @@ fn answer_query<O: Outside>(
         → IsAt (O.may_leave outside.old)
         (shown O.tells O.reads O.left O.taken O.told outside.old) (keeper_of session.old) changes before
         → ItemLeaves (status_after result) (O.may_leave outside.new)
-        (shown O.tells O.reads O.left O.taken O.told outside.new) changes (SessionItem.Query query) before }
+        (shown O.tells O.reads O.left O.taken O.told outside.new) changes (tells query) before }
     ensures any_moment { (changes : List Change) (before : List ℕ)
         → IsAt (O.may_leave outside.old)
         (shown O.tells O.reads O.left O.taken O.told outside.old) (keeper_of session.old) changes before
-        → LeavesOnly O.moment O.left_since outside.old outside.new (StepLeaves changes before (SessionItem.Query query)) }
+        → LeavesOnly O.moment O.left_since outside.old outside.new (AskLeaves changes before (tells query)) }
     ensures left { O.left outside.new ≡ O.left outside.old }
     ensures counts { Counts (faults O.read_faults O.write_faults O.disk_faults outside.old)
         (faults O.read_faults O.write_faults O.disk_faults outside.new) result }

@@ -92,7 +92,7 @@ Account new deposit: 100; deposit: 50; balance!\r";
 
 #[test]
 fn chunks_are_kept_and_answered(rt: HostRuntime) -> Result<(), Fail> {
-    let rows: [(&[u8], &[u8], Status, &[u8]); 8] = [
+    let rows: [(&[u8], &[u8], Status, &[u8]); 9] = [
         (b"3 + 4!", b"ok\n", Status::Done, b"3 + 4!\n"),
         (b"'It''s!!'!", b"ok\n", Status::Done, b"'It''s!!'!\n"),
         (
@@ -106,6 +106,12 @@ fn chunks_are_kept_and_answered(rt: HostRuntime) -> Result<(), Fail> {
             b"ok\nrefused 1 unended\n",
             Status::DoneWithRefusals,
             b"1!\n",
+        ),
+        (
+            b"1! 3 + ! 2!",
+            b"ok\nrefused 2 unexpected at 4\nok\n",
+            Status::DoneWithRefusals,
+            b"1!\n2!\n",
         ),
         (b"", b"", Status::Done, b""),
         (b" \t\r\n\x0c", b"", Status::Done, b""),

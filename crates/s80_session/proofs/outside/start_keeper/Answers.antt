@@ -1,4 +1,4 @@
-use Rattle.std.proofs.Common.{ap, ◌∙◌, arith}
+use Rattle.std.proofs.Common.{ap, arith}
 use Rattle.s80_disk.specs.Moments.{Beside}
 use Rattle.s80_disk.proofs.Run.{weaker}
 use Rattle.s80_session.specs.Run.{HasKept}

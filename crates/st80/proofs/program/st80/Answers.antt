@@ -27,8 +27,8 @@ returns-in-Some-clause-any_moment g c = λ folder command changes input before a
     subst P (sym (one_command _ folder _ command c.in-Some.request.command asked c.in-Some.ensures.found)) (c.work.ensures.any_moment changes input before start stands)
 
 pub returns-in-Some-clause-front : goal.returns-in-Some-clause-front
-returns-in-Some-clause-front g c = λ folder command changes input before items asked start all.
-    front_of command (status_after c.work.result) (g.O.Disk.may_leave c.work.new.outside) (shown g.O.Disk.tells g.O.Disk.reads g.O.Source.left g.O.Sink.taken g.O.Sink.told c.work.new.outside) changes input before items (done g (goal.at.returns-in-Some-clause-front g c).After-work folder command changes input before asked start) all
+returns-in-Some-clause-front g c = λ folder command changes input before asks asked start all.
+    front_of command (status_after c.work.result) (g.O.Disk.may_leave c.work.new.outside) (shown g.O.Disk.tells g.O.Disk.reads g.O.Source.left g.O.Sink.taken g.O.Sink.told c.work.new.outside) changes input before asks (done g (goal.at.returns-in-Some-clause-front g c).After-work folder command changes input before asked start) all
 
 pub returns-in-Some-clause-complete : goal.returns-in-Some-clause-complete
 returns-in-Some-clause-complete g c = λ folder command changes input before asked start within none.

@@ -1,7 +1,7 @@
 use Rattle.std.proofs.Common.{sym, ap, ◌∙◌, ◌++◌, ◌∷◌, [], refl, arith}
 use Rattle.std.proofs.lemmas.Result.{err_from_is_err_and}
 use Rattle.s80_session.specs.Replies.{list_after_all, replies}
-use Rattle.s80_session.specs.Run.{shown, chunks}
+use Rattle.s80_session.specs.Run.{shown}
 use Rattle.s80_session.proofs.Lasting.{items_last, answers_start, nothing_happens}
 use Rattle.s80_session.proofs.Answering.{worked_on, begins, broke_off, read_some, read_none, holds_none, sound_some, no_fewer_on}
 use Rattle.s80_session.proofs.session.Session.answer_items.Goals as goal
@@ -10,24 +10,25 @@ pub returns-in_err-item-clause-answered : goal.returns-in_err-item-clause-answer
 returns-in_err-item-clause-answered g c = λ changes before bytes given start.
     let w = c.loop-item.invariant.working changes before bytes given start in
     let p = err_from_is_err_and c.from_residual.result c.from_residual.ensures.1 in
-    rw (p.1, p.2) (w.0, begins c.loop-item.reader c.next_item.new.self.ended bytes w.0 (sym c.next_item.ensures.ended) w.1.read, w.1.at)
+    rw (p.1, p.2) (w.1.asks, (w.0, begins c.loop-item.reader c.next_item.new.self.ended bytes w.0 (sym c.next_item.ensures.ended) w.1.read, w.1.asked), w.1.at)
 
 pub loop-item-preserved : goal.loop-item-preserved
 loop-item-preserved g c = record {
   working = λ changes before bytes given start.
       let w = c.loop-item.invariant.working changes before bytes given start in
       let read = read_some c.next_item.new.self bytes w.0 c.in_ok-item.field-0 c.in-Some.item c.in-Some.is (c.in_ok-item.ensures.item bytes w.0 w.1.read) in
-      let sound = sound_some c.in_ok-item.field-0 c.in-Some.item c.loop-item.reader bytes w.0 c.in-Some.is c.in_ok-item.ensures.sound w.1.read in
-      let list = list_after_all changes (chunks w.0) in
-      let put = before ++ replies changes (chunks w.0) in (
+      let list = list_after_all changes w.1.asks in
+      let put = before ++ replies changes w.1.asks in (
         w.0 ++ c.in-Some.item ∷ [],
-        worked_on (g.O.Disk.may_leave c.step.new.outside) _ _ c.loop-item.self.troubled _ c.next_item.new.self changes before bytes w.0 c.in-Some.item read (c.in_ok-step.ensures.stepped list put sound w.1.at) w.1.refused (c.in_ok-step.ensures.troubled list put sound w.1.at),
+        worked_on (g.O.Disk.may_leave c.loop-item.outside) (g.O.Disk.may_leave c.step.new.outside) _ _ _ _ _ _ c.loop-item.reader c.next_item.new.self changes before bytes w.0 c.in-Some.item w.1 read (c.in_ok-step.ensures.stepped list put w.1.at),
       );
   run = λ changes before bytes given start.
       let w = c.loop-item.invariant.working changes before bytes given start in
       let read = read_some c.next_item.new.self bytes w.0 c.in_ok-item.field-0 c.in-Some.item c.in-Some.is (c.in_ok-item.ensures.item bytes w.0 w.1.read) in
-      let sound = sound_some c.in_ok-item.field-0 c.in-Some.item c.loop-item.reader bytes w.0 c.in-Some.is c.in_ok-item.ensures.sound w.1.read in
-      items_last g.O.Disk.moment g.O.Disk.left_since _ _ _ c.args.reader.now.ended changes before bytes w.0 c.in-Some.item (begins c.loop-item.reader c.args.reader.now.ended bytes w.0 c.loop-item.invariant.ended w.1.read) (begins c.next_item.new.self c.args.reader.now.ended bytes (w.0 ++ c.in-Some.item ∷ []) (c.next_item.ensures.ended ∙ c.loop-item.invariant.ended) read) (c.loop-item.invariant.run changes before bytes given start) (c.step.ensures.any_moment (list_after_all changes (chunks w.0)) (before ++ replies changes (chunks w.0)) sound w.1.at);
+      items_last g.O.Disk.moment g.O.Disk.left_since _ _ _ c.args.reader.now.ended changes before bytes w.0 w.1.asks c.in-Some.item (begins c.loop-item.reader c.args.reader.now.ended bytes w.0 c.loop-item.invariant.ended w.1.read) w.1.asked (begins c.next_item.new.self c.args.reader.now.ended bytes (w.0 ++ c.in-Some.item ∷ []) (c.next_item.ensures.ended ∙ c.loop-item.invariant.ended) read) (c.loop-item.invariant.run changes before bytes given start) (c.step.ensures.any_moment (list_after_all changes w.1.asks) (before ++ replies changes w.1.asks) w.1.at);
+  reading =
+      let some = c.loop-item.invariant.reading in
+      (some.0, some.1 ++ c.in-Some.item ∷ [], read_some c.next_item.new.self some.0 some.1 c.in_ok-item.field-0 c.in-Some.item c.in-Some.is (c.in_ok-item.ensures.item some.0 some.1 some.2));
   left = c.step.ensures.left ∙ c.loop-item.invariant.left;
   later = no_fewer_on _ _ _ c.loop-item.invariant.later c.step.ensures.counts.later;
   fed = c.next_item.ensures.fed ∙ c.loop-item.invariant.fed;
@@ -39,18 +40,17 @@ pub returns-in_err-step-clause-answered : goal.returns-in_err-step-clause-answer
 returns-in_err-step-clause-answered g c = λ changes before bytes given start.
     let w = c.loop-item.invariant.working changes before bytes given start in
     let read = read_some c.next_item.new.self bytes w.0 c.in_ok-item.field-0 c.in-Some.item c.in-Some.is (c.in_ok-item.ensures.item bytes w.0 w.1.read) in
-    let sound = sound_some c.in_ok-item.field-0 c.in-Some.item c.loop-item.reader bytes w.0 c.in-Some.is c.in_ok-item.ensures.sound w.1.read in
-    let list = list_after_all changes (chunks w.0) in
-    let put = before ++ replies changes (chunks w.0) in
+    let list = list_after_all changes w.1.asks in
+    let put = before ++ replies changes w.1.asks in
     let p = err_from_is_err_and c.from_residual-in_err-step.result c.from_residual-in_err-step.ensures.1 in
-    rw (p.1, p.2) (broke_off (Unit {0}) _ (g.O.Disk.may_leave c.step.new.outside) _ _ c.next_item.new.self.ended changes before bytes w.0 c.in-Some.item (begins c.loop-item.reader c.next_item.new.self.ended bytes w.0 (sym c.next_item.ensures.ended) w.1.read) (read.rest, read.reads) (c.in_err-step.ensures.stepped list put sound w.1.at))
+    rw (p.1, p.2) (broke_off (Unit {0}) _ (g.O.Disk.may_leave c.step.new.outside) _ _ _ _ c.next_item.new.self.ended changes before bytes w.0 w.1.asks c.in-Some.item (begins c.loop-item.reader c.next_item.new.self.ended bytes w.0 (sym c.next_item.ensures.ended) w.1.read) w.1.asked (read.rest, read.reads) (c.in_err-step.ensures.stepped list put w.1.at))
 
 pub returns-clause-answered : goal.returns-clause-answered
 returns-clause-answered g c = λ changes before bytes given start.
     let w = c.loop-item.invariant.working changes before bytes given start in
     let read = read_none c.next_item.new.self bytes w.0 c.in_ok-item.field-0 c.in_default.is (c.in_ok-item.ensures.item bytes w.0 w.1.read) in (
       w.0,
-      record { read = read; at = w.1.at; refused = w.1.refused },
+      record { asks = w.1.asks; read = read; asked = w.1.asked; at = w.1.at; refused = w.1.refused },
       holds_none c.in_ok-item.field-0 c.loop-item.reader c.next_item.new.self.ended bytes w.0 c.in_default.is c.in_ok-item.ensures.none w.1.read c.next_item.ensures.ended,
     )
 
@@ -58,7 +58,8 @@ pub loop-item-init : goal.loop-item-init
 loop-item-init g c = record {
   working = λ changes before bytes given start. (given, start);
   run = λ changes before bytes given start.
-      answers_start g.O.Disk.moment g.O.Disk.left_since c.args.outside.now c.args.reader.now.ended changes before bytes given (start.read.rest, start.read.reads) (nothing_happens g.O.Disk.moment g.O.Disk.left_since _ (shown g.O.Disk.tells g.O.Disk.reads g.O.Source.left g.O.Sink.taken g.O.Sink.told c.args.outside.now) _ c.args.outside.now (list_after_all changes (chunks given)) (before ++ replies changes (chunks given)) (λ told image left. let x = g.met.O.Disk.only_now c.args.outside.now told image left in (x.0, x.1 ∙ ap (λ b. b.told) (g.met.O.Outside.beside_is c.args.outside.now))) start.at);
+      answers_start g.O.Disk.moment g.O.Disk.left_since c.args.outside.now c.args.reader.now.ended changes before bytes start.asks (given, (start.read.rest, start.read.reads), start.asked) (nothing_happens g.O.Disk.moment g.O.Disk.left_since _ (shown g.O.Disk.tells g.O.Disk.reads g.O.Source.left g.O.Sink.taken g.O.Sink.told c.args.outside.now) _ c.args.outside.now (list_after_all changes start.asks) (before ++ replies changes start.asks) (λ told image left. let x = g.met.O.Disk.only_now c.args.outside.now told image left in (x.0, x.1 ∙ ap (λ b. b.told) (g.met.O.Outside.beside_is c.args.outside.now))) start.at);
+  reading = c.requires.reading;
   left = refl;
   later = record { read = omega arith; write = omega arith; disk = omega arith };
   fed = refl;
@@ -73,8 +74,17 @@ pub returns-in_err-step-clause-any_moment : goal.returns-in_err-step-clause-any_
 returns-in_err-step-clause-any_moment g c = λ changes before bytes given start.
     let w = c.loop-item.invariant.working changes before bytes given start in
     let read = read_some c.next_item.new.self bytes w.0 c.in_ok-item.field-0 c.in-Some.item c.in-Some.is (c.in_ok-item.ensures.item bytes w.0 w.1.read) in
-    let sound = sound_some c.in_ok-item.field-0 c.in-Some.item c.loop-item.reader bytes w.0 c.in-Some.is c.in_ok-item.ensures.sound w.1.read in
-    items_last g.O.Disk.moment g.O.Disk.left_since _ _ _ c.args.reader.now.ended changes before bytes w.0 c.in-Some.item (begins c.loop-item.reader c.args.reader.now.ended bytes w.0 c.loop-item.invariant.ended w.1.read) (begins c.next_item.new.self c.args.reader.now.ended bytes (w.0 ++ c.in-Some.item ∷ []) (c.next_item.ensures.ended ∙ c.loop-item.invariant.ended) read) (c.loop-item.invariant.run changes before bytes given start) (c.step.ensures.any_moment (list_after_all changes (chunks w.0)) (before ++ replies changes (chunks w.0)) sound w.1.at)
+    items_last g.O.Disk.moment g.O.Disk.left_since _ _ _ c.args.reader.now.ended changes before bytes w.0 w.1.asks c.in-Some.item (begins c.loop-item.reader c.args.reader.now.ended bytes w.0 c.loop-item.invariant.ended w.1.read) w.1.asked (begins c.next_item.new.self c.args.reader.now.ended bytes (w.0 ++ c.in-Some.item ∷ []) (c.next_item.ensures.ended ∙ c.loop-item.invariant.ended) read) (c.loop-item.invariant.run changes before bytes given start) (c.step.ensures.any_moment (list_after_all changes w.1.asks) (before ++ replies changes w.1.asks) w.1.at)
 
 pub returns-clause-any_moment : goal.returns-clause-any_moment
 returns-clause-any_moment g c = c.loop-item.invariant.run
+
+pub returns-clause-reading : goal.returns-clause-reading
+returns-clause-reading g c =
+    let some = c.loop-item.invariant.reading in
+    (some.0, some.1, read_none c.next_item.new.self some.0 some.1 c.in_ok-item.field-0 c.in_default.is (c.in_ok-item.ensures.item some.0 some.1 some.2))
+
+pub step-requires-clause-readable : goal.step-requires-clause-readable
+step-requires-clause-readable g c =
+    let some = c.loop-item.invariant.reading in
+    sound_some c.in_ok-item.field-0 c.in-Some.item c.loop-item.reader some.0 some.1 c.in-Some.is c.in_ok-item.ensures.sound some.2

@@ -2,7 +2,7 @@ use Rattle.std.proofs.Common.{ap, [], refl, sym, ◌∙◌, ◌++◌}
 use Rattle.std.proofs.lemmas.List.{append-nil}
 use Rattle.std.proofs.lemmas.Result.{err_from_is_err_and}
 use Rattle.s80_session.specs.Replies.{list_after_all, replies}
-use Rattle.s80_session.specs.Run.{shown, chunks}
+use Rattle.s80_session.specs.Run.{shown}
 use Rattle.s80_session.proofs.Finishing.{ends_clean, ends_unended, unended_whole}
 use Rattle.s80_session.proofs.Lasting.{keeps_on, answers_last, start_keeps, nothing_happens, unended_lasts}
 use Rattle.s80_session.proofs.Taking.{breaks, broke_at_start, starts_working}
@@ -29,9 +29,9 @@ pub returns-clause-ran : goal.returns-clause-ran
 returns-clause-ran g c = λ changes input before left_is calm at.
     let t = c.in_ok-take_all.ensures.took changes input before left_is (starts_working (g.O.Disk.may_leave c.args.outside.now) _ _ _ _ changes before c.in_ok-reader.ensures.read calm at) in
     let a = c.in_ok-answer_items.ensures.answered changes before input t.given t.working in
-    let list = list_after_all changes (chunks a.0) in
-    let put = before ++ replies changes (chunks a.0) in
-    ends_unended c.rest.result c.step.result (g.O.Disk.may_leave c.step.new.outside) _ _ _ _ changes input before a.0 c.in-Unended.field-0 c.in-Unended.is (c.rest.ensures input a.0 a.1.read) a.1.refused (c.step.ensures.stepped list put tt a.1.at) (c.step.ensures.troubled list put tt a.1.at) (c.step.ensures.left ∙ c.answer_items.ensures.left ∙ t.left) t.within
+    let list = list_after_all changes a.1.asks in
+    let put = before ++ replies changes a.1.asks in
+    ends_unended c.rest.result c.step.result (g.O.Disk.may_leave c.step.new.outside) _ _ _ _ changes input before a.0 a.1.asks c.in-Unended.field-0 c.in-Unended.is (c.rest.ensures input a.0 a.1.read) a.1.asked a.1.refused (c.step.ensures.stepped list put a.1.at) (c.step.ensures.left ∙ c.answer_items.ensures.left ∙ t.left) t.within
 
 pub returns-in_err-reader-clause-any_moment : goal.returns-in_err-reader-clause-any_moment
 returns-in_err-reader-clause-any_moment g c = λ changes input before left_is calm at.
@@ -54,10 +54,10 @@ pub returns-clause-any_moment : goal.returns-clause-any_moment
 returns-clause-any_moment g c = λ changes input before left_is calm at.
     let t = c.in_ok-take_all.ensures.took changes input before left_is (starts_working (g.O.Disk.may_leave c.args.outside.now) _ _ _ _ changes before c.in_ok-reader.ensures.read calm at) in
     let a = c.in_ok-answer_items.ensures.answered changes before input t.given t.working in
-    let list = list_after_all changes (chunks a.0) in
-    let put = before ++ replies changes (chunks a.0) in
+    let list = list_after_all changes a.1.asks in
+    let put = before ++ replies changes a.1.asks in
     let ends = unended_whole c.rest.result input a.0 c.in-Unended.field-0 c.in-Unended.is (c.rest.ensures input a.0 a.1.read) in
-    unended_lasts g.O.Disk.moment g.O.Disk.left_since _ _ _ changes input before a.0 ends.0 ends.1 (keeps_on g.O.Disk.moment g.O.Disk.left_since _ _ _ changes input before (c.take_all.ensures.any_moment changes input before left_is (starts_working (g.O.Disk.may_leave c.args.outside.now) _ _ _ _ changes before c.in_ok-reader.ensures.read calm at)) (answers_last g.O.Disk.moment g.O.Disk.left_since _ _ c.take_all.new.reader.ended changes before input [] input (sym (append-nil input)) (λ e. refl) (c.answer_items.ensures.any_moment changes before input t.given t.working))) (c.step.ensures.any_moment list put tt a.1.at)
+    unended_lasts g.O.Disk.moment g.O.Disk.left_since _ _ _ changes input before a.0 a.1.asks ends.0 a.1.asked ends.1 (keeps_on g.O.Disk.moment g.O.Disk.left_since _ _ _ changes input before (c.take_all.ensures.any_moment changes input before left_is (starts_working (g.O.Disk.may_leave c.args.outside.now) _ _ _ _ changes before c.in_ok-reader.ensures.read calm at)) (answers_last g.O.Disk.moment g.O.Disk.left_since _ _ c.take_all.new.reader.ended changes before input [] input (sym (append-nil input)) (λ e. refl) (c.answer_items.ensures.any_moment changes before input t.given t.working))) (c.step.ensures.any_moment list put a.1.at)
 
 pub returns-in_err-take_all-clause-ran : goal.returns-in_err-take_all-clause-ran
 returns-in_err-take_all-clause-ran g c = λ changes input before left_is calm at.

@@ -1,9 +1,9 @@
 use Rattle.std.proofs.Common.{[], refl, ◌∙◌, arith}
 use Rattle.std.proofs.lemmas.Result.{err_from_is_err_and}
-use Rattle.s80_session.specs.Run.{shown, chunks}
+use Rattle.s80_session.specs.Run.{shown}
 use Rattle.s80_session.proofs.Lasting.{keeps_on, quiet_keeps, answers_last}
 use Rattle.s80_session.proofs.Answering.{no_fewer_on}
-use Rattle.s80_session.proofs.Taking.{first_of, breaks, no_more, fed_more, taking_on, at_end, still_open}
+use Rattle.s80_session.proofs.Taking.{first_asks, breaks, no_more, fed_more, taking_on, at_end, still_open}
 use Rattle.s80_session.proofs.session.Session.take_all.Goals as goal
 
 pub returns-in_err-answer_items-clause-took : goal.returns-in_err-answer_items-clause-took
@@ -17,6 +17,7 @@ pieces-init g c = record {
       taking_on (g.O.Disk.may_leave c.answer_items.new.outside) (shown g.O.Disk.tells g.O.Disk.reads g.O.Source.left g.O.Sink.taken g.O.Sink.told c.args.outside.now) _ _ _ c.answer_items.new.reader changes input before [] input refl left_is c.answer_items.ensures.left (c.answer_items.ensures.ended ∙ c.requires.open) (c.in_ok-answer_items.ensures.answered changes before [] [] start);
   run = λ changes input before left_is start. answers_last g.O.Disk.moment g.O.Disk.left_since _ _ c.args.reader.now.ended changes before [] input input refl (still_open _ input c.requires.open) (c.answer_items.ensures.any_moment changes before [] [] start);
   later = c.answer_items.ensures.counts.later;
+  reading = c.in_ok-answer_items.ensures.reading;
   opened = c.answer_items.ensures.ended ∙ c.requires.open;
   room = c.in_ok-answer_items.ensures.spent.1;
   counted = c.answer_items.ensures.fed ∙ c.requires.counted;
@@ -39,8 +40,9 @@ pieces-preserved g c = record {
   run = λ changes input before left_is start.
       let h = c.pieces.invariant.taking changes input before left_is start in
       let f = fed_more (g.O.Disk.may_leave c.pieces.outside) (g.O.Disk.may_leave c.take_piece.new.outside) (shown g.O.Disk.tells g.O.Disk.reads g.O.Source.left g.O.Sink.taken g.O.Sink.told c.pieces.outside) (shown g.O.Disk.tells g.O.Disk.reads g.O.Source.left g.O.Sink.taken g.O.Sink.told c.take_piece.new.outside) _ _ c.pieces.reader c.take_piece.new.reader changes input before c.pieces.taken c.in_ok-count.count h c.take_piece.ensures.shown c.take_piece.ensures.images (c.in_ok-count.ensures.took h.left h.bytes h.given h.left_is h.working.read) in
-      keeps_on g.O.Disk.moment g.O.Disk.left_since _ _ _ changes input before (keeps_on g.O.Disk.moment g.O.Disk.left_since _ _ _ changes input before (c.pieces.invariant.run changes input before left_is start) (quiet_keeps g.O.Disk.moment g.O.Disk.left_since (g.O.Disk.may_leave c.pieces.outside) (shown g.O.Disk.tells g.O.Disk.reads g.O.Source.left g.O.Sink.taken g.O.Sink.told c.pieces.outside) _ _ _ changes input before (chunks h.given) (first_of c.pieces.reader.ended h.bytes h.left input h.given (h.working.read.rest, h.working.read.reads) h.input_is (still_open _ h.left c.pieces.invariant.opened)) h.working.at c.take_piece.ensures.any_moment)) (answers_last g.O.Disk.moment g.O.Disk.left_since _ _ c.take_piece.new.reader.ended changes before f.bytes f.left input f.input_is (still_open _ f.left c.take_piece.ensures.open) (c.answer_items-in-pieces.ensures.any_moment changes before f.bytes f.given f.working));
+      keeps_on g.O.Disk.moment g.O.Disk.left_since _ _ _ changes input before (keeps_on g.O.Disk.moment g.O.Disk.left_since _ _ _ changes input before (c.pieces.invariant.run changes input before left_is start) (quiet_keeps g.O.Disk.moment g.O.Disk.left_since (g.O.Disk.may_leave c.pieces.outside) (shown g.O.Disk.tells g.O.Disk.reads g.O.Source.left g.O.Sink.taken g.O.Sink.told c.pieces.outside) _ _ _ changes input before h.working.asks (first_asks c.pieces.reader.ended h.bytes h.left input h.working.asks (h.given, (h.working.read.rest, h.working.read.reads), h.working.asked) h.input_is (still_open _ h.left c.pieces.invariant.opened)) h.working.at c.take_piece.ensures.any_moment)) (answers_last g.O.Disk.moment g.O.Disk.left_since _ _ c.take_piece.new.reader.ended changes before f.bytes f.left input f.input_is (still_open _ f.left c.take_piece.ensures.open) (c.answer_items-in-pieces.ensures.any_moment changes before f.bytes f.given f.working));
   later = no_fewer_on _ _ _ c.pieces.invariant.later (no_fewer_on _ _ _ c.take_piece.ensures.counts.later c.answer_items-in-pieces.ensures.counts.later);
+  reading = c.in_ok-answer_items-2.ensures.reading;
   opened = c.answer_items-in-pieces.ensures.ended ∙ c.take_piece.ensures.open;
   room = c.in_ok-answer_items-2.ensures.spent.1;
   counted = c.answer_items-in-pieces.ensures.fed ∙ c.in_ok-count.ensures.counted;
@@ -67,15 +69,20 @@ returns-in_err-answer_items-clause-any_moment g c = λ changes input before left
 pub returns-in_err-count-clause-any_moment : goal.returns-in_err-count-clause-any_moment
 returns-in_err-count-clause-any_moment g c = λ changes input before left_is start.
     let h = c.pieces.invariant.taking changes input before left_is start in
-    keeps_on g.O.Disk.moment g.O.Disk.left_since _ _ _ changes input before (c.pieces.invariant.run changes input before left_is start) (quiet_keeps g.O.Disk.moment g.O.Disk.left_since (g.O.Disk.may_leave c.pieces.outside) (shown g.O.Disk.tells g.O.Disk.reads g.O.Source.left g.O.Sink.taken g.O.Sink.told c.pieces.outside) _ _ _ changes input before (chunks h.given) (first_of c.pieces.reader.ended h.bytes h.left input h.given (h.working.read.rest, h.working.read.reads) h.input_is (still_open _ h.left c.pieces.invariant.opened)) h.working.at c.take_piece.ensures.any_moment)
+    keeps_on g.O.Disk.moment g.O.Disk.left_since _ _ _ changes input before (c.pieces.invariant.run changes input before left_is start) (quiet_keeps g.O.Disk.moment g.O.Disk.left_since (g.O.Disk.may_leave c.pieces.outside) (shown g.O.Disk.tells g.O.Disk.reads g.O.Source.left g.O.Sink.taken g.O.Sink.told c.pieces.outside) _ _ _ changes input before h.working.asks (first_asks c.pieces.reader.ended h.bytes h.left input h.working.asks (h.given, (h.working.read.rest, h.working.read.reads), h.working.asked) h.input_is (still_open _ h.left c.pieces.invariant.opened)) h.working.at c.take_piece.ensures.any_moment)
 
 pub returns-in_err-answer_items-2-clause-any_moment : goal.returns-in_err-answer_items-2-clause-any_moment
 returns-in_err-answer_items-2-clause-any_moment g c = λ changes input before left_is start.
     let h = c.pieces.invariant.taking changes input before left_is start in
     let f = fed_more (g.O.Disk.may_leave c.pieces.outside) (g.O.Disk.may_leave c.take_piece.new.outside) (shown g.O.Disk.tells g.O.Disk.reads g.O.Source.left g.O.Sink.taken g.O.Sink.told c.pieces.outside) (shown g.O.Disk.tells g.O.Disk.reads g.O.Source.left g.O.Sink.taken g.O.Sink.told c.take_piece.new.outside) _ _ c.pieces.reader c.take_piece.new.reader changes input before c.pieces.taken c.in_ok-count.count h c.take_piece.ensures.shown c.take_piece.ensures.images (c.in_ok-count.ensures.took h.left h.bytes h.given h.left_is h.working.read) in
-    keeps_on g.O.Disk.moment g.O.Disk.left_since _ _ _ changes input before (keeps_on g.O.Disk.moment g.O.Disk.left_since _ _ _ changes input before (c.pieces.invariant.run changes input before left_is start) (quiet_keeps g.O.Disk.moment g.O.Disk.left_since (g.O.Disk.may_leave c.pieces.outside) (shown g.O.Disk.tells g.O.Disk.reads g.O.Source.left g.O.Sink.taken g.O.Sink.told c.pieces.outside) _ _ _ changes input before (chunks h.given) (first_of c.pieces.reader.ended h.bytes h.left input h.given (h.working.read.rest, h.working.read.reads) h.input_is (still_open _ h.left c.pieces.invariant.opened)) h.working.at c.take_piece.ensures.any_moment)) (answers_last g.O.Disk.moment g.O.Disk.left_since _ _ c.take_piece.new.reader.ended changes before f.bytes f.left input f.input_is (still_open _ f.left c.take_piece.ensures.open) (c.answer_items-in-pieces.ensures.any_moment changes before f.bytes f.given f.working))
+    keeps_on g.O.Disk.moment g.O.Disk.left_since _ _ _ changes input before (keeps_on g.O.Disk.moment g.O.Disk.left_since _ _ _ changes input before (c.pieces.invariant.run changes input before left_is start) (quiet_keeps g.O.Disk.moment g.O.Disk.left_since (g.O.Disk.may_leave c.pieces.outside) (shown g.O.Disk.tells g.O.Disk.reads g.O.Source.left g.O.Sink.taken g.O.Sink.told c.pieces.outside) _ _ _ changes input before h.working.asks (first_asks c.pieces.reader.ended h.bytes h.left input h.working.asks (h.given, (h.working.read.rest, h.working.read.reads), h.working.asked) h.input_is (still_open _ h.left c.pieces.invariant.opened)) h.working.at c.take_piece.ensures.any_moment)) (answers_last g.O.Disk.moment g.O.Disk.left_since _ _ c.take_piece.new.reader.ended changes before f.bytes f.left input f.input_is (still_open _ f.left c.take_piece.ensures.open) (c.answer_items-in-pieces.ensures.any_moment changes before f.bytes f.given f.working))
 
 pub returns-clause-any_moment : goal.returns-clause-any_moment
 returns-clause-any_moment g c = λ changes input before left_is start.
     let h = c.pieces.invariant.taking changes input before left_is start in
-    keeps_on g.O.Disk.moment g.O.Disk.left_since _ _ _ changes input before (c.pieces.invariant.run changes input before left_is start) (quiet_keeps g.O.Disk.moment g.O.Disk.left_since (g.O.Disk.may_leave c.pieces.outside) (shown g.O.Disk.tells g.O.Disk.reads g.O.Source.left g.O.Sink.taken g.O.Sink.told c.pieces.outside) _ _ _ changes input before (chunks h.given) (first_of c.pieces.reader.ended h.bytes h.left input h.given (h.working.read.rest, h.working.read.reads) h.input_is (still_open _ h.left c.pieces.invariant.opened)) h.working.at c.take_piece.ensures.any_moment)
+    keeps_on g.O.Disk.moment g.O.Disk.left_since _ _ _ changes input before (c.pieces.invariant.run changes input before left_is start) (quiet_keeps g.O.Disk.moment g.O.Disk.left_since (g.O.Disk.may_leave c.pieces.outside) (shown g.O.Disk.tells g.O.Disk.reads g.O.Source.left g.O.Sink.taken g.O.Sink.told c.pieces.outside) _ _ _ changes input before h.working.asks (first_asks c.pieces.reader.ended h.bytes h.left input h.working.asks (h.given, (h.working.read.rest, h.working.read.reads), h.working.asked) h.input_is (still_open _ h.left c.pieces.invariant.opened)) h.working.at c.take_piece.ensures.any_moment)
+
+pub returns-clause-reading : goal.returns-clause-reading
+returns-clause-reading g c =
+    let some = c.take_piece.ensures.reading c.pieces.invariant.reading in
+    (some.0, some.1, c.end_input.ensures.read some.0 some.1 some.2)

@@ -5,7 +5,7 @@ use Rattle.s80_disk.specs.Moments.{LeavesOnly}
 use Rattle.s80_session.specs.Ending.{faults, NoFewer}
 use Rattle.s80_session.specs.Run.{shown, input_limit, Keeps}
 use Rattle.s80_session.specs.Session.{keeper_of, troubled_of, IsFaultless}
-use Rattle.s80_session.specs.Working.{IsWorking}
+use Rattle.s80_session.specs.Working.{HasReadSome, IsWorking}
 use Rattle.s80_session.proofs.Taking.{IsTaking}
 use Rattle.s80_session.proofs.session.Session.take_all.Given as goal
 
@@ -18,6 +18,7 @@ invariant-pieces g l = record {
       → IsWorking (g.O.Disk.may_leave l.fn.outside) (shown g.O.Disk.tells g.O.Disk.reads g.O.Source.left g.O.Sink.taken g.O.Sink.told l.fn.outside) (keeper_of l.fn.self) (troubled_of l.fn.self) l.fn.reader changes before [] []
       → LeavesOnly g.O.Disk.moment g.O.Disk.left_since l.fn.outside l.outside (Keeps changes input before);
   later : NoFewer (faults g.O.Source.read_faults g.O.Sink.write_faults g.O.Disk.disk_faults l.fn.outside) (faults g.O.Source.read_faults g.O.Sink.write_faults g.O.Disk.disk_faults l.outside);
+  reading : HasReadSome l.reader;
   opened : l.reader.ended ≡ false;
   room : l.reader.room ≡ 4096;
   counted : fed l.reader ≡ l.taken;
