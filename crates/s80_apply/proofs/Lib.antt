@@ -1,0 +1,10 @@
+pub mod Greatest
+pub mod Defined
+pub mod Extents
+pub mod Found
+pub mod Seen
+pub mod Looked
+pub mod Refusing
+pub mod Booted
+pub mod Pieces
+pub mod Names

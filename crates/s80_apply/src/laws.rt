@@ -1,0 +1,17 @@
+// Laws on definitions that are accepted.
+ghost use Rattle.std.specs.Prelude.{◌≡◌, Ok};
+ghost use Rattle.s80_change.specs.declared.definition.Definition.{Definition};
+ghost use Rattle.s80_class.specs.Classes.{Classes};
+ghost use Rattle.s80_apply.specs.Accept.{accept_definition};
+ghost use Rattle.s80_apply.specs.Kernel.{kernel_classes};
+ghost use Rattle.s80_apply.specs.Named.{AreNamed};
+
+/// The classes of the kernel have lawful names.
+pub fn kernel_classes_are_named()
+    ensures { AreNamed kernel_classes }
+{}
+
+/// So have those that an accepted definition makes, where the classes before it had.
+pub fn accepted_classes_are_named()
+    ensures { (d : Definition) (classes after : Classes) → accept_definition d classes ≡ Ok after → AreNamed classes → AreNamed after }
+{}

@@ -1,0 +1,15 @@
+//! Changes accepted by the classes: why one is refused, and what it makes of them.
+#![tactic(auto)]
+
+mod checks;
+mod entry;
+mod kernel;
+mod laws;
+mod system;
+
+pub use kernel::boot;
+pub use laws::{accepted_classes_are_named, kernel_classes_are_named};
+pub use system::{Step, System};
+
+#[cfg(test)]
+mod tests;
