@@ -1,11 +1,16 @@
 -- A text, part by part.
-use Rattle.std.proofs.Common.{◌≡◌, ℕ, ◌+◌, ◌-◌, ◌≤◌, List, [], ◌∷◌, ◌++◌, Ok, Err, take, drop, length, refl, ap, sym, ◌∙◌, subst, arith, append_assoc, length-append, take-append-drop, length-take-le, length-drop}
-use Rattle.std.proofs.lemmas.List.{append-nil, take_all, drop_all, take_rest, drop-drop}
+use Rattle.std.proofs.Common.{◌≡◌, ℕ, ◌+◌, ◌-◌, ◌≤◌, ◌<◌, List, [], ◌∷◌, ◌++◌, Ok, Err, take, drop, length, refl, ap, sym, ◌∙◌, subst, arith, append_assoc, length-append, take-append-drop, length-take-le, length-drop}
+use Rattle.std.proofs.lemmas.List.{append-nil, take_at, drop_at, take_all, drop_all, take_rest, drop-drop}
 use Rattle.s80_lex.specs.declared.front.Wrong.{Wrong}
 use Rattle.s80_lex.specs.declared.front.Wrong.TheVariants as wrong
+use Rattle.s80_lex.specs.declared.class.Class.TheVariants.{Separator}
 use Rattle.s80_lex.specs.declared.part.Part.{Part}
+use Rattle.s80_lex.specs.declared.part.Part.TheVariants as part
 use Rattle.s80_lex.specs.declared.token.Token.{Token}
-use Rattle.s80_lex.specs.Text.{IsPart, AreParts, AreTokens, IsFirstFault, text_of, token_of, tokens_of}
+use Rattle.s80_lex.specs.declared.token.TokenKind.{TokenKind}
+use Rattle.s80_lex.specs.declared.token.TokenKind.TheVariants.{Number}
+use Rattle.s80_lex.specs.Class.{class_of}
+use Rattle.s80_lex.specs.Text.{IsLongest, IsPart, AreParts, AreTokens, IsFirstFault, text_of, token_of, tokens_of}
 use Rattle.s80_lex.specs.Front.{Stands, fault_at}
 use Rattle.s80_lex.proofs.Stages.{take_both}
 
@@ -83,3 +88,20 @@ up_fault tokens place w bytes u seen = by_cause w (subst (Stands (Err w)) (take_
     by_cause wrong.Unended h = record { parts = u.parts; rest = drop place bytes; whole = whole; each = u.each; here = (done, h) }
     by_cause wrong.BadByte h = record { parts = u.parts; rest = drop place bytes; whole = whole; each = u.each; here = (done, h) }
     by_cause wrong.BadNumber h = record { parts = u.parts; rest = drop place bytes; whole = whole; each = u.each; here = (done, h) }
+
+-- a separator more
+pub up_separator : (tokens : List Token) (place b : ℕ) (bytes rest : List ℕ) → Up tokens place bytes → drop place bytes ≡ b ∷ rest → class_of b ≡ Separator → Up tokens (place + 1) bytes
+up_separator tokens place b bytes rest u e s =
+    let here : Stands (Ok (part.Separator, 1)) (b ∷ rest) = (omega arith, omega arith, (b, refl, s)) in
+    subst (λ ts. Up ts (place + 1) bytes) (append-nil tokens)
+    (up_more tokens place 1 part.Separator bytes u (subst (Stands (Ok (part.Separator, 1))) (sym (take_rest bytes place ∙ e)) here))
+
+-- a token more, which is no number
+pub up_token : (tokens : List Token) (place : ℕ) (kind : TokenKind) (word rest bytes : List ℕ) → Up tokens place bytes → drop place bytes ≡ word ++ rest → 0 < length word → (kind ≡ Number → ⊥) → IsLongest kind word rest → Up (tokens ++ record { kind = kind; from = place; to = place + length word } ∷ []) (place + length word) bytes
+up_token tokens place kind word rest bytes u e some other longest =
+    let word_is : take (length word) (word ++ rest) ≡ word = take_at word rest (length word) refl in
+    let rest_is : drop (length word) (word ++ rest) ≡ rest = drop_at word rest (length word) refl in
+    let here : IsPart (part.Token kind) (take (length word) (word ++ rest)) (drop (length word) (word ++ rest)) =
+    subst (λ w. IsPart (part.Token kind) w (drop (length word) (word ++ rest))) (sym word_is) (subst (IsPart (part.Token kind) word) (sym rest_is) (longest, λ i. absurd (other i))) in
+    let stands : Stands (Ok (part.Token kind, length word)) (word ++ rest) = (some, omega (arith, length-append word rest), here) in
+    up_more tokens place (length word) (part.Token kind) bytes u (subst (Stands (Ok (part.Token kind, length word))) (sym (take_rest bytes place ∙ e)) stands)
