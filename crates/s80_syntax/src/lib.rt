@@ -23,6 +23,7 @@ pub use s80_tree::{
     Block, Body, DoItTree, Expr, Exprs, Message, Messages, MethodTree, NameAt, NamesAt, Primary,
     Stmt,
 };
+pub use scope::is_reserved;
 
 #[cfg(test)]
 mod tests;

@@ -55,9 +55,9 @@ impl<'s> Scope<'s> {
     }
 }
 
-/// Whether a word can't be declared or assigned.
+/// Whether a word is reserved: no variable can be named so.
 #[tactic(auto, unfolding(s80_grammar::specs::Word::is_reserved))]
-pub(crate) fn is_reserved(word: &[u8]) -> bool
+pub fn is_reserved(word: &[u8]) -> bool
     ensures { result ≡ is_reserved word.now }
 {
     word == b"self".as_slice()
