@@ -5,3 +5,7 @@ pub mod Trees
 pub mod Forms
 pub mod Cuts
 pub mod Reading
+pub mod Longest
+pub mod Building
+pub mod Defining
+pub mod TextOf

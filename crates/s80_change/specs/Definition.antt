@@ -104,6 +104,10 @@ pub record IsFormOf (tree : DoItParts) (d : Definition) : Type 0 where
 abbrev pub IsNoForm : DoItParts → Type 0
 IsNoForm tree = (d : Definition) → IsFormOf tree d → ⊥
 
+-- or of one
+abbrev pub IsSomeForm : DoItParts → Type 0
+IsSomeForm tree = (d : Definition) × IsFormOf tree d
+
 -- the text is a doIt whose tree is the form of this definition
 pub record IsDefinitionOf (text : List ℕ) (d : Definition) : Type 0 where
   pub tree : DoItParts

@@ -1,6 +1,7 @@
 // Changes of the programmer's work.
 ghost use Rattle.std.specs.Prelude.{◌≡◌, ◌<◌, ◌++◌, ◌∷◌, [], length, slice_get, Some, OnOk, OnErr};
 
+use crate::definition::Definition;
 use s80_base::{OutOfMemory, Text};
 use std::alloc::Global;
 use std::marker::Model;
@@ -8,6 +9,8 @@ use std::marker::Model;
 /// A change of the programmer's work, as the log keeps it.
 #[derive(Debug, Drop)]
 pub enum Change {
+    /// The definition of a class: it makes one, or makes one anew.
+    Define(Definition),
     /// An expression to evaluate. It changes no class.
     DoIt { text: Text },
 }

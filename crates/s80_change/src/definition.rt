@@ -1,5 +1,6 @@
 // Definitions of classes, and their texts.
 ghost use Rattle.std.specs.Prelude.{◌≡◌, ◌++◌, IfOk, OnOk};
+ghost use Rattle.s80_lex.specs.Spelling.{quoted};
 ghost use Rattle.s80_change.specs.Definition.{definition_text, first_line, defining_word, next_line, joined};
 
 use crate::names::joined;
@@ -75,7 +76,15 @@ fn add_line(text: &mut Text, word: &[u8], string: &[u8]) -> Result<(), OutOfMemo
 {
     text.append(b"\n\t")?;
     text.append(word)?;
-    text.append(b" '")?;
+    text.append(b" ")?;
+    add_quoted(text, string)
+}
+
+/// Adds a string as a source has it: between quotes, and with each quote in it doubled.
+pub fn add_quoted(text: &mut Text, string: &[u8]) -> Result<(), OutOfMemory>
+    ensures { OnOk result (text.new ≡ text.old ++ quoted 39 string.now) }
+{
+    text.append(b"'")?;
     for byte in string {
         if *byte == b'\'' {
             text.append(b"''")?;

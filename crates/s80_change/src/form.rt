@@ -5,13 +5,13 @@ ghost use Rattle.s80_tree.specs.Tree.{doit_of, expr_of, exprs_of, message_of, Do
 ghost use Rattle.s80_change.specs.declared.definition.Definition.{Definition};
 ghost use Rattle.s80_change.specs.Definition.{definition_text, defining_word, defining_selector, argument, split_names, joined, IsLawfulDefinition, IsFormOf, IsDefinitionOf};
 ghost use Rattle.s80_change.specs.Name.{AreNames};
-ghost use Rattle.s80_change.specs.Form.{IsRecognised, Finds, alone, sent, are_arguments, texts_of, ShowsForm};
+ghost use Rattle.s80_change.specs.Form.{IsRecognised, Recognises, Finds, alone, sent, are_arguments, texts_of, ShowsForm};
 
+use crate::change::Change;
 use crate::definition::{Definition, Kind};
-use crate::name::is_reserved;
 use crate::names::split_names;
 use s80_base::{Literal, OutOfMemory, Text};
-use s80_syntax::{DoItTree, Expr, Exprs, Message, NameAt, Primary};
+use s80_syntax::{DoItTree, Expr, Exprs, Message, NameAt, Primary, is_reserved};
 use std::alloc::Global;
 
 /// What a tree shows of its definition.
@@ -32,8 +32,26 @@ struct Arguments<'t> {
     category: &'t Text,
 }
 
+/// What a doIt is by its tree.
+#[derive(Debug, Drop)]
+pub enum Recognised {
+    Change(Change),
+    /// No form: it is evaluated.
+    Evaluate,
+}
+
+/// What a doIt is by its tree alone: a change where the tree is one of the forms.
+pub fn recognise(alloc: Global, tree: &DoItTree) -> Result<Recognised, OutOfMemory>
+    ensures { IfOk result (Recognises (doit_of tree.now)) }
+{
+    Ok(match recognise_definition(alloc, tree)? {
+        Some(definition) => Recognised::Change(Change::Define(definition)),
+        None => Recognised::Evaluate,
+    })
+}
+
 /// The definition whose form a tree is, if it is one.
-pub fn recognise_definition(
+pub(crate) fn recognise_definition(
     alloc: Global,
     tree: &DoItTree,
 ) -> Result<Option<Definition>, OutOfMemory>
@@ -178,7 +196,12 @@ pub fn joined_names_are_split()
     ensures { (names : List (List ℕ)) → AreNames names → split_names (joined names) ≡ names }
 {}
 
-/// A text is that of at most one lawful definition.
+/// The text of a lawful definition is a doIt whose tree is its form.
+pub fn a_definition_is_a_form()
+    ensures { (d : Definition) → IsLawfulDefinition d → IsDefinitionOf (definition_text d) d }
+{}
+
+/// So a text is that of at most one lawful definition.
 pub fn one_definition()
     ensures { (one other : Definition) → IsLawfulDefinition one → IsLawfulDefinition other
         → definition_text one ≡ definition_text other → one ≡ other }

@@ -10,11 +10,14 @@ mod names;
 mod read;
 mod refusal;
 
-pub use block::{block_text, blocks_part_in_one_way};
+pub use block::{block_text, blocks_part_in_one_way, read_change};
 pub use change::{Change, Changes};
-pub use definition::{Definition, Kind, definition_text};
-pub use form::{joined_names_are_split, one_definition, one_form, recognise_definition};
+pub use definition::{Definition, Kind, add_quoted, definition_text};
+pub use form::{
+    Recognised, a_definition_is_a_form, joined_names_are_split, one_definition, one_form, recognise,
+};
 pub use name::{is_class_name, is_name};
+pub use names::{joined, split_names};
 pub use read::read_definition;
 pub use refusal::{FitWord, ManyKind, Refusal, Refused, SyntaxKind};
 

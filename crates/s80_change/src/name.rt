@@ -2,8 +2,9 @@
 ghost use Rattle.std.specs.Prelude.{◌≡◌};
 ghost use Rattle.std.specs.Char.{is_ascii_alphanumeric};
 ghost use Rattle.std.specs.List.{list_all};
-ghost use Rattle.s80_grammar.specs.Word.{is_reserved};
 ghost use Rattle.s80_change.specs.Name.{is_identifier, is_name, begins_with_capital, is_class_name};
+
+use s80_syntax::is_reserved;
 
 /// Whether a word is an identifier that isn't reserved, as names of variables are.
 pub fn is_name(word: &[u8]) -> bool
@@ -25,19 +26,6 @@ fn are_alphanumeric(bytes: &[u8]) -> bool
     ensures { result ≡ list_all is_ascii_alphanumeric bytes.now }
 {
     bytes.iter().all(|byte| byte.is_ascii_alphanumeric())
-}
-
-/// Whether a word is reserved, so that nothing can be named so.
-#[tactic(auto, unfolding(s80_grammar::specs::Word::is_reserved))]
-pub(crate) fn is_reserved(word: &[u8]) -> bool
-    ensures { result ≡ is_reserved word.now }
-{
-    word == b"self".as_slice()
-        || word == b"super".as_slice()
-        || word == b"true".as_slice()
-        || word == b"false".as_slice()
-        || word == b"nil".as_slice()
-        || word == b"thisContext".as_slice()
 }
 
 /// Whether a class can be given this name: it is a name that begins with a capital letter, and isn't `Smalltalk` or `Transcript`.

@@ -7,7 +7,7 @@ use s80_base::{Names, OutOfMemory, Text};
 use std::alloc::Global;
 
 /// Names with one space between them.
-pub(crate) fn joined(alloc: Global, names: &Names) -> Result<Text, OutOfMemory>
+pub fn joined(alloc: Global, names: &Names) -> Result<Text, OutOfMemory>
     ensures { IfOk result (λ text. text ≡ joined names.now) }
 {
     let mut text = Text::empty(alloc);
@@ -21,7 +21,7 @@ pub(crate) fn joined(alloc: Global, names: &Names) -> Result<Text, OutOfMemory>
 }
 
 /// The names in a string: it is split at separators.
-pub(crate) fn split_names(alloc: Global, string: &[u8]) -> Result<Names, OutOfMemory>
+pub fn split_names(alloc: Global, string: &[u8]) -> Result<Names, OutOfMemory>
     ensures { IfOk result (λ names. names ≡ split_names string.now) }
 {
     let mut names = Names::empty(alloc);

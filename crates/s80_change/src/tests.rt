@@ -1,7 +1,8 @@
 // Blocks of changes, and definitions of classes, with ample memory.
+use crate::form::recognise_definition;
 use crate::{
     Change, Changes, Definition, FitWord, Kind, ManyKind, Refusal, SyntaxKind, block_text,
-    definition_text, is_class_name, is_name, read_definition, recognise_definition,
+    definition_text, is_class_name, is_name, read_change, read_definition,
 };
 use s80_base::{Names, OutOfMemory, Text};
 use s80_syntax::parse_doit;
@@ -70,8 +71,7 @@ fn changes_stand_in_order(rt: HostRuntime) -> Result<(), Fail> {
         })?;
     }
     assert_eq!(rt; changes.count(), 2);
-    let Change::DoIt { text } = changes.at(1);
-    assert_eq!(rt; text.bytes(), b"2".as_slice());
+    assert!(rt; matches!(changes.at(1), Change::DoIt { text } if text.bytes() == b"2".as_slice()));
     Ok(())
 }
 
@@ -288,6 +288,34 @@ fn names_are_told_apart(rt: HostRuntime) -> Result<(), Fail> {
     for (i, (word, name, class_name)) in rows.iter().enumerate() {
         assert!(rt; is_name(word) == *name, "row {i}");
         assert!(rt; is_class_name(word) == *class_name, "row {i}");
+    }
+    Ok(())
+}
+
+#[test]
+fn a_text_is_read_as_its_change(rt: HostRuntime) -> Result<(), Fail> {
+    let rows: [(&[u8], &[u8]); 6] = [
+        (
+            b"Object subclass: #A\n\tinstanceVariableNames: 'x'\n\tclassVariableNames: ''\n\tpoolDictionaries: ''\n\tcategory: 'c'",
+            b"define",
+        ),
+        (
+            b"Object subclass: #A instanceVariableNames: 'x' classVariableNames: '' poolDictionaries: '' category: 'c'",
+            b"none",
+        ),
+        (b"3 + 4", b"doit"),
+        (b"3 +", b"doit"),
+        (b" 3", b"none"),
+        (b"", b"none"),
+    ];
+    for (text, kind) in rows {
+        let text = Text::from_bytes(rt.alloc(), text)?;
+        let found = match read_change(rt.alloc(), text)? {
+            Some(Change::Define(_)) => b"define".as_slice(),
+            Some(Change::DoIt { .. }) => b"doit".as_slice(),
+            None => b"none".as_slice(),
+        };
+        assert_eq!(rt; found, kind);
     }
     Ok(())
 }
