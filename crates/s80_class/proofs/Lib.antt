@@ -5,4 +5,8 @@ pub mod Keeping
 pub mod Changes
 pub mod Calls
 pub mod Walks
+pub mod Most
+pub mod Pairs
+pub mod Indexed
+pub mod Families
 pub mod Extents

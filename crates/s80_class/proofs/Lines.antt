@@ -99,10 +99,10 @@ line_across classes other name alike (Some q) (e ∷ es) line h =
           (line.0, alike q ne ∙ line.1, line_across classes other name alike e.1.superclass es line.2 h')
     ] refl h
 
-contains_some : (classes : Classes) (name : Name) (row : ClassRow) → map.get classes name ≡ Some row → map.contains_key classes name ≡ true
+pub contains_some : (classes : Classes) (name : Name) (row : ClassRow) → map.get classes name ≡ Some row → map.contains_key classes name ≡ true
 contains_some classes name row is = ap is_some is
 
-len_positive : (classes : Classes) (name : Name) (row : ClassRow) → map.get classes name ≡ Some row → 0 < map.len classes
+pub len_positive : (classes : Classes) (name : Name) (row : ClassRow) → map.get classes name ≡ Some row → 0 < map.len classes
 len_positive classes name row is = go (map.len classes) refl
   where
     go : (n : ℕ) → map.len classes ≡ n → 0 < map.len classes

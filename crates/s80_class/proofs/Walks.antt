@@ -1,6 +1,5 @@
 -- Walks from a class up: what is left of its line, and what was counted on the way.
-use Rattle.std.proofs.Common.{◌≡◌, ◌≢◌, ◌≤◌, ◌<◌, ◌∙◌, ◌||◌, ◌-◌, ◌+◌, ℕ, suc, zero, cond, true, false, refl, sym, ap, subst, List, [], ◌∷◌, length, drop, Option, Some, None, arith}
-use Rattle.std.specs.Option.{option_map}
+use Rattle.std.proofs.Common.{◌≡◌, ◌≢◌, ◌≤◌, ◌<◌, ◌∙◌, ◌||◌, ◌-◌, ◌+◌, ℕ, suc, zero, true, false, refl, sym, ap, subst, List, [], ◌∷◌, length, drop, Option, Some, None, arith}
 use Rattle.std.specs.List.{sum_by}
 use Rattle.std.specs.Str.{bytes_eq}
 use Rattle.std.specs.FinMap as map
@@ -12,7 +11,7 @@ use Rattle.s80_class.specs.declared.inherited.Totals.{Totals}
 use Rattle.s80_class.specs.Classes.{Name, ClassRow, Classes, upwards, then_up, lineage, descends, inherited_in, own_or}
 use Rattle.s80_class.specs.Table.{Table, IsNumberOf, IsClass, IsEntryOf, row_of}
 use Rattle.s80_class.specs.Kept.{IsKept}
-use Rattle.s80_class.specs.Counted.{counted, totals, nothing, over, own, own_of, added_below}
+use Rattle.s80_class.specs.Counted.{counted, totals, nothing, over, own, own_of}
 use Rattle.s80_class.proofs.Lines.{Entry, passes, bytes_eq-self, eq_not}
 use Rattle.s80_class.proofs.Rows.{Entries, superclass_in, name_is}
 use Rattle.s80_class.proofs.Keeping.{ordered_length}
@@ -134,17 +133,6 @@ pub totals_counted : (es : List Entry) → over nothing (totals (inherited_in es
 totals_counted [] = refl
 totals_counted (e ∷ es) = ap (over nothing) (totals_more e es) ∙ nothing_over (own_of e.1) (totals (inherited_in es)) ∙ sym (totals_more e es)
 
-pub below_counted : (name : Name) (es : List Entry) → option_map (over nothing) (added_below name es) ≡ added_below name es
-below_counted name [] = refl
-below_counted name (e ∷ es) = elim (bytes_eq e.0 name) as (λ b. option_map (over nothing) (cond b (Some nothing) (option_map (over (own_of e.1)) (added_below name es))) ≡ cond b (Some nothing) (option_map (over (own_of e.1)) (added_below name es))) [
-  | true ↦ refl
-  | false ↦ go (added_below name es)
-]
-  where
-    go : (o : Option Totals) → option_map (over nothing) (option_map (over (own_of e.1)) o) ≡ option_map (over (own_of e.1)) o
-    go None = refl
-    go (Some t) = ap Some (nothing_over (own_of e.1) t)
-
 -- ---- the steps of a walk
 
 pub counts_on : (table : Table) (end counter number : ℕ) (e : ClassEntry) (t : Totals) → counter < end → IsEntryOf table number e
@@ -153,26 +141,6 @@ counts_on table end counter number e t lt is =
     ap (λ es. over t (totals (inherited_in es))) (left_more table end counter number e lt is)
     ∙ ap (over t) (totals_more (e.class_name, row_of table.names e) (left table end (counter + 1) e.superclass))
     ∙ sym (over_assoc t (own e.kind e.inst_vars e.class_side_vars) (totals (inherited_in (left table end (counter + 1) e.superclass))))
-
-over_both : (t u : Totals) (o : Option Totals) → option_map (over t) (option_map (over u) o) ≡ option_map (over (over t u)) o
-over_both t u None = refl
-over_both t u (Some x) = ap Some (sym (over_assoc t u x))
-
-pub adds_on : (table : Table) (end counter number of : ℕ) (e : ClassEntry) (t : Totals) (other : Name) → IsWalked table end → counter < end → IsEntryOf table number e → IsNumberOf table.names of other → number ≢ of
-    → option_map (over t) (added_below other (left table end counter (Some number))) ≡ option_map (over (over t (own e.kind e.inst_vars e.class_side_vars))) (added_below other (left table end (counter + 1) e.superclass))
-adds_on table end counter number of e t other walk lt is named ne =
-    ap (λ es. option_map (over t) (added_below other es)) (left_more table end counter number e lt is)
-    ∙ ap (λ b. option_map (over t) (cond b (Some nothing) (option_map (over (own e.kind e.inst_vars e.class_side_vars)) (added_below other (left table end (counter + 1) e.superclass))))) (names_differ table end number of e other walk is named ne)
-    ∙ over_both t (own e.kind e.inst_vars e.class_side_vars) (added_below other (left table end (counter + 1) e.superclass))
-
-pub adds_here : (table : Table) (end counter number : ℕ) (t : Totals) (other : Name) → IsWalked table end → IsClass table.names number → counter < end → IsNumberOf table.names number other
-    → option_map (over t) (added_below other (left table end counter (Some number))) ≡ Some (over t nothing)
-adds_here table end counter number t other walk class lt is =
-    let e = walk.known number class in
-    let same : e.0.class_name ≡ other = same_name table number e.0.class_name other e.1.named is in
-    ap (λ es. option_map (over t) (added_below other es)) (left_more table end counter number e.0 lt e.1)
-    ∙ ap (λ b. option_map (over t) (cond b (Some nothing) (option_map (over (own e.0.kind e.0.inst_vars e.0.class_side_vars)) (added_below other (left table end (counter + 1) e.0.superclass)))))
-    (ap (bytes_eq e.0.class_name) (sym same) ∙ bytes_eq-self e.0.class_name)
 
 -- the walk begins with the whole line
 pub starts_here : (table : Table) (end c : ℕ) (name : Name) → IsWalked table end → IsNumberOf table.names c name → lineage table.classes name ≡ left table end 0 (Some c)

@@ -1,6 +1,7 @@
 // What a class has with all that it inherits.
 ghost use Rattle.std.specs.Prelude.{◌≡◌};
 ghost use Rattle.s80_class.specs.Counted.{nothing, over, own, raised};
+ghost use Rattle.s80_class.specs.Family.{least};
 
 use crate::entry::ClassEntry;
 use s80_change::Kind;
@@ -62,6 +63,17 @@ pub struct Greatest {
 }
 
 impl Greatest {
+    // Of no class.
+    pub(crate) fn none() -> Self
+        ensures { result ≡ least }
+    {
+        Greatest {
+            inst_vars: 0,
+            class_side_vars: 0,
+            bits_variables: 0,
+        }
+    }
+
     // With one more class.
     pub(crate) fn raised(self, totals: Totals) -> Self
         ensures { result ≡ raised self totals }

@@ -1,6 +1,7 @@
 //! The table of classes: each has a name, a number and a superclass.
 #![tactic(auto)]
 
+mod below;
 mod entry;
 mod inherited;
 mod laws;

@@ -1,11 +1,13 @@
 // The table of classes.
 ghost use Rattle.std.specs.Prelude.{◌≡◌, ◌≢◌, ◌+◌, ◌-◌, ◌^◌, ◌<◌, ◌≤◌, ◌++◌, ◌∷◌, [], List, ℕ, map as list_map, length, slice_set, Some, None, IfOk, OnOk, MatchOption};
 ghost use Rattle.std.specs.FinMap as map;
-ghost use Rattle.s80_class.specs.Classes.{ClassRow, IsValid, lineage, descends, inherited_of, extent_of};
-ghost use Rattle.s80_class.specs.Counted.{totals, greatest_of, added_below};
+ghost use Rattle.s80_class.specs.Classes.{ClassRow, IsValid, descends, inherited_of, extent_of};
+ghost use Rattle.s80_class.specs.Counted.{totals, greatest_of};
 ghost use Rattle.s80_class.specs.Table.{IsNumberOf, IsClass, IsSuperclass, IsAbove, IsEntryOf, row_of};
 ghost use Rattle.s80_class.specs.Kept.{names_of, name_at, IsRising, IsPlace};
+ghost use Rattle.s80_class.specs.Family.{IsFamily, Grows};
 
+use crate::below::{move_below, place_below, put_below, take_below};
 use crate::entry::ClassEntry;
 use crate::inherited::{Greatest, Totals};
 use s80_base::{Names, OutOfMemory, Text};
@@ -19,7 +21,9 @@ pub struct ClassTable {
     entries: Vec<Option<ClassEntry>>,
     /// Their numbers, in byte order of their names.
     order: Vec<u32>,
-    /// For how many more classes both have room.
+    /// Their superclasses and numbers, in rising order.
+    subclasses: Vec<(Option<u32>, u32)>,
+    /// For how many more classes all three have room.
     spare: usize,
 }
 
@@ -42,6 +46,7 @@ impl Model for ClassTable {
 const NUMBERS: usize = 1 << 32;
 
 impl ClassTable {
+    /// A table without classes and without room for any.
     pub fn empty(alloc: Global) -> Self
         ensures classes { result.classes ≡ map.empty }
         ensures names { result.names ≡ [] }
@@ -50,6 +55,7 @@ impl ClassTable {
         ClassTable {
             entries: Vec::new(alloc),
             order: Vec::new(alloc),
+            subclasses: Vec::new(alloc),
             spare: 0,
         }
     }
@@ -69,6 +75,7 @@ impl ClassTable {
         }
         self.entries.reserve(n)?;
         self.order.reserve(n)?;
+        self.subclasses.reserve(n)?;
         self.spare = n;
         Ok(())
     }
@@ -144,45 +151,57 @@ impl ClassTable {
     }
 
     /// The greatest numbers of variables among a class and its descendants, if the class itself came to have these totals.
-    pub fn greatest_with(&self, c: u32, top: Totals) -> Greatest
+    /// No other class is looked at.
+    pub fn greatest_with(&self, alloc: Global, c: u32, top: Totals) -> Result<Greatest, OutOfMemory>
         requires { IsClass self.now.names c }
         ensures { (name : List ℕ) (row : ClassRow) → IsNumberOf self.now.names c name
             → IsValid (map.insert self.now.classes name row) → top ≡ totals (inherited_of (map.insert self.now.classes name row) name)
-            → result ≡ greatest_of (extent_of (map.insert self.now.classes name row) name) }
+            → IfOk result (λ g. g ≡ greatest_of (extent_of (map.insert self.now.classes name row) name)) }
     {
-        let mut greatest = Greatest {
-            inst_vars: 0,
-            class_side_vars: 0,
-            bits_variables: 0,
-        };
-        for number in &self.order {
-            if let Some(added) = self.added_below(*number, c) {
-                greatest = greatest.raised(added.over(top));
-            }
+        let mut greatest = Greatest::none();
+        for (_, totals) in &self.family(alloc, c, top)? {
+            greatest = greatest.raised(*totals);
         }
-        greatest
+        Ok(greatest)
     }
 
-    // What the classes from this one up to another, which is left out, have together; none where the other isn't above.
-    fn added_below(&self, from: u32, c: u32) -> Option<Totals>
-        requires { IsClass self.now.names from }
-        ensures { (name other : List ℕ) → IsNumberOf self.now.names from name → IsNumberOf self.now.names c other
-            → result ≡ added_below other (lineage self.now.classes name) }
+    // A class and its descendants with their totals, if the class itself came to have these.
+    fn family(&self, alloc: Global, c: u32, top: Totals) -> Result<Vec<(u32, Totals)>, OutOfMemory>
+        requires { IsClass self.now.names c }
+        ensures { (name : List ℕ) (row : ClassRow) → IsNumberOf self.now.names c name
+            → IsValid (map.insert self.now.classes name row) → top ≡ totals (inherited_of (map.insert self.now.classes name row) name)
+            → IfOk result (λ found. IsFamily (map.insert self.now.classes name row) name found.items) }
     {
-        let mut added = Totals::none();
-        let mut next = Some(from);
-        for _ in 0..self.order.len() {
-            let Some(number) = next else {
-                return None;
+        let mut found = Vec::new(alloc);
+        found.push((c, top))?;
+        for next in 0..self.order.len() {
+            let Some(&(number, totals)) = found.get(next) else {
+                return Ok(found);
             };
-            if number == c {
-                return Some(added);
-            }
-            let entry = self.at(number);
-            added = added.over(Totals::own(entry));
-            next = entry.superclass;
+            self.find_below(number, totals, &mut found)?;
         }
-        None
+        Ok(found)
+    }
+
+    // Puts the subclasses of a class that has these totals behind those that were found.
+    fn find_below(
+        &self,
+        number: u32,
+        totals: Totals,
+        found: &mut Vec<(u32, Totals)>,
+    ) -> Result<(), OutOfMemory>
+        ensures { IfOk result (λ _. Grows self.now number totals found.old.items found.new.items) }
+    {
+        let first = place_below(&self.subclasses, (Some(number), 0));
+        for at in first..self.subclasses.len() {
+            let (superclass, subclass) = self.subclasses[at];
+            if superclass != Some(number) {
+                return Ok(());
+            }
+            let own = Totals::own(self.at(subclass));
+            found.push((subclass, own.over(totals)))?;
+        }
+        Ok(())
     }
 
     /// The names of all classes, in byte order.
@@ -211,6 +230,7 @@ impl ClassTable {
         let number = self.entries.len() as u32;
         let at = place(&self.entries, &self.order, entry.class_name.bytes());
         self.order.insert(at, number).unwrap();
+        put_below(&mut self.subclasses, (entry.superclass, number));
         self.entries.push_reserved(Some(entry));
         self.spare -= 1;
         number
@@ -226,7 +246,10 @@ impl ClassTable {
         ensures spare { self.new.spare ≡ self.old.spare }
         ensures valid { IsValid self.new.classes }
     {
-        self.entries[c as usize].replace(entry).unwrap()
+        let superclass = entry.superclass;
+        let old = self.entries[c as usize].replace(entry).unwrap();
+        move_below(&mut self.subclasses, c, old.superclass, superclass);
+        old
     }
 
     /// Takes a class off that is no superclass, and answers its entry. Takes no memory.
@@ -241,7 +264,9 @@ impl ClassTable {
     {
         let at = place(&self.entries, &self.order, name_in(&self.entries, c));
         self.order.remove(at);
-        self.entries[c as usize].take().unwrap()
+        let old = self.entries[c as usize].take().unwrap();
+        take_below(&mut self.subclasses, (old.superclass, c));
+        old
     }
 }
 

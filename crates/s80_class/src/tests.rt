@@ -228,18 +228,14 @@ fn expect_greatest(
         class_side_vars: most.1,
         bits_variables: most.2,
     };
-    assert_eq!(rt; table.greatest_with(c, top), want);
+    assert_eq!(rt; table.greatest_with(alloc, c, top)?, want);
     Ok(())
 }
 
 #[test]
 fn the_greatest_stand_below_too(rt: HostRuntime) -> Result<(), Fail> {
     let table = small(rt.alloc())?;
-    let top = Totals {
-        inst_vars: 2,
-        class_side_vars: 1,
-        kind: Kind::Plain,
-    };
+    let top = plain(2, 1);
     expect_greatest(&rt, rt.alloc(), &table, b"Collection", top, (6, 4, 3))?;
     expect_greatest(&rt, rt.alloc(), &table, b"Bag", top, (2, 1, 0))?;
     let bytes = Totals {
@@ -307,6 +303,63 @@ fn another_entry_takes_the_place(rt: HostRuntime) -> Result<(), Fail> {
     );
     expect_totals(&rt, rt.alloc(), &table, b"Symbol", (12, 1), Kind::Plain)?;
     expect_number(&rt, rt.alloc(), &table, b"ByteArray", Some(3))?;
+    assert_eq!(rt; table.count(), 8);
+    Ok(())
+}
+
+#[test]
+fn a_class_is_moved_and_comes_back(rt: HostRuntime) -> Result<(), Fail> {
+    let alloc = rt.alloc();
+    let mut table = small(alloc)?;
+    let bag = plain(6, 1);
+    let collection = plain(2, 1);
+    expect_greatest(&rt, alloc, &table, b"Bag", bag, (6, 1, 0))?;
+    change(alloc, &mut table, b"ByteArray", b"Bag", (5, 0))?;
+    expect_totals(&rt, alloc, &table, b"Symbol", (12, 1), Kind::Plain)?;
+    expect_greatest(&rt, alloc, &table, b"Bag", bag, (12, 1, 0))?;
+    expect_greatest(&rt, alloc, &table, b"Collection", collection, (12, 1, 3))?;
+    change(alloc, &mut table, b"ByteArray", b"Collection", (5, 3))?;
+    expect_totals(&rt, alloc, &table, b"Symbol", (8, 4), Kind::Plain)?;
+    expect_greatest(&rt, alloc, &table, b"Bag", bag, (6, 1, 0))?;
+    expect_greatest(&rt, alloc, &table, b"Collection", collection, (8, 4, 3))?;
+    expect_greatest(&rt, alloc, &table, b"Object", plain(0, 1), (8, 4, 3))?;
+    Ok(())
+}
+
+fn plain(inst_vars: usize, class_side_vars: usize) -> Totals {
+    Totals {
+        inst_vars,
+        class_side_vars,
+        kind: Kind::Plain,
+    }
+}
+
+// Adds a class of twenty variables under Symbol, which is removed again.
+fn come_and_go(
+    rt: &impl Abort,
+    alloc: Global,
+    table: &mut ClassTable,
+    name: &[u8],
+) -> Result<(), OutOfMemory> {
+    table.reserve(1)?;
+    let name = Text::from_bytes(alloc, name)?;
+    if table.find(&name).is_some() {
+        return Ok(());
+    }
+    let superclass = find(alloc, table, b"Symbol")?;
+    let entry = entry(alloc, name, superclass, Kind::Plain, (20, 0))?;
+    let number = table.add(entry);
+    expect_greatest(rt, alloc, table, b"Collection", plain(2, 1), (23, 4, 23))?;
+    let gone = table.remove(number);
+    assert_eq!(rt; gone.inst_vars.count(), 20);
+    expect_greatest(rt, alloc, table, b"Collection", plain(2, 1), (6, 4, 3))?;
+    Ok(())
+}
+
+#[test]
+fn a_removed_class_no_longer_counts(rt: HostRuntime) -> Result<(), Fail> {
+    let mut table = small(rt.alloc())?;
+    come_and_go(&rt, rt.alloc(), &mut table, b"Leaf")?;
     assert_eq!(rt; table.count(), 8);
     Ok(())
 }

@@ -1,6 +1,14 @@
 use Rattle.std.proofs.Common.{arith}
 use Rattle.s80_class.proofs.Keeping.{none_kept}
+use Rattle.s80_class.proofs.Indexed.{none_indexed}
 use Rattle.s80_class.proofs.table.ClassTable.empty.Goals as goal
 
 pub invariant_of-result : goal.invariant_of-result
-invariant_of-result c = record { kept = rw (c.new.ensures.items, c.new-2.ensures.items) none_kept; room = omega arith; order_room = omega arith; numbers = omega arith }
+invariant_of-result c = record {
+  kept = rw (c.new.ensures.items, c.new-2.ensures.items) none_kept;
+  indexed = rw (c.new.ensures.items, c.new-3.ensures.items) none_indexed;
+  room = omega arith;
+  order_room = omega arith;
+  below_room = omega arith;
+  numbers = omega arith;
+}

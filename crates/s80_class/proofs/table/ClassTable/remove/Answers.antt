@@ -3,7 +3,9 @@ use Rattle.s80_class.proofs.Keeping.{names_rise, class_within}
 use Rattle.s80_class.proofs.Calls.{entry_at, entry_of_class, entry_shown, is_entry_at, place_named, removed_at, removed_kept, removed_classes, removed_names}
 use Rattle.s80_class.specs.Table.{Table, IsClass}
 use Rattle.s80_class.proofs.Rows.{IsAt}
-use Rattle.s80_class.proofs.table.ClassTable.remove.Goals.{After-unwrap}
+use Rattle.s80_class.specs.Below.{IsIndexed}
+use Rattle.s80_class.proofs.Indexed.{is_there, indexed_less}
+use Rattle.s80_class.proofs.table.ClassTable.remove.Goals.{After-unwrap-old}
 use Rattle.s80_class.proofs.table.ClassTable.remove.Goals as goal
 
 pub place-at-requires : goal.place-at-requires
@@ -27,17 +29,20 @@ index_mut-requires c =
     let class = subst (λ (t : Table). IsClass t.names c.args.c) (sym c.self.view_is) c.requires.class in
     omega (arith, class_within c.self.inside.entries.items c.self.inside.order.items c.self.invariant.kept c.args.c class)
 
-pub unwrap-requires : goal.unwrap-requires
-unwrap-requires c =
+pub unwrap-old-requires : goal.unwrap-old-requires
+unwrap-old-requires c =
     let some = is_entry_at c.self.inside.entries.items c.self.inside.order.items c.self.invariant.kept c.self.inside.spare c.args.self.now c.self.view_is c.args.c c.index_mut.result.now
     c.requires.class c.index_mut.ensures.value in
     subst IsSome (sym (c.take.ensures.value ∙ some.1)) refl
 
 -- the entry that was there
-old_at : (c : After-unwrap) → IsAt c.self.inside.entries.items c.args.c c.unwrap.result
+old_at : (c : After-unwrap-old) → IsAt c.self.inside.entries.items c.args.c c.unwrap-old.result
 old_at c =
-    entry_at c.self.inside.entries.items c.self.inside.order.items c.self.invariant.kept c.self.inside.spare c.args.self.now c.self.view_is c.args.c c.index_mut.result.now c.unwrap.result
-    c.requires.class c.index_mut.ensures.value (sym c.take.ensures.value ∙ c.unwrap.ensures)
+    entry_at c.self.inside.entries.items c.self.inside.order.items c.self.invariant.kept c.self.inside.spare c.args.self.now c.self.view_is c.args.c c.index_mut.result.now c.unwrap-old.result
+    c.requires.class c.index_mut.ensures.value (sym c.take.ensures.value ∙ c.unwrap-old.ensures)
+
+pub take_below-requires-clause-there : goal.take_below-requires-clause-there
+take_below-requires-clause-there c = is_there c.self.inside.entries.items c.self.inside.subclasses.items c.self.invariant.indexed c.args.c c.unwrap-old.result (old_at (goal.at.take_below-requires-clause-there c).After-unwrap-old)
 
 pub invariant_of-self : goal.invariant_of-self
 invariant_of-self c =
@@ -48,25 +53,28 @@ invariant_of-self c =
     let table = c.args.self.now in
     let place = rw (c.deref.ensures.value, c.deref-2.ensures.value, c.name_in.ensures, c.deref-3.ensures.value) at c.place-at.ensures in
     record {
-      kept = removed_kept es order kept spare table c.self.view_is c.args.c c.unwrap.result (old_at c) c.requires.alone (set es c.args.c c.take.new.self) (ap (set es c.args.c) c.take.ensures.after)
-          c.remove.new.self.items c.place-at.result c.remove.ensures.items (place_named es order kept spare table c.self.view_is c.args.c c.unwrap.result (old_at c) c.place-at.result place);
+      kept = removed_kept es order kept spare table c.self.view_is c.args.c c.unwrap-old.result (old_at (goal.at.invariant_of-self c).After-unwrap-old) c.requires.alone (set es c.args.c c.take.new.self) (ap (set es c.args.c) c.take.ensures.after)
+          c.remove.new.self.items c.place-at.result c.remove.ensures.items (place_named es order kept spare table c.self.view_is c.args.c c.unwrap-old.result (old_at (goal.at.invariant_of-self c).After-unwrap-old) c.place-at.result place);
+      indexed = subst (λ o. IsIndexed (set es c.args.c o) c.take_below.new.pairs.items) (sym c.take.ensures.after)
+          (indexed_less es c.self.inside.subclasses.items c.self.invariant.indexed c.args.c c.unwrap-old.result (old_at (goal.at.invariant_of-self c).After-unwrap-old) c.take_below.new.pairs.items c.take_below.ensures.without);
       room = c.self.invariant.room;
       order_room = omega (arith, c.self.invariant.order_room);
+      below_room = omega (arith, c.self.invariant.below_room);
       numbers = c.self.invariant.numbers;
     }
 
 pub returns-clause-old : goal.returns-clause-old
 returns-clause-old c =
-    entry_shown c.self.inside.entries.items c.self.inside.order.items c.self.invariant.kept c.self.inside.spare c.args.self.now c.self.view_is c.args.c c.unwrap.result (old_at c)
+    entry_shown c.self.inside.entries.items c.self.inside.order.items c.self.invariant.kept c.self.inside.spare c.args.self.now c.self.view_is c.args.c c.unwrap-old.result (old_at (goal.at.returns-clause-old c).After-unwrap-old)
 
 pub returns-clause-classes : goal.returns-clause-classes
 returns-clause-classes c =
     let es = c.self.inside.entries.items in
-    removed_classes es c.self.inside.order.items c.self.invariant.kept c.self.inside.spare c.args.self.now c.self.view_is c.args.c c.unwrap.result (old_at c) c.requires.alone
+    removed_classes es c.self.inside.order.items c.self.invariant.kept c.self.inside.spare c.args.self.now c.self.view_is c.args.c c.unwrap-old.result (old_at (goal.at.returns-clause-classes c).After-unwrap-old) c.requires.alone
     (set es c.args.c c.take.new.self) (ap (set es c.args.c) c.take.ensures.after)
 
 pub returns-clause-names : goal.returns-clause-names
 returns-clause-names c =
     let es = c.self.inside.entries.items in
-    removed_names es c.self.inside.order.items c.self.invariant.kept c.self.inside.spare c.args.self.now c.self.view_is c.args.c c.unwrap.result (old_at c) c.requires.alone
+    removed_names es c.self.inside.order.items c.self.invariant.kept c.self.inside.spare c.args.self.now c.self.view_is c.args.c c.unwrap-old.result (old_at (goal.at.returns-clause-names c).After-unwrap-old) c.requires.alone
     (set es c.args.c c.take.new.self) (ap (set es c.args.c) c.take.ensures.after)

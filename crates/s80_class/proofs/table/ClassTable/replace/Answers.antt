@@ -1,45 +1,56 @@
-use Rattle.std.proofs.Common.{◌∙◌, ap, sym, set}
+use Rattle.std.proofs.Common.{◌∙◌, ap, sym, subst, set, arith}
 use Rattle.s80_class.proofs.Rows.{IsAt}
 use Rattle.s80_class.proofs.Calls.{entry_at, entry_shown, replaced_kept, replaced_classes, replaced_names, replaced_valid}
-use Rattle.s80_class.proofs.table.ClassTable.replace.Goals.{After-unwrap}
+use Rattle.s80_class.specs.Below.{IsIndexed}
+use Rattle.s80_class.proofs.Indexed.{is_there, one_superclass, indexed_other}
+use Rattle.s80_class.proofs.table.ClassTable.replace.Goals.{After-unwrap-old}
 use Rattle.s80_class.proofs.table.ClassTable.replace.Goals as goal
 
 -- the entry that was there
-old_at : (c : After-unwrap) → IsAt c.self.inside.entries.items c.args.c c.unwrap.result
+old_at : (c : After-unwrap-old) → IsAt c.self.inside.entries.items c.args.c c.unwrap-old.result
 old_at c =
-    entry_at c.self.inside.entries.items c.self.inside.order.items c.self.invariant.kept c.self.inside.spare c.args.self.now c.self.view_is c.args.c c.index_mut.result.now c.unwrap.result
-    (c.args.entry.class_name, c.requires.named) c.index_mut.ensures.value (sym c.replace.ensures.value ∙ c.unwrap.ensures)
+    entry_at c.self.inside.entries.items c.self.inside.order.items c.self.invariant.kept c.self.inside.spare c.args.self.now c.self.view_is c.args.c c.index_mut.result.now c.unwrap-old.result
+    (c.args.entry.class_name, c.requires.named) c.index_mut.ensures.value (sym c.replace.ensures.value ∙ c.unwrap-old.ensures)
+
+pub move_below-requires-clause-there : goal.move_below-requires-clause-there
+move_below-requires-clause-there c = is_there c.self.inside.entries.items c.self.inside.subclasses.items c.self.invariant.indexed c.args.c c.unwrap-old.result (old_at (goal.at.move_below-requires-clause-there c).After-unwrap-old)
+
+pub move_below-requires-clause-one : goal.move_below-requires-clause-one
+move_below-requires-clause-one c = one_superclass c.self.inside.entries.items c.self.inside.subclasses.items c.self.invariant.indexed c.args.c c.unwrap-old.result (old_at (goal.at.move_below-requires-clause-one c).After-unwrap-old)
 
 pub invariant_of-self : goal.invariant_of-self
 invariant_of-self c =
     let es = c.self.inside.entries.items in
     let order = c.self.inside.order.items in
     record {
-      kept = replaced_kept es order c.self.invariant.kept c.self.inside.spare c.args.self.now c.self.view_is c.args.c c.unwrap.result c.args.entry (old_at c) c.requires.named
+      kept = replaced_kept es order c.self.invariant.kept c.self.inside.spare c.args.self.now c.self.view_is c.args.c c.unwrap-old.result c.args.entry (old_at (goal.at.invariant_of-self c).After-unwrap-old) c.requires.named
           (set es c.args.c c.replace.new.self) (ap (set es c.args.c) c.replace.ensures.after) c.requires.superclass;
+      indexed = subst (λ o. IsIndexed (set es c.args.c o) c.move_below.new.pairs.items) (sym c.replace.ensures.after)
+          (indexed_other es c.self.inside.subclasses.items c.self.invariant.indexed c.args.c c.unwrap-old.result (old_at (goal.at.invariant_of-self c).After-unwrap-old) c.args.entry c.move_below.new.pairs.items c.move_below.ensures.moved);
       room = c.self.invariant.room;
       order_room = c.self.invariant.order_room;
+      below_room = omega (arith, c.self.invariant.below_room);
       numbers = c.self.invariant.numbers;
     }
 
 pub returns-clause-old : goal.returns-clause-old
 returns-clause-old c =
-    entry_shown c.self.inside.entries.items c.self.inside.order.items c.self.invariant.kept c.self.inside.spare c.args.self.now c.self.view_is c.args.c c.unwrap.result (old_at c)
+    entry_shown c.self.inside.entries.items c.self.inside.order.items c.self.invariant.kept c.self.inside.spare c.args.self.now c.self.view_is c.args.c c.unwrap-old.result (old_at (goal.at.returns-clause-old c).After-unwrap-old)
 
 pub returns-clause-classes : goal.returns-clause-classes
 returns-clause-classes c =
     let es = c.self.inside.entries.items in
-    replaced_classes es c.self.inside.order.items c.self.invariant.kept c.self.inside.spare c.args.self.now c.self.view_is c.args.c c.unwrap.result c.args.entry (old_at c) c.requires.named
+    replaced_classes es c.self.inside.order.items c.self.invariant.kept c.self.inside.spare c.args.self.now c.self.view_is c.args.c c.unwrap-old.result c.args.entry (old_at (goal.at.returns-clause-classes c).After-unwrap-old) c.requires.named
     (set es c.args.c c.replace.new.self) (ap (set es c.args.c) c.replace.ensures.after)
 
 pub returns-clause-names : goal.returns-clause-names
 returns-clause-names c =
     let es = c.self.inside.entries.items in
-    replaced_names es c.self.inside.order.items c.self.invariant.kept c.self.inside.spare c.args.self.now c.self.view_is c.args.c c.unwrap.result c.args.entry (old_at c) c.requires.named
+    replaced_names es c.self.inside.order.items c.self.invariant.kept c.self.inside.spare c.args.self.now c.self.view_is c.args.c c.unwrap-old.result c.args.entry (old_at (goal.at.returns-clause-names c).After-unwrap-old) c.requires.named
     (set es c.args.c c.replace.new.self) (ap (set es c.args.c) c.replace.ensures.after)
 
 pub returns-clause-valid : goal.returns-clause-valid
 returns-clause-valid c =
     let es = c.self.inside.entries.items in
-    replaced_valid es c.self.inside.order.items c.self.invariant.kept c.self.inside.spare c.args.self.now c.self.view_is c.args.c c.unwrap.result c.args.entry (old_at c) c.requires.named
+    replaced_valid es c.self.inside.order.items c.self.invariant.kept c.self.inside.spare c.args.self.now c.self.view_is c.args.c c.unwrap-old.result c.args.entry (old_at (goal.at.returns-clause-valid c).After-unwrap-old) c.requires.named
     (set es c.args.c c.replace.new.self) (ap (set es c.args.c) c.replace.ensures.after) c.requires.superclass
