@@ -22,7 +22,7 @@ use Rattle.s80_apply.specs.Boot.{IsFoundAbove, IsKernelEntry}
 use Rattle.s80_apply.specs.Limits.{IsWithin}
 use Rattle.s80_apply.proofs.Seen.{words_turned}
 use Rattle.s80_apply.proofs.Looked.{count_new}
-use Rattle.s80_apply.proofs.Greatest.{some_row}
+use Rattle.s80_class.proofs.Most.{some_row}
 use Rattle.s80_apply.proofs.Defined.{line_of, no_lineage, over_of, valid_defined, inherited_defined, lineage_defined, alone_under, unmoved, top, top_line, head_row}
 
 -- ---- the rows stand in order

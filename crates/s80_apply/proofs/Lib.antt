@@ -1,4 +1,3 @@
-pub mod Greatest
 pub mod Defined
 pub mod Extents
 pub mod Found
@@ -6,5 +5,5 @@ pub mod Seen
 pub mod Looked
 pub mod Refusing
 pub mod Booted
-pub mod Pieces
 pub mod Names
+pub mod Lawful

@@ -46,7 +46,7 @@ kernel_named = λ name row is. named_among kernel_rows name rows_named (sym (bui
 
 -- ---- a definition
 
-named_where : (d : Definition) → bad_name d ≡ None → IsName d.class_name
+pub named_where : (d : Definition) → bad_name d ≡ None → IsName d.class_name
 named_where d h = go (is_class_name d.class_name) refl h
   where
     go : (b : Bool) → is_class_name d.class_name ≡ b → cond b (option_map BadName (find (λ name. not (is_name name)) (d.inst_vars ++ (d.class_vars ++ d.pools)))) (Some (BadName d.class_name)) ≡ None → IsName d.class_name

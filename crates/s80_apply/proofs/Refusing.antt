@@ -20,9 +20,9 @@ use Rattle.s80_apply.specs.Accept.{row_of as defined_row, define, bad_name, unkn
 use Rattle.s80_apply.specs.Entry.{IsDefined}
 use Rattle.s80_apply.specs.Extent.{IsGreatest, totals_on, alone}
 use Rattle.s80_apply.specs.Limits.{IsWithin}
-use Rattle.s80_apply.specs.System.{MayPut, IsReady, Prepares, installed}
-use Rattle.s80_apply.specs.declared.system.Step.{Step}
-use Rattle.s80_apply.proofs.Greatest.{some_row}
+use Rattle.s80_apply.specs.System.{MayPut, CanPut, Places, with_entry}
+use Rattle.s80_apply.specs.declared.system.Placed.{Placed}
+use Rattle.s80_class.proofs.Most.{some_row}
 use Rattle.s80_apply.proofs.Defined.{over_of, inherited_defined, valid_defined}
 use Rattle.s80_apply.proofs.Extents.{bits_extent, own_side, within_defined, alone_extent, grown_extent}
 
@@ -32,7 +32,7 @@ pub none_first : {T : Type 0} (o : Option T) (os : List (Option T)) → first_so
 none_first None os h = (refl, h)
 none_first (Some x) os h = absurd (let bad : Some x ≡ None = h in cc)
 
-known_where : (d : Definition) (classes : Classes) → unknown_class d classes ≡ None → map.contains_key classes d.superclass ≡ true
+pub known_where : (d : Definition) (classes : Classes) → unknown_class d classes ≡ None → map.contains_key classes d.superclass ≡ true
 known_where d classes h = go (map.contains_key classes d.superclass) refl h
   where
     go : (b : Bool) → map.contains_key classes d.superclass ≡ b → cond b None (Some (UnknownClass d.superclass)) ≡ None → map.contains_key classes d.superclass ≡ true
@@ -186,19 +186,19 @@ module _ (d : Definition) (table : Table) (room : 0 < table.spare) (valid : IsVa
   may_put None none = (room, ap (map.get table.classes) defined.class_name ∙ none, (placed entry.superclass defined.superclass).0)
   may_put (Some c) named = (subst (λ (n : Name). IsNumberOf table.names c n) (sym defined.class_name) named, (placed entry.superclass defined.superclass).1)
 
-  makes : (number : Option ℕ) → installed table (record { number = number; entry = entry }) ≡ define d table.classes
-  makes number = λ i. map.insert table.classes (defined.class_name i) (defined.row i)
+  makes : with_entry table entry ≡ define d table.classes
+  makes = λ i. map.insert table.classes (defined.class_name i) (defined.row i)
 
-  prepared_here : (number : Option ℕ) → MatchOption number (map.get table.classes d.class_name ≡ None) (λ c. IsNumberOf table.names c d.class_name) → Prepares table.classes d table (Ok (record { number = number; entry = entry }))
+  prepared_here : (number : Option ℕ) → MatchOption number (map.get table.classes d.class_name ≡ None) (λ c. IsNumberOf table.names c d.class_name) → Places table.classes d table (Ok (record { number = number; entry = entry }))
   prepared_here number found =
       let kept : IsWithin (define d table.classes) = within_defined table.classes d.class_name (defined_row d (map.get table.classes d.class_name)) valid (over d table.classes valid ok.known ok.acyclic) within ok.count ok.inst_vars ok.class_side_vars in
-      (accepted, record { may_put = may_put number found; within = subst IsWithin (sym (makes number)) kept }, makes number)
+      (accepted, record { may_put = may_put number found; within = subst IsWithin (sym makes) kept }, makes)
 
 pub prepared : (d : Definition) (old now : Table) (entry : ClassEntry) (number : Option ℕ) → now.classes ≡ old.classes → now.names ≡ old.names → 0 < now.spare → IsValid old.classes → IsWithin old.classes
     → refusal_of d old.classes ≡ None → IsDefined old d entry → MatchOption number (map.get old.classes d.class_name ≡ None) (λ c. IsNumberOf old.names c d.class_name)
-    → Prepares old.classes d now (Ok (record { number = number; entry = entry }))
+    → Places old.classes d now (Ok (record { number = number; entry = entry }))
 prepared d old now entry number classes names room valid within accepted defined found =
     let table : Table = record { classes = old.classes; names = old.names; spare = now.spare } in
     let here : IsDefined table d entry = record { class_name = defined.class_name; row = defined.row; superclass = defined.superclass } in
-    subst (λ (t : Table). Prepares old.classes d t (Ok (record { number = number; entry = entry }))) (same_table old now classes names)
+    subst (λ (t : Table). Places old.classes d t (Ok (record { number = number; entry = entry }))) (same_table old now classes names)
     (prepared_here d table room valid within accepted entry here number found)

@@ -1,8 +1,10 @@
--- Whether a definition is accepted, and what it makes of the classes.
+-- Whether a change is accepted, and what it makes of the classes.
 use Rattle.std.specs.Prelude.{◌≡◌, ℕ, List, [], ◌∷◌, ◌++◌, Bool, not, Option, Some, None, Result, Ok, Err, length, find, nat_le, option_map, unwrap_or, if◌then◌else◌, map as list_map}
 use Rattle.std.specs.FinMap as map
 use Rattle.s80_grammar.specs.Word.{has_name}
 use Rattle.s80_kernel.specs.Rows.{is_kernel_class}
+use Rattle.s80_change.specs.declared.change.Change.{Change}
+use Rattle.s80_change.specs.declared.change.Change.TheVariants.{Define, DoIt}
 use Rattle.s80_change.specs.declared.definition.Definition.{Definition}
 use Rattle.s80_change.specs.declared.refusal.Refusal.{Refusal}
 use Rattle.s80_change.specs.declared.refusal.Refusal.TheVariants.{UnknownClass, KernelClass, Cycle, Duplicate, BadName, TooMany}
@@ -82,3 +84,8 @@ accepted (Some refusal) classes = Err refusal
 
 abbrev pub accept_definition : Definition → Classes → Result Classes Refusal
 accept_definition d classes = accepted (refusal_of d classes) (define d classes)
+
+-- a doIt changes no class, and is never refused
+abbrev pub accept : Change → Classes → Result Classes Refusal
+accept (Define d) classes = accept_definition d classes
+accept (DoIt text) classes = Ok classes

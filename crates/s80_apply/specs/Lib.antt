@@ -1,6 +1,7 @@
 pub mod Kernel
 pub mod Boot
 pub mod Accept
+pub mod List
 pub mod Limits
 pub mod Named
 pub mod System

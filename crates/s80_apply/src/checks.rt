@@ -152,21 +152,26 @@ fn first_again(alloc: Global, names: &Names) -> Result<Option<&Text>, OutOfMemor
 }
 
 /// The limits: the classes, and what a class may have.
-pub(crate) fn too_many(classes: &ClassTable, definition: &Definition) -> Option<Refusal>
+pub(crate) fn too_many(
+    alloc: Global,
+    classes: &ClassTable,
+    definition: &Definition,
+) -> Result<Option<Refusal>, OutOfMemory>
     requires within { IsWithin classes.now.classes }
     requires superclass { map.contains_key classes.now.classes definition.now.superclass ≡ true }
     requires acyclic { is_under classes.now.classes definition.now.superclass definition.now.class_name ≡ false }
     requires small { length definition.now.inst_vars < 2 ^ 63 }
-    ensures { result ≡ too_many definition.now classes.now.classes }
+    ensures { IfOk result (λ r. r ≡ too_many definition.now classes.now.classes) }
 {
     let count = count_with(classes, &definition.class_name);
-    let extent = extent_with(classes, definition);
-    above(65_536, ManyKind::Classes, count)
+    let extent = extent_with(alloc, classes, definition)?;
+    let refusal = above(65_536, ManyKind::Classes, count)
         .or_else(|| above(64, ManyKind::InstanceVariables, extent.inst_vars))
         .or_else(|| above(256, ManyKind::ClassVariables, definition.class_vars.count()))
         .or_else(|| above(64, ManyKind::ClassSideVariables, extent.class_side_vars))
         .or_else(|| above(256, ManyKind::Pools, definition.pools.count()))
-        .or_else(|| above(0, ManyKind::BitsVariables, extent.bits_variables))
+        .or_else(|| above(0, ManyKind::BitsVariables, extent.bits_variables));
+    Ok(refusal)
 }
 
 fn above(limit: usize, kind: ManyKind, count: usize) -> Option<Refusal>
@@ -191,20 +196,24 @@ fn count_with(classes: &ClassTable, class_name: &Text) -> usize
 }
 
 /// The greatest numbers of variables among the class as it is defined and its descendants.
-fn extent_with(classes: &ClassTable, definition: &Definition) -> Greatest
+fn extent_with(
+    alloc: Global,
+    classes: &ClassTable,
+    definition: &Definition,
+) -> Result<Greatest, OutOfMemory>
     requires within { IsWithin classes.now.classes }
     requires superclass { map.contains_key classes.now.classes definition.now.superclass ≡ true }
     requires acyclic { is_under classes.now.classes definition.now.superclass definition.now.class_name ≡ false }
     requires small { length definition.now.inst_vars < 2 ^ 63 }
-    ensures { IsGreatest (extent_of (define definition.now classes.now.classes) definition.now.class_name) result }
+    ensures { IfOk result (λ r. IsGreatest (extent_of (define definition.now classes.now.classes) definition.now.class_name) r) }
 {
     let inherited = totals_of(classes, &definition.superclass);
     match class_named(classes, &definition.class_name) {
         Some((number, old)) => {
             let side = old.class_side_vars.count();
-            classes.greatest_with(number, totals_on(inherited, definition, side))
+            classes.greatest_with(alloc, number, totals_on(inherited, definition, side))
         }
-        None => alone(totals_on(inherited, definition, 0)),
+        None => Ok(alone(totals_on(inherited, definition, 0))),
     }
 }
 

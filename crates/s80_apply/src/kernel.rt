@@ -1,12 +1,11 @@
 // The classes before any change.
 ghost use Rattle.std.specs.Prelude.{◌≡◌, IfOk};
-ghost use Rattle.s80_chunk.specs.Chunks.{is_separator};
-ghost use Rattle.s80_change.specs.Definition.{split_names};
 ghost use Rattle.s80_apply.specs.Kernel.{kernel_classes, kind_of};
 ghost use Rattle.s80_apply.specs.Boot.{IsKernelEntry, IsFoundAbove};
 
 use crate::system::System;
 use s80_base::{Names, OutOfMemory, Text};
+use s80_change::split_names;
 use s80_class::{ClassEntry, ClassTable, Kind};
 use s80_kernel::{KernelClass, class_rows};
 use std::alloc::Global;
@@ -69,23 +68,4 @@ fn kind_of(number: u8) -> Kind
         2 => Kind::Bytes,
         _ => Kind::Words,
     }
-}
-
-/// The names in a string: it is split at separators.
-pub(crate) fn split_names(alloc: Global, string: &[u8]) -> Result<Names, OutOfMemory>
-    ensures { IfOk result (λ names. names ≡ split_names string.now) }
-{
-    let mut names = Names::empty(alloc);
-    for piece in string.split(|byte| is_separator(*byte)) {
-        if !piece.is_empty() {
-            names.push(Text::from_bytes(alloc, piece)?)?;
-        }
-    }
-    Ok(names)
-}
-
-fn is_separator(byte: u8) -> bool
-    ensures { result ≡ is_separator byte }
-{
-    matches!(byte, b' ' | b'\t' | b'\n' | b'\x0c' | b'\r')
 }

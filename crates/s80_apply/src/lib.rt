@@ -8,8 +8,10 @@ mod laws;
 mod system;
 
 pub use kernel::boot;
-pub use laws::{accepted_classes_are_named, kernel_classes_are_named};
-pub use system::{Step, System};
+pub use laws::{
+    accepted_classes_are_named, accepted_definitions_are_lawful, kernel_classes_are_named,
+};
+pub use system::{Placed, Step, System};
 
 #[cfg(test)]
 mod tests;

@@ -1,14 +1,12 @@
 // The classes at work.
 ghost use Rattle.std.specs.Prelude.{◌≡◌, IfOk};
-ghost use Rattle.s80_class.specs.Classes.{IsValid};
 ghost use Rattle.s80_apply.specs.Accept.{refusal_of};
-ghost use Rattle.s80_apply.specs.Limits.{IsWithin};
-ghost use Rattle.s80_apply.specs.System.{IsReady, Prepares, installed, named};
+ghost use Rattle.s80_apply.specs.System.{CanPut, IsReady, Places, Prepares, installed, put};
 
 use crate::checks::{bad_name, cycle, duplicate, kernel_class, too_many, unknown_class};
 use crate::entry::defined_entry;
 use s80_base::OutOfMemory;
-use s80_change::{Definition, Refusal, Refused};
+use s80_change::{Change, Definition, Refusal, Refused};
 use s80_class::{ClassEntry, ClassTable};
 use std::alloc::Global;
 use std::marker::Model;
@@ -33,24 +31,49 @@ impl Model for System {
     ghost invariant = { λ s. IsWithin s.classes.classes };
 }
 
-/// What is needed to install a change. Installing takes no memory.
+/// An entry that is to be put among the classes.
 #[derive(Debug, Drop)]
-pub struct Step {
+pub struct Placed {
     /// The class whose entry it replaces; a new class where there is none.
     number: Option<u32>,
     entry: ClassEntry,
 }
 
+/// What is needed to install a change. Installing takes no memory.
+#[derive(Debug, Drop)]
+pub struct Step {
+    /// The entry that it puts, if it puts one.
+    placed: Option<Placed>,
+}
+
 impl System {
+    /// The classes as they are now. Their numbers stay through each change.
     pub fn classes(&self) -> &ClassTable
         ensures { result.now ≡ self.now }
     {
         &self.classes
     }
 
-    /// Prepares a definition to be installed, or says why it is refused. The classes stay.
-    pub fn prepare(&mut self, alloc: Global, definition: &Definition) -> Result<Step, Refused>
-        ensures answer { Prepares self.old.classes definition.now self.new result }
+    /// Prepares a change to be installed, or says why it is refused. The classes stay.
+    pub fn prepare(&mut self, alloc: Global, change: &Change) -> Result<Step, Refused>
+        ensures answer { Prepares self.old.classes change.now self.new result }
+        ensures classes { self.new.classes ≡ self.old.classes }
+        ensures names { self.new.names ≡ self.old.names }
+    {
+        match change {
+            Change::Define(definition) => {
+                let placed = self.place(alloc, definition)?;
+                Ok(Step {
+                    placed: Some(placed),
+                })
+            }
+            Change::DoIt { .. } => Ok(Step { placed: None }),
+        }
+    }
+
+    /// The entry that a definition puts, or why it is refused.
+    fn place(&mut self, alloc: Global, definition: &Definition) -> Result<Placed, Refused>
+        ensures answer { Places self.old.classes definition.now self.new result }
         ensures classes { self.new.classes ≡ self.old.classes }
         ensures names { self.new.names ≡ self.old.names }
     {
@@ -60,7 +83,7 @@ impl System {
         let number = self.classes.find(&definition.class_name);
         let entry = defined_entry(alloc, &self.classes, definition)?;
         self.classes.reserve(1)?;
-        Ok(Step { number, entry })
+        Ok(Placed { number, entry })
     }
 
     /// Why a definition is refused, if it is.
@@ -86,23 +109,30 @@ impl System {
         if let Some(refusal) = duplicate(alloc, definition)? {
             return Ok(Some(refusal));
         }
-        Ok(too_many(&self.classes, definition))
+        too_many(alloc, &self.classes, definition)
     }
 
     /// Installs a step that was prepared for these classes. Takes no memory.
     pub fn install(&mut self, step: Step)
         requires { IsReady self.old step }
-        ensures classes { self.new.classes ≡ installed self.old step }
-        ensures names { self.new.names ≡ named self.old.names step.number step.entry.class_name }
-        ensures valid { IsValid self.new.classes }
-        ensures within { IsWithin self.new.classes }
+        ensures { self.new ≡ installed self.old step }
     {
-        match step.number {
+        if let Some(placed) = step.placed {
+            self.put(placed);
+        }
+    }
+
+    /// Puts an entry among the classes.
+    fn put(&mut self, placed: Placed)
+        requires { CanPut self.old placed }
+        ensures { self.new ≡ put self.old placed }
+    {
+        match placed.number {
             Some(number) => {
-                self.classes.replace(number, step.entry);
+                self.classes.replace(number, placed.entry);
             }
             None => {
-                self.classes.add(step.entry);
+                self.classes.add(placed.entry);
             }
         }
     }
