@@ -1,5 +1,5 @@
 mod OneList
-mod FirstBlock
+mod Ended
 mod Files
 mod Appending
 mod Committing

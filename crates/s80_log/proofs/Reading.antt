@@ -3,12 +3,8 @@ use Rattle.std.proofs.Common.{◌≡◌, inl, inr, ℕ, zero, suc, ◌+◌, ◌-
 use Rattle.std.proofs.lemmas.Bool.{cases_lt}
 use Rattle.std.proofs.lemmas.List.{take-append-drop, drop-take}
 use Rattle.std.proofs.Math.ListN.{drop_of_length-le}
-use Rattle.std.proofs.Math.Seq.{take-append-add}
 use Rattle.s80_change.specs.declared.change.Change.{Change}
-use Rattle.s80_change.specs.declared.change.Change.TheVariants.{DoIt}
-use Rattle.s80_change.specs.Block.{block, IsLawful}
-use Rattle.s80_chunk.specs.Chunks.{mark, spell, chunk}
-use Rattle.s80_chunk.proofs.Spelling.{spelled}
+use Rattle.s80_change.specs.Block.{block}
 use Rattle.s80_log.specs.Blocks.{BeginsWith, BeginsWithNone}
 
 -- what stands from a place to the end of a front
@@ -24,6 +20,12 @@ front_from at end file =
           let P : ℕ → Type 0 = λ n. drop at (take n file) ≡ take (end - at) (drop at file) in
           subst P whole (drop-take at (end - at) file)
     ]
+
+take_all : (k : ℕ) (xs : List ℕ) → length xs ≤ k → take k xs ≡ xs
+take_all zero [] le = refl
+take_all zero (x ∷ xs) le = absurd (omega arith)
+take_all (suc k) [] le = refl
+take_all (suc k) (x ∷ xs) le = ap (λ l. x ∷ l) (take_all k xs (omega arith))
 
 take_of_take : (k n : ℕ) (xs : List ℕ) → k ≤ n → take k (take n xs) ≡ take k xs
 take_of_take zero n xs le = refl
@@ -43,35 +45,13 @@ begins_whole k piece whole change e begins = record {
   begins = sym (take-append-drop k whole) ∙ ap (λ l. l ++ drop k whole) (sym e ∙ begins.begins) ∙ append_assoc (block change) begins.after (drop k whole);
 }
 
-spelled_length : (text : List ℕ) → length (spell text) ≤ 2 * length text
-spelled_length [] = omega arith
-spelled_length (b ∷ text) =
-    let rec = spelled_length text in
-    elim (spelled b text) [
-      | inl h ↦ rw h.1 (omega arith)
-      | inr h ↦ rw h.1 (omega arith)
-    ]
+-- no block begins with a piece, whatever follows it
+pub none_after : (k : ℕ) (piece whole : List ℕ) → piece ≡ take k whole → ((more : List ℕ) → BeginsWithNone (piece ++ more)) → BeginsWithNone whole
+none_after k piece whole e none = subst BeginsWithNone (ap (λ l. l ++ drop k whole) e ∙ take-append-drop k whole) (none (drop k whole))
 
--- no block of a lawful change is longer
-block_length : (change : Change) → IsLawful change → length (block change) ≤ 131072
-block_length (DoIt text) lawful =
-    let short = lawful.2 in
-    let spelled = spelled_length text in
-    rw (length-append (chunk text) (10 ∷ []), length-append (spell text) (mark ∷ [])) (omega arith)
-
--- where the piece has all that a block may need, none begins with it where none begins with the piece
-pub none_whole : (k n : ℕ) (piece whole : List ℕ) → piece ≡ take k whole → k ≡ min n 131072 → length whole ≤ n → BeginsWithNone piece → BeginsWithNone whole
-none_whole k n piece whole e enough long none change begins =
-    let size = length (block change) in
-    let short = block_length change begins.lawful in
-    let all = length-append (block change) begins.after in
-    let fits = ap length begins.begins in
-    let within : size + (k - size) ≡ k = omega arith in
-    none change record {
-      lawful = begins.lawful;
-      after = take (k - size) begins.after;
-      begins = e ∙ ap (take k) begins.begins ∙ ap (λ m. take m (block change ++ begins.after)) (sym within) ∙ take-append-add (block change) begins.after (k - size);
-    }
+-- the piece is all there is
+pub none_whole : (k : ℕ) (piece whole : List ℕ) → piece ≡ take k whole → length whole ≤ k → BeginsWithNone piece → BeginsWithNone whole
+none_whole k piece whole e all none = subst BeginsWithNone (e ∙ take_all k whole all) none
 
 -- what the log holds from a place on isn't longer than the rest of it
 pub held_length : (at end : ℕ) (file : List ℕ) → length (drop at (take end file)) ≤ end - at

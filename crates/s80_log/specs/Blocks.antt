@@ -1,7 +1,9 @@
 -- Bytes that begin with a block.
-use Rattle.std.specs.Prelude.{◌≡◌, List, ℕ, ◌++◌}
+use Rattle.std.specs.Prelude.{◌≡◌, List, ℕ, ◌++◌, length}
 use Rattle.s80_change.specs.declared.change.Change.{Change}
-use Rattle.s80_change.specs.Block.{block, IsLawful}
+use Rattle.s80_change.specs.Block.{block, text_of, IsLawful, HasNoChange}
+use Rattle.s80_log.specs.declared.block.FirstBlock.{FirstBlock}
+use Rattle.s80_log.specs.declared.block.FirstBlock.TheVariants.{Found, Absent, Unended}
 
 -- the bytes begin with the block of this lawful change
 pub record BeginsWith (bytes : List ℕ) (change : Change) : Type 0 where
@@ -12,3 +14,15 @@ pub record BeginsWith (bytes : List ℕ) (change : Change) : Type 0 where
 -- the bytes begin with no block of a lawful change
 abbrev pub BeginsWithNone : List ℕ → Type 0
 BeginsWithNone bytes = (change : Change) → BeginsWith bytes change → ⊥
+
+-- what the bytes begin with: a block; or none, whatever follows; or none that is whole in them
+abbrev pub IsFirstBlock : List ℕ → FirstBlock → Type 0
+IsFirstBlock bytes (Found change count) = BeginsWith bytes change × (count ≡ length (block change))
+IsFirstBlock bytes Absent = (more : List ℕ) → BeginsWithNone (bytes ++ more)
+IsFirstBlock bytes Unended = BeginsWithNone bytes
+
+-- whether a change has the text of a block of so many bytes
+abbrev pub IsEndedBlock : List ℕ → ℕ → FirstBlock → Type 0
+IsEndedBlock text count (Found change found) = IsLawful change × (text_of change ≡ text) × (found ≡ count)
+IsEndedBlock text count Absent = HasNoChange text
+IsEndedBlock text count Unended = ⊥

@@ -1,51 +1,54 @@
 // The block that bytes begin with.
-ghost use Rattle.std.specs.Prelude.{◌≡◌, ◌++◌, ◌↔◌, List, ℕ, length, IsTrue, IfOk, MatchOption};
-ghost use Rattle.s80_chunk.specs.Chunks.{IsPlainText};
-ghost use Rattle.s80_change.specs.Block.{block};
-ghost use Rattle.s80_log.specs.Blocks.{BeginsWith, BeginsWithNone};
+ghost use Rattle.std.specs.Prelude.{◌≡◌, IfOk};
+ghost use Rattle.s80_log.specs.Blocks.{IsEndedBlock, IsFirstBlock};
 
 use s80_base::{OutOfMemory, Text};
-use s80_change::Change;
+use s80_change::{Change, read_change};
 use std::alloc::Global;
 
-/// The greatest length of a doIt's text.
-const LONGEST_TEXT: usize = 65_535;
-
-/// Whether a text is that of a doIt: it isn't too long, and begins with no separator and no mark.
-fn is_plain_text(text: &[u8]) -> bool
-    ensures { IsTrue result ↔ IsPlainText text.now }
-{
-    match text.first() {
-        None | Some(b' ' | b'\t' | b'\n' | b'\x0c' | b'\r' | b'!') => false,
-        Some(_) => text.len() <= LONGEST_TEXT,
-    }
+/// What bytes begin with.
+#[derive(Debug, Drop)]
+pub enum FirstBlock {
+    /// The block of this change, which is so long.
+    Found(Change, usize),
+    /// No block, whatever follows.
+    Absent,
+    /// Bytes that may be the front of a block: they end before it does.
+    Unended,
 }
 
-/// The change whose block the bytes begin with, and how long its block is.
-pub fn first_block(alloc: Global, bytes: &[u8]) -> Result<Option<(Change, usize)>, OutOfMemory>
-    ensures { IfOk result (λ first. MatchOption first (BeginsWithNone bytes.now)
-        (λ found. BeginsWith bytes.now found.0 × (found.1 ≡ length (block found.0)))) }
+/// The block that the bytes begin with.
+pub fn first_block(alloc: Global, bytes: &[u8]) -> Result<FirstBlock, OutOfMemory>
+    ensures { IfOk result (IsFirstBlock bytes.now) }
 {
     let mut text = Text::empty(alloc);
     let mut rest = bytes;
     'bytes: loop {
         match rest {
-            [] => return Ok(None),
+            [] => return Ok(FirstBlock::Unended),
+            [b'!'] => return Ok(FirstBlock::Unended),
             [b'!', b'!', after @ ..] => {
                 text.append(b"!")?;
                 rest = after;
             }
             [b'!', b'\n', after @ ..] => {
-                if !is_plain_text(text.bytes()) {
-                    return Ok(None);
-                }
-                return Ok(Some((Change::DoIt { text }, bytes.len() - after.len())));
+                return ended_block(alloc, text, bytes.len() - after.len());
             }
-            [b'!', ..] => return Ok(None),
+            [b'!', ..] => return Ok(FirstBlock::Absent),
             [byte, after @ ..] => {
                 text.append(&[*byte])?;
                 rest = after;
             }
         }
+    }
+}
+
+/// The block of so many bytes that keeps this text, if a change has it.
+fn ended_block(alloc: Global, text: Text, length: usize) -> Result<FirstBlock, OutOfMemory>
+    ensures { IfOk result (IsEndedBlock text length) }
+{
+    match read_change(alloc, text)? {
+        Some(change) => Ok(FirstBlock::Found(change, length)),
+        None => Ok(FirstBlock::Absent),
     }
 }

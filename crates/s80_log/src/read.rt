@@ -10,7 +10,7 @@ ghost use Rattle.s80_log.specs.Log.{held_in};
 ghost use Rattle.s80_log.specs.Blocks.{BeginsWith, BeginsWithNone};
 ghost use Rattle.s80_log.specs.Faults.{IfBlockDisk, IfBad};
 
-use crate::block::first_block;
+use crate::block::{FirstBlock, first_block};
 use crate::log::Log;
 use s80_base::{Failed, OutOfMemory};
 use s80_change::Change;
@@ -63,12 +63,9 @@ impl From<AllocError> for BlockFault {
 /// How many bytes are read at first. Most blocks are shorter.
 const FIRST_PIECE: usize = 512;
 
-/// The greatest length of a block.
-const LONGEST_BLOCK: u64 = 131_072;
-
 impl Log {
     /// The change whose block begins at a place of the log, and the place behind it.
-    /// Reads no more of a long log than a block may need.
+    /// Reads no more of a long log than twice the block, but for a piece of 512 bytes at first.
     pub fn read_block<D: Disk>(
         &self,
         alloc: Global,
@@ -94,17 +91,20 @@ impl Log {
             (λ fault. IfBlockDisk fault (λ failed. Rose (D.disk_faults disk.old) (D.disk_faults disk.new))) }
         ensures named { IfErr result (λ fault. IfBlockDisk fault (λ failed. failed.call ≡ Read)) }
     {
-        let within = self.length().saturating_sub(at).min(LONGEST_BLOCK) as usize;
+        let within = self.length().saturating_sub(at) as usize;
         let mut size = FIRST_PIECE;
         'pieces: loop {
             let bytes = read_piece(alloc, disk, self.file(), at, size.min(within))?;
-            if let Some((change, count)) = first_block(alloc, &bytes)? {
-                return Ok((change, at + count as u64));
+            match first_block(alloc, &bytes)? {
+                FirstBlock::Found(change, count) => return Ok((change, at + count as u64)),
+                FirstBlock::Absent => return Err(BlockFault::Bad(at)),
+                FirstBlock::Unended => {
+                    if size >= within {
+                        return Err(BlockFault::Bad(at));
+                    }
+                    size = size.saturating_mul(2);
+                }
             }
-            if size >= within {
-                return Err(BlockFault::Bad(at));
-            }
-            size *= 2;
         }
     }
 }

@@ -1,7 +1,7 @@
 // A commit that is stopped at each of its calls, a full log, and blocks that are read, with ample memory.
-use crate::{BlockFault, Log, LogFault, first_block};
+use crate::{BlockFault, FirstBlock, Log, LogFault, first_block};
 use s80_base::{Call, Failed, Text};
-use s80_change::Change;
+use s80_change::{Change, definition_text};
 use s80_disk::{Disk, FaultPlan, FileId, MemDisk};
 use s80_mark::{Found, MarkState, NO_IMAGE, init_mark, read_mark};
 use std::alloc::Global;
@@ -125,7 +125,7 @@ fn a_log_is_full_at_its_limit(rt: HostRuntime) -> Result<(), Fail> {
     Ok(())
 }
 
-/// The text of the doIt that a log with these bytes has at a place, and the place behind it.
+/// The text of the change that a log with these bytes has at a place, and the place behind it.
 fn read_at(
     alloc: Global,
     bytes: &[u8],
@@ -137,11 +137,28 @@ fn read_at(
     let log = Log::resume(0, length);
     match log.read_block(alloc, &mut disk, at) {
         Ok((change, next)) => {
-            let Change::DoIt { text } = change;
+            let text = match change {
+                Change::DoIt { text } => text,
+                Change::Define(definition) => definition_text(alloc, &definition)?,
+            };
             Ok(Ok((text, next)))
         }
         Err(fault) => Ok(Err(fault)),
     }
+}
+
+#[test]
+fn a_definition_is_read(rt: HostRuntime) -> Result<(), Fail> {
+    let text =
+        b"Object subclass: #A\n\tinstanceVariableNames: 'a b'\n\tclassVariableNames: ''\n\tpoolDictionaries: ''\n\tcategory: 'c'".as_slice();
+    let mut bytes = text.to_vec(rt.alloc())?;
+    bytes.extend_from_slice(b"!\n")?;
+    let length = bytes.len() as u64;
+    match read_at(rt.alloc(), &bytes, length, 0)? {
+        Ok((found, next)) => assert_eq!(rt; (found.bytes(), next), (text, length)),
+        Err(_) => assert!(rt; false),
+    }
+    Ok(())
 }
 
 #[test]
@@ -180,7 +197,8 @@ fn no_block_begins_with_these_bytes(rt: HostRuntime) -> Result<(), Fail> {
     for (bytes, length) in rows {
         let answer = read_at(rt.alloc(), bytes, length, 0)?;
         assert!(rt; matches!(answer, Err(BlockFault::Bad(0))), "{length}");
-        assert!(rt; first_block(rt.alloc(), &bytes[..length as usize])?.is_none());
+        let first = first_block(rt.alloc(), &bytes[..length as usize])?;
+        assert!(rt; !matches!(first, FirstBlock::Found(..)));
     }
     Ok(())
 }
