@@ -1,19 +1,15 @@
 -- How many changes a list has, by the length of its log.
-use Rattle.std.proofs.Common.{◌≡◌, ℕ, ◌+◌, ◌-◌, ◌^◌, ◌<◌, ◌≤◌, min, List, [], ◌∷◌, ◌++◌, length, arith, length-append}
+use Rattle.std.proofs.Common.{◌≡◌, ℕ, ◌+◌, ◌-◌, ◌^◌, ◌≤◌, min, List, [], ◌∷◌, ◌++◌, length, arith, length-append}
 use Rattle.s80_change.specs.declared.change.Change.{Change}
-use Rattle.s80_change.specs.declared.change.Change.TheVariants.{DoIt}
 use Rattle.s80_change.specs.Block.{block, blocks, IsList}
-
--- a block isn't empty
-some_bytes : (change : Change) → 0 < length (block change)
-some_bytes (DoIt text) = simp length-append (omega arith)
+use Rattle.s80_keeper.proofs.OneList.{block_length}
 
 -- a list has no more changes than its log has bytes
 pub no_more : (changes : List Change) → length changes ≤ length (blocks changes)
 no_more [] = omega arith
 no_more (change ∷ changes) =
     let more = no_more changes in
-    let some = some_bytes change in
+    let some = block_length change in
     rw (length-append (block change) (blocks changes)) (omega arith)
 
 -- so one more is counted

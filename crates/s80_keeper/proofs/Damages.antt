@@ -1,11 +1,9 @@
 -- Files have one damage at most, and then stand for no list.
-use Rattle.std.proofs.Common.{◌≡◌, inl, inr, ⊎_elim, ℕ, ◌+◌, ◌<◌, ◌≤◌, List, [], ◌∷◌, ◌++◌, length, take, Some, None, Err, refl, sym, ap, ◌∙◌, subst, arith, append_assoc, append-nil, length-append, length-take}
-use Rattle.std.proofs.lemmas.Bool.Decides.{leb_tells}
+use Rattle.std.proofs.Common.{◌≡◌, inl, inr, ⊎_elim, ℕ, ◌<◌, ◌≤◌, List, [], ◌∷◌, ◌++◌, length, take, Some, None, Result, Err, refl, sym, ap, ◌∙◌, subst, arith, append_assoc, append-nil, length-append, length-take}
 use Rattle.std.proofs.lemmas.List.Elements.{All-push}
 use Rattle.s80_change.specs.declared.change.Change.{Change}
 use Rattle.s80_change.specs.declared.refusal.Refusal.{Refusal}
-use Rattle.s80_change.specs.declared.refusal.Refusal.TheVariants.{LogFull}
-use Rattle.s80_change.specs.Block.{block, blocks, log_limit, IsLawful}
+use Rattle.s80_change.specs.Block.{block, blocks, IsLawful}
 use Rattle.s80_change.specs.Refusal.{refusal_number}
 use Rattle.s80_disk.specs.declared.disk.FileId.TheVariants.{Mark}
 use Rattle.s80_disk.specs.Image.{Image}
@@ -14,14 +12,14 @@ use Rattle.s80_mark.specs.Mark.{valid_mark}
 use Rattle.s80_mark.specs.declared.read.MarkFault.TheVariants.{BadField}
 use Rattle.s80_mark.specs.Found.{HasLawfulNumbers, IsFirstUnlawful, IsAnswer, longer_log}
 use Rattle.s80_log.specs.Log.{log_file}
-use Rattle.s80_log.specs.Standing.{FilesStandFor as StandByMark, marked_part}
+use Rattle.s80_log.specs.Standing.{FilesStandFor as StandByMark}
 use Rattle.s80_keeper.specs.declared.start.Damage.{Damage}
 use Rattle.s80_keeper.specs.declared.start.Damage.TheVariants.{NoMark, BadMark, LogShort, BadBlock, Replay}
-use Rattle.s80_keeper.specs.List.{add}
+use Rattle.s80_apply.specs.List.{IsBuilt, add}
 use Rattle.s80_keeper.specs.Standing.{NamesNoImage, FilesStandFor}
 use Rattle.s80_keeper.specs.Start.{HasMark, ReadsTo, IsDamage, log_length}
-use Rattle.s80_keeper.proofs.Readings.{stops_last, passes_last}
-use Rattle.s80_keeper.proofs.OneList.{one_mark, blocks_more, some_log}
+use Rattle.s80_keeper.proofs.Readings.{stops_last, refuses_last, one_refused}
+use Rattle.s80_keeper.proofs.OneList.{one_mark, one_part, block_length, blocks_more, some_log}
 
 -- the mark is valid, or there is none
 some_mark : (files : Image) (mark : MarkState) → valid_mark (files Mark) ≡ Some mark → valid_mark (files Mark) ≡ None → ⊥
@@ -36,14 +34,6 @@ one_value mark one other (inl a) (inl b) = a.1 ∙ sym b.1
 one_value mark one other (inl a) (inr b) = absurd (omega (arith, a.0, b.0))
 one_value mark one other (inr a) (inl b) = absurd (omega (arith, a.0, b.0))
 one_value mark one other (inr a) (inr b) = a.3 ∙ sym b.3
-
--- a list has no room for a change that add refuses, and is full then
-pub refused : (changes : List Change) (change : Change) (refusal : Refusal) → add changes change ≡ Err refusal → (log_limit < length (blocks changes) + length (block change)) × (refusal ≡ LogFull (length (blocks changes)))
-refused changes change refusal e =
-    elim (leb_tells (length (blocks changes) + length (block change)) log_limit) [
-      | inl h ↦ absurd (let k = rw h.0 at e in cc)
-      | inr h ↦ (h.1, let k = rw h.0 at e in cc)
-    ]
 
 -- the valid mark is lawful, or it isn't
 unlawful_once : (files : Image) (value : ℕ) (mark : MarkState) → IsAnswer files (Err (BadField value)) → valid_mark (files Mark) ≡ Some mark → HasLawfulNumbers mark → ⊥
@@ -81,29 +71,30 @@ some_of files (BadBlock place) is = is.3.has_mark.some
 some_of files (Replay place number) is = is.5.has_mark.some
 
 -- files that stand for a list by a mark have no damage
-stands_whole : (files : Image) (damage : Damage) (mark : MarkState) (changes : List Change) → IsDamage files damage → StandByMark files mark changes → NamesNoImage mark → ⊥
-stands_whole files (NoMark count) mark changes is stands no_image = some_mark files mark stands.valid is.1
-stands_whole files (BadMark value) mark changes is stands no_image = no_bad_mark files value mark is stands.valid stands.numbers no_image
-stands_whole files (LogShort marked found) mark changes is stands no_image =
+stands_whole : (files : Image) (damage : Damage) (mark : MarkState) (changes : List Change) → IsDamage files damage → StandByMark files mark changes → NamesNoImage mark → IsBuilt changes → ⊥
+stands_whole files (NoMark count) mark changes is stands no_image built = some_mark files mark stands.valid is.1
+stands_whole files (BadMark value) mark changes is stands no_image built = no_bad_mark files value mark is stands.valid stands.numbers no_image
+stands_whole files (LogShort marked found) mark changes is stands no_image built =
     no_short_log files marked found mark is stands.valid (has_all mark.log_length (files (log_file mark.log)) (blocks changes) stands.bytes stands.whole)
-stands_whole files (BadBlock place) mark changes is stands no_image =
-    let e : blocks is.1 ++ is.2 ≡ blocks changes = sym is.3.bytes ∙ ap (λ m. marked_part m files) (one_mark files is.0 mark is.3.has_mark.valid stands.valid) ∙ stands.bytes in
-    let last = stops_last is.1 is.2 changes [] (e ∙ sym (append-nil (blocks changes))) stands.list.lawful is.6 in
+stands_whole files (BadBlock place) mark changes is stands no_image built =
+    let e : blocks is.1 ++ is.2 ≡ blocks changes = sym is.3.bytes ∙ one_part files is.0 mark is.3.has_mark.valid stands.valid ∙ stands.bytes in
+    let last = stops_last is.1 is.2 changes [] (e ∙ sym (append-nil (blocks changes))) is.3.list.lawful stands.list.lawful is.6 in
     let n = simp length-append at (ap length e) in
     is.5 (nothing is.2 (omega arith))
-stands_whole files (Replay place number) mark changes is stands no_image =
-    let e : blocks is.1 ++ (block is.2 ++ is.3) ≡ blocks changes = sym is.5.bytes ∙ ap (λ m. marked_part m files) (one_mark files is.0 mark is.5.has_mark.valid stands.valid) ∙ stands.bytes in
-    let n = simp length-append at (ap length e) in
-    let over = (refused is.1 is.2 is.4 is.8).0 in
-    omega (arith, over, n, stands.list.within)
+stands_whole files (Replay place number) mark changes is stands no_image built =
+    let e : blocks is.1 ++ (block is.2 ++ is.3) ≡ blocks changes = sym is.5.bytes ∙ one_part files is.0 mark is.5.has_mark.valid stands.valid ∙ stands.bytes in
+    let n = sym (length-append (blocks is.1) (block is.2 ++ is.3)) ∙ ap length e in
+    let m = length-append (block is.2) is.3 in
+    let last = refuses_last is.1 is.2 is.3 changes [] is.4 is.7 stands.list built is.8 (e ∙ sym (append-nil (blocks changes))) is.5.list.lawful in
+    omega (arith, last, n, m, block_length is.2)
 
 pub no_list : (files : Image) (damage : Damage) (changes : List Change) → IsDamage files damage → FilesStandFor files changes → ⊥
 no_list files damage changes is (inl stands) = some_log files stands.0 (some_of files damage is)
-no_list files damage changes is (inr stands) = stands_whole files damage stands.0 changes is stands.1 stands.2
+no_list files damage changes is (inr stands) = stands_whole files damage stands.0 changes is stands.1 stands.2 stands.3
 
 -- two readings by the valid mark are of the same bytes
 same_bytes : (files : Image) (mark other : MarkState) (xs : List Change) (r : List ℕ) (ys : List Change) (s : List ℕ) → ReadsTo files mark xs r → ReadsTo files other ys s → blocks xs ++ r ≡ blocks ys ++ s
-same_bytes files mark other xs r ys s one two = sym one.bytes ∙ ap (λ m. marked_part m files) (one_mark files mark other one.has_mark.valid two.has_mark.valid) ∙ two.bytes
+same_bytes files mark other xs r ys s one two = sym one.bytes ∙ one_part files mark other one.has_mark.valid two.has_mark.valid ∙ two.bytes
 
 -- no block begins at a place, or one does that is refused
 not_both : (files : Image) (place again number : ℕ) → IsDamage files (BadBlock place) → IsDamage files (Replay again number) → ⊥
@@ -113,27 +104,30 @@ not_both files place again number bad replay =
     let e = same_bytes files bad.0 replay.0 bad.1 bad.2 ys (block y ++ replay.3) bad.3 replay.5 in
     let more = blocks_more ys y in
     let e2 : blocks bad.1 ++ bad.2 ≡ blocks (ys ++ y ∷ []) ++ replay.3 = e ∙ sym (append_assoc (blocks ys) (block y) replay.3) ∙ ap (λ l. l ++ replay.3) (sym more) in
-    let last = stops_last bad.1 bad.2 (ys ++ y ∷ []) replay.3 e2 (All-push IsLawful ys y replay.5.list.lawful replay.7) bad.6 in
+    let last = stops_last bad.1 bad.2 (ys ++ y ∷ []) replay.3 e2 bad.3.list.lawful (All-push IsLawful ys y replay.5.list.lawful replay.7) bad.6 in
     let n = ap length more ∙ length-append (blocks ys) (block y) in
-    let over = (refused ys y replay.4 replay.8).0 in
-    omega (arith, last, n, over, bad.3.list.within)
+    let least = refuses_last ys y replay.3 bad.1 bad.2 replay.4 replay.7 bad.3.list bad.3.built replay.8 (sym e) replay.5.list.lawful in
+    omega (arith, last, least, n, block_length y)
 
 one_bad_block : (files : Image) (place again : ℕ) → IsDamage files (BadBlock place) → IsDamage files (BadBlock again) → place ≡ again
 one_bad_block files place again one two =
     let e = same_bytes files one.0 two.0 one.1 one.2 two.1 two.2 one.3 two.3 in
-    let less = stops_last one.1 one.2 two.1 two.2 e two.3.list.lawful one.6 in
-    let more = stops_last two.1 two.2 one.1 one.2 (sym e) one.3.list.lawful two.6 in
+    let less = stops_last one.1 one.2 two.1 two.2 e one.3.list.lawful two.3.list.lawful one.6 in
+    let more = stops_last two.1 two.2 one.1 one.2 (sym e) two.3.list.lawful one.3.list.lawful two.6 in
     omega (arith, less, more, one.4, two.4)
+
+same_refusal : (answer : Result (List Change) Refusal) (one other : Refusal) → answer ≡ Err one → answer ≡ Err other → one ≡ other
+same_refusal answer one other e k = let both = sym e ∙ k in cc
 
 one_replay : (files : Image) (place number again other : ℕ) → IsDamage files (Replay place number) → IsDamage files (Replay again other) → (place ≡ again) × (number ≡ other)
 one_replay files place number again other one two =
     let e = same_bytes files one.0 two.0 one.1 (block one.2 ++ one.3) two.1 (block two.2 ++ two.3) one.5 two.5 in
-    let first = refused one.1 one.2 one.4 one.8 in
-    let second = refused two.1 two.2 two.4 two.8 in
-    let less = passes_last one.1 one.2 one.3 two.1 (block two.2 ++ two.3) e (omega (arith, first.0, two.5.list.within)) in
-    let more = passes_last two.1 two.2 two.3 one.1 (block one.2 ++ one.3) (sym e) (omega (arith, second.0, one.5.list.within)) in (
-      omega (arith, less, more, one.6, two.6),
-      one.9 ∙ ap refusal_number first.1 ∙ sym (ap refusal_number second.1) ∙ sym two.9,
+    let same = one_refused one.1 one.2 one.3 two.1 two.2 two.3 one.4 two.4 one.5.list two.5.list one.5.built two.5.built one.7 two.7 one.8 two.8 e in
+    let list = same.0 in
+    let change = same.1 in
+    let refusals = same_refusal (add one.1 one.2) one.4 two.4 one.8 ((λ i. add (list i) (change i)) ∙ two.8) in (
+      one.6 ∙ ap (λ l. length (blocks l)) list ∙ sym two.6,
+      one.9 ∙ ap refusal_number refusals ∙ sym two.9,
     )
 
 one_bad_mark : (files : Image) (one other : ℕ) → IsDamage files (BadMark one) → IsDamage files (BadMark other) → one ≡ other

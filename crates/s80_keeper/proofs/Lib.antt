@@ -1,9 +1,10 @@
 mod Counting
+mod Accepted
 mod Keeping
 mod Readings
 pub mod OneList
 pub mod Damages
-mod Counted
+mod Replayed
 mod Resumed
+pub mod Standing
 mod Starts
-mod Standing

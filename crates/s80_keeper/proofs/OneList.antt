@@ -2,8 +2,9 @@
 use Rattle.std.proofs.Common.{◌≡◌, inl, inr, ℕ, zero, suc, ◌<◌, Bool, true, false, List, [], ◌∷◌, ◌++◌, length, take, Some, refl, sym, ap, ◌∙◌, arith, append-nil, length-append, if◌then◌else◌}
 use Rattle.std.proofs.lemmas.Grind.{flat_map-append}
 use Rattle.s80_change.specs.declared.change.Change.{Change}
-use Rattle.s80_change.specs.declared.change.Change.TheVariants.{DoIt}
-use Rattle.s80_change.specs.Block.{block, blocks}
+use Rattle.s80_change.specs.Block.{block, blocks, IsLawful}
+use Rattle.std.specs.List.{All}
+use Rattle.std.proofs.lemmas.List.Elements.{All-head, All-tail}
 use Rattle.s80_change.proofs.BlockLaws.{block_unique}
 use Rattle.s80_disk.specs.declared.disk.FileId.TheVariants.{Mark, Log0, Log1}
 use Rattle.s80_disk.specs.Image.{Image}
@@ -16,28 +17,26 @@ use Rattle.s80_keeper.specs.Standing.{FilesStandFor}
 
 -- a block isn't empty
 some_block : (change : Change) (after : List ℕ) → [] ≡ block change ++ after → ⊥
-some_block (DoIt text) after e =
+some_block change after e =
     let n = simp length-append at (ap length e) in
     absurd (omega arith)
 
 pub block_length : (change : Change) → 0 < length (block change)
-block_length (DoIt text) = simp length-append (omega arith)
+block_length change = simp length-append (omega arith)
 
-one_list : (changes other : List Change) → blocks changes ≡ blocks other → changes ≡ other
-one_list [] [] e = refl
-one_list [] (d ∷ ds) e = absurd (some_block d (blocks ds) e)
-one_list (c ∷ cs) [] e = absurd (some_block c (blocks cs) (sym e))
-one_list (c ∷ cs) (d ∷ ds) e =
-    let both = block_unique c d (blocks cs) (blocks ds) e in
+one_list : (changes other : List Change) → All IsLawful changes → All IsLawful other → blocks changes ≡ blocks other → changes ≡ other
+one_list [] [] one two e = refl
+one_list [] (d ∷ ds) one two e = absurd (some_block d (blocks ds) e)
+one_list (c ∷ cs) [] one two e = absurd (some_block c (blocks cs) (sym e))
+one_list (c ∷ cs) (d ∷ ds) one two e =
+    let both = block_unique c d (blocks cs) (blocks ds) (All-head IsLawful c cs one) (All-head IsLawful d ds two) e in
     let first = both.0 in
-    let others = one_list cs ds both.1 in
+    let others = one_list cs ds (All-tail IsLawful c cs one) (All-tail IsLawful d ds two) both.1 in
     cc
 
 pub no_blocks : (changes : List Change) → blocks changes ≡ [] → changes ≡ []
-no_blocks changes e = one_list changes [] e
-
-pub same_mark : (mark other : MarkState) → Some mark ≡ Some other → mark ≡ other
-same_mark mark other e = cc
+no_blocks [] e = refl
+no_blocks (c ∷ cs) e = absurd (some_block c (blocks cs) (sym e))
 
 take_of_none : (n : ℕ) (xs : List ℕ) → xs ≡ [] → take n xs ≡ []
 take_of_none zero xs e = refl
@@ -55,16 +54,20 @@ empty_part files mark empty = take_of_none mark.log_length (files (log_file mark
 pub empty_list : (files : Image) (mark : MarkState) (changes : List Change) → AreLogsEmpty files → StandByMark files mark changes → changes ≡ []
 empty_list files mark changes empty stands = no_blocks changes (sym stands.bytes ∙ empty_part files mark empty)
 
+-- files have one valid mark at most
 pub one_mark : (files : Image) (mark other : MarkState) → valid_mark (files Mark) ≡ Some mark → valid_mark (files Mark) ≡ Some other → mark ≡ other
-one_mark files mark other one two = same_mark mark other (sym one ∙ two)
+one_mark files mark other one two = let both : Some mark ≡ Some other = sym one ∙ two in cc
+
+-- and so one part of a log that counts
+pub one_part : (files : Image) (mark other : MarkState) → valid_mark (files Mark) ≡ Some mark → valid_mark (files Mark) ≡ Some other → marked_part mark files ≡ marked_part other files
+one_part files mark other one two = ap (λ m. marked_part m files) (one_mark files mark other one two)
 
 pub one_standing : (files : Image) (changes other : List Change) → FilesStandFor files changes → FilesStandFor files other → changes ≡ other
 one_standing files changes other (inl one) (inl two) = one.1 ∙ sym two.1
 one_standing files changes other (inl one) (inr two) = one.1 ∙ sym (empty_list files two.0 other one.0 two.1)
 one_standing files changes other (inr one) (inl two) = empty_list files one.0 changes two.0 one.1 ∙ sym two.1
 one_standing files changes other (inr one) (inr two) =
-    let same = one_mark files one.0 two.0 one.1.valid two.1.valid in
-    one_list changes other (sym one.1.bytes ∙ ap (λ m. marked_part m files) same ∙ two.1.bytes)
+    one_list changes other one.1.list.lawful two.1.list.lawful (sym one.1.bytes ∙ one_part files one.0 two.0 one.1.valid two.1.valid ∙ two.1.bytes)
 
 -- one change more
 pub blocks_more : (changes : List Change) (change : Change) → blocks (changes ++ change ∷ []) ≡ blocks changes ++ block change

@@ -1,12 +1,16 @@
 -- Bytes that are read in two ways: as the blocks of a list and a rest.
-use Rattle.std.proofs.Common.{◌≡◌, ◌⊎◌, inl, inr, ⊎_elim, ℕ, ◌+◌, ◌<◌, ◌≤◌, List, [], ◌∷◌, ◌++◌, length, refl, sym, ap, ◌∙◌, subst, arith, append_assoc, length-append}
+use Rattle.std.proofs.Common.{◌≡◌, ◌⊎◌, inl, inr, ⊎_elim, ℕ, ◌+◌, ◌≤◌, List, [], ◌∷◌, ◌++◌, length, Err, refl, sym, ap, ◌∙◌, subst, arith, append_assoc, append-nil, length-append}
 use Rattle.std.specs.List.{All}
 use Rattle.std.proofs.lemmas.Grind.{flat_map-append}
 use Rattle.std.proofs.lemmas.List.Elements.{All-head, All-tail}
 use Rattle.s80_change.specs.declared.change.Change.{Change}
-use Rattle.s80_change.specs.Block.{block, blocks, IsLawful}
+use Rattle.s80_change.specs.declared.refusal.Refusal.{Refusal}
+use Rattle.s80_change.specs.Block.{block, blocks, IsLawful, IsList}
 use Rattle.s80_change.proofs.BlockLaws.{block_unique}
+use Rattle.s80_apply.specs.Kernel.{kernel_classes}
+use Rattle.s80_apply.specs.List.{IsBuilt, add}
 use Rattle.s80_log.specs.Blocks.{BeginsWithNone}
+use Rattle.s80_keeper.proofs.Accepted.{accepted_here, no_refusal}
 
 -- the one reading goes further than the other, by more changes
 record GoesFurther (list : List Change) (rest : List ℕ) (longer : List Change) (after : List ℕ) : Type 0 where
@@ -20,12 +24,12 @@ one_more x y xs r ys s same further =
     record { more = further.more; list_is = cc; rest_is = further.rest_is }
 
 -- of two readings one goes further, or both are the same
-compared : (xs : List Change) (r : List ℕ) (ys : List Change) (s : List ℕ) → blocks xs ++ r ≡ blocks ys ++ s → GoesFurther xs r ys s ⊎ GoesFurther ys s xs r
-compared [] r ys s e = inl record { more = ys; list_is = refl; rest_is = e }
-compared (x ∷ xs) r [] s e = inr record { more = x ∷ xs; list_is = refl; rest_is = sym e }
-compared (x ∷ xs) r (y ∷ ys) s e =
-    let both = block_unique x y (blocks xs ++ r) (blocks ys ++ s) (sym (append_assoc (block x) (blocks xs) r) ∙ e ∙ append_assoc (block y) (blocks ys) s) in
-    ⊎_elim (λ h. inl (one_more x y xs r ys s both.0 h)) (λ h. inr (one_more y x ys s xs r (sym both.0) h)) (compared xs r ys s both.1)
+compared : (xs : List Change) (r : List ℕ) (ys : List Change) (s : List ℕ) → All IsLawful xs → All IsLawful ys → blocks xs ++ r ≡ blocks ys ++ s → GoesFurther xs r ys s ⊎ GoesFurther ys s xs r
+compared [] r ys s one two e = inl record { more = ys; list_is = refl; rest_is = e }
+compared (x ∷ xs) r [] s one two e = inr record { more = x ∷ xs; list_is = refl; rest_is = sym e }
+compared (x ∷ xs) r (y ∷ ys) s one two e =
+    let both = block_unique x y (blocks xs ++ r) (blocks ys ++ s) (All-head IsLawful x xs one) (All-head IsLawful y ys two) (sym (append_assoc (block x) (blocks xs) r) ∙ e ∙ append_assoc (block y) (blocks ys) s) in
+    ⊎_elim (λ h. inl (one_more x y xs r ys s both.0 h)) (λ h. inr (one_more y x ys s xs r (sym both.0) h)) (compared xs r ys s (All-tail IsLawful x xs one) (All-tail IsLawful y ys two) both.1)
 
 -- how long the blocks of two lists are
 pub blocks_length : (xs more all : List Change) → all ≡ xs ++ more → length (blocks all) ≡ length (blocks xs) + length (blocks more)
@@ -45,23 +49,39 @@ no_further xs r ys s lawful none further = by_more further.more further.list_is 
         let P : List Change → Type 0 = All IsLawful in
         absurd (none z record { lawful = lawful_after xs z zs (subst P list lawful); after = blocks zs ++ s; begins = rest ∙ append_assoc (block z) (blocks zs) s })
 
-pub stops_last : (xs : List Change) (r : List ℕ) (ys : List Change) (s : List ℕ) → blocks xs ++ r ≡ blocks ys ++ s → All IsLawful ys → BeginsWithNone r → length (blocks ys) ≤ length (blocks xs)
-stops_last xs r ys s e lawful none =
-    ⊎_elim (no_further xs r ys s lawful none) (λ h. let n = blocks_length ys h.more xs h.list_is in omega arith) (compared xs r ys s e)
+pub stops_last : (xs : List Change) (r : List ℕ) (ys : List Change) (s : List ℕ) → blocks xs ++ r ≡ blocks ys ++ s → All IsLawful xs → All IsLawful ys → BeginsWithNone r → length (blocks ys) ≤ length (blocks xs)
+stops_last xs r ys s e own lawful none =
+    ⊎_elim (no_further xs r ys s lawful none) (λ h. let n = blocks_length ys h.more xs h.list_is in omega arith) (compared xs r ys s own lawful e)
 
--- no shorter reading goes past a block that makes one longer
-not_past : (xs : List Change) (x : Change) (r : List ℕ) (ys : List Change) (s : List ℕ) → length (blocks ys) < length (blocks xs) + length (block x) → GoesFurther xs (block x ++ r) ys s → length (blocks ys) ≤ length (blocks xs)
-not_past xs x r ys s short further = by_more further.more further.list_is further.rest_is
-  where
-    by_more : (more : List Change) → ys ≡ xs ++ more → block x ++ r ≡ blocks more ++ s → length (blocks ys) ≤ length (blocks xs)
-    by_more [] list rest = let n = blocks_length xs [] ys list in omega arith
-    by_more (z ∷ zs) list rest =
-        let same = (block_unique x z r (blocks zs ++ s) (rest ∙ append_assoc (block z) (blocks zs) s)).0 in
-        let n = blocks_length xs (z ∷ zs) ys list in
-        let m : length (block x) ≡ length (block z) = ap (λ c. length (block c)) same in
-        let k = length-append (block z) (blocks zs) in
-        absurd (omega arith)
+-- no list goes on behind another with a change that this refuses
+goes_on : (xs : List Change) (z : Change) (zs ys : List Change) (refusal : Refusal) → ys ≡ xs ++ z ∷ zs → IsList ys → IsBuilt ys → add xs z ≡ Err refusal → ⊥
+goes_on xs z zs ys refusal is list built e =
+    let accepted = accepted_here kernel_classes xs z zs (subst IsBuilt is built) in
+    let n = blocks_length xs (z ∷ zs) ys is in
+    let k = length-append (block z) (blocks zs) in
+    no_refusal xs z refusal accepted (omega (arith, n, k, list.within)) e
 
-pub passes_last : (xs : List Change) (x : Change) (r : List ℕ) (ys : List Change) (s : List ℕ) → blocks xs ++ (block x ++ r) ≡ blocks ys ++ s → length (blocks ys) < length (blocks xs) + length (block x) → length (blocks ys) ≤ length (blocks xs)
-passes_last xs x r ys s e short =
-    ⊎_elim (not_past xs x r ys s short) (λ h. let n = blocks_length ys h.more xs h.list_is in omega arith) (compared xs (block x ++ r) ys s e)
+-- so no reading goes past a block whose change is refused
+module _ (xs : List Change) (x : Change) (r : List ℕ) (ys : List Change) (s : List ℕ) (refusal : Refusal) (one : IsLawful x) (list : IsList ys) (built : IsBuilt ys) (refused : add xs x ≡ Err refusal) where
+  stops_there : GoesFurther xs (block x ++ r) ys s → (ys ≡ xs) × (block x ++ r ≡ s)
+  stops_there further = by_more further.more further.list_is further.rest_is
+    where
+      by_more : (more : List Change) → ys ≡ xs ++ more → block x ++ r ≡ blocks more ++ s → (ys ≡ xs) × (block x ++ r ≡ s)
+      by_more [] is rest = (is ∙ append-nil xs, rest)
+      by_more (z ∷ zs) is rest =
+          let P : List Change → Type 0 = All IsLawful in
+          let same = (block_unique x z r (blocks zs ++ s) one (lawful_after xs z zs (subst P is list.lawful)) (rest ∙ append_assoc (block z) (blocks zs) s)).0 in
+          absurd (goes_on xs z zs ys refusal is list built (ap (add xs) (sym same) ∙ refused))
+
+  pub refuses_last : blocks xs ++ (block x ++ r) ≡ blocks ys ++ s → All IsLawful xs → length (blocks ys) ≤ length (blocks xs)
+  refuses_last e own =
+      ⊎_elim (λ h. let n = ap (λ l. length (blocks l)) (stops_there h).0 in omega arith) (λ h. let n = blocks_length ys h.more xs h.list_is in omega arith) (compared xs (block x ++ r) ys s own list.lawful e)
+
+-- two readings that end at blocks whose changes are refused end at one place, with one change
+pub one_refused : (xs : List Change) (x : Change) (r : List ℕ) (ys : List Change) (y : Change) (s : List ℕ) (refusal other : Refusal) → IsList xs → IsList ys → IsBuilt xs → IsBuilt ys → IsLawful x → IsLawful y → add xs x ≡ Err refusal → add ys y ≡ Err other → blocks xs ++ (block x ++ r) ≡ blocks ys ++ (block y ++ s) → (xs ≡ ys) × (x ≡ y)
+one_refused xs x r ys y s refusal other list also built also_built one two refused also_refused e =
+    ⊎_elim (λ h.
+    let same = stops_there xs x r ys (block y ++ s) refusal one also also_built refused h in
+    (sym same.0, (block_unique x y r s one two same.1).0)) (λ h.
+    let same = stops_there ys y s xs (block x ++ r) other two list built also_refused h in
+    (same.0, (block_unique x y r s one two (sym same.1)).0)) (compared xs (block x ++ r) ys (block y ++ s) list.lawful also.lawful e)

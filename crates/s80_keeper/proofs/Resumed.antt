@@ -10,6 +10,8 @@ use Rattle.s80_mark.specs.declared.read.Found.TheVariants.{Fresh, Mark as Marked
 use Rattle.s80_mark.specs.declared.read.MarkFault.{MarkFault}
 use Rattle.s80_mark.specs.declared.read.MarkFault.TheVariants as mark_faults
 use Rattle.s80_mark.specs.Found.{IsAnswer}
+use Rattle.s80_class.specs.Table.{Table}
+use Rattle.s80_apply.specs.List.{IsBuilt, classes_of}
 use Rattle.s80_log.specs.Log.{LogEnd}
 use Rattle.s80_log.specs.Standing.{marked_part, StandsFor as StandsByMark}
 use Rattle.s80_keeper.specs.declared.start.Damage.TheVariants.{NoMark, BadMark, LogShort, BadBlock, Replay}
@@ -18,10 +20,10 @@ use Rattle.s80_keeper.specs.declared.start.StartFault.TheVariants as faults
 use Rattle.s80_keeper.specs.Keeper.{KeeperState, Keeps}
 use Rattle.s80_keeper.specs.Standing.{NamesNoImage, ReadsFor}
 use Rattle.s80_keeper.specs.Start.{HasMark, IsStart, Started, log_length, fault_of_mark}
-use Rattle.s80_keeper.specs.Reading.{IsFound, AreCounted}
+use Rattle.s80_keeper.specs.Reading.{IsFound, AreReplayed}
 use Rattle.s80_keeper.proofs.OneList.{one_mark, one_standing, some_log}
 use Rattle.s80_keeper.proofs.Damages.{no_list}
-use Rattle.s80_keeper.proofs.Counted.{held_length}
+use Rattle.s80_keeper.proofs.Replayed.{held_length}
 
 -- why no mark is found
 pub found_fault : (files : Image) (fault : MarkFault) → IsAnswer files (Err fault) → IsFound files (Err (fault_of_mark fault))
@@ -37,9 +39,9 @@ module _ (files : Image) (mark : MarkState) (has : HasMark files mark) (no_image
   abbrev log_of : LogEnd
   log_of = record { number = mark.log; end = mark.log_length }
 
-  -- all blocks are counted
-  pub counted_start : (count : ℕ) (keeper : KeeperState) → keeper.count ≡ count → AreCounted (marked_part mark files) (Ok count) → IsStart files (Ok keeper)
-  counted_start count keeper same is = (
+  -- all changes are accepted
+  pub replayed_start : (found : Table × ℕ) (keeper : KeeperState) → keeper.system ≡ found.0 → keeper.count ≡ found.1 → AreReplayed (marked_part mark files) (Ok found) → IsStart files (Ok keeper)
+  replayed_start found keeper same_system same is = (
     is.0,
     inr (
       mark,
@@ -47,24 +49,26 @@ module _ (files : Image) (mark : MarkState) (has : HasMark files mark) (no_image
         valid = has.valid;
         numbers = has.numbers;
         list = is.1;
-        whole = sym (held_length files log_of long) ∙ ap length is.2;
-        bytes = is.2;
+        whole = sym (held_length files log_of long) ∙ ap length is.3;
+        bytes = is.3;
       },
       no_image,
+      is.2,
     ),
-    same ∙ is.3,
+    ap (λ (t : Table). t.classes) same_system ∙ is.4,
+    same ∙ is.5,
   )
 
   -- or one is bad
-  pub bad_start : (fault : StartFault) → AreCounted (marked_part mark files) (Err fault) → IsStart files (Err fault)
+  pub bad_start : (fault : StartFault) → AreReplayed (marked_part mark files) (Err fault) → IsStart files (Err fault)
   bad_start faults.Memory is = tt
   bad_start (faults.Disk failed) is = tt
   bad_start (faults.Damaged (NoMark count)) is = absurd is
   bad_start (faults.Damaged (BadMark value)) is = absurd is
   bad_start (faults.Damaged (LogShort marked found)) is = absurd is
   bad_start (faults.Damaged (BadBlock place)) is =
-      let some : is.1 ≢ [] = λ e. is.5 (is.4 ∙ ap length (sym (is.3 ∙ ap (λ l. blocks is.0 ++ l) e ∙ append-nil (blocks is.0)))) in
-      (mark, is.0, is.1, record { has_mark = has; no_image = no_image; long = long; list = is.2; bytes = is.3 }, is.4, some, is.6)
+      let some : is.1 ≢ [] = λ e. is.6 (is.5 ∙ ap length (sym (is.4 ∙ ap (λ l. blocks is.0 ++ l) e ∙ append-nil (blocks is.0)))) in
+      (mark, is.0, is.1, record { has_mark = has; no_image = no_image; long = long; list = is.2; built = is.3; bytes = is.4 }, is.5, some, is.7)
   bad_start (faults.Damaged (Replay place number)) is = (
     mark,
     is.0,
@@ -76,12 +80,13 @@ module _ (files : Image) (mark : MarkState) (has : HasMark files mark) (no_image
       no_image = no_image;
       long = long;
       list = is.4;
-      bytes = is.5 ∙ append_assoc (blocks is.0) (block is.1) is.2;
+      built = is.5;
+      bytes = is.6 ∙ append_assoc (blocks is.0) (block is.1) is.2;
     },
-    is.6,
     is.7,
     is.8,
     is.9,
+    is.10,
   )
 
 -- no damage is found in files that a disk reads for a list
@@ -89,38 +94,43 @@ pub found_started : (tells told : Bool) (reads now_reads : Image) (before now : 
 found_started tells told reads now_reads before now changes faults.Memory stands is = absurd is
 found_started tells told reads now_reads before now changes (faults.Disk failed) stands is = tt
 found_started tells told reads now_reads before now changes (faults.Damaged damage) stands is =
-    no_list reads damage changes is (⊎_elim (λ none. inl none) (λ by_mark. inr (by_mark.0, by_mark.1, by_mark.2)) stands.stands)
+    no_list reads damage changes is (⊎_elim (λ none. inl none) (λ by_mark. inr (by_mark.0, by_mark.1, by_mark.2, by_mark.3)) stands.stands)
 
 -- where the disk reads for a list, by the mark that is found
 module _ (tells : Bool) (reads : Image) (before now : Image → Type 0) (mark : MarkState) (changes : List Change) (has : HasMark reads mark) (stands : ReadsFor tells reads before changes) (still : (c : Image) → now c → before c) (durable : Only Mark (reads Mark) now) where
   abbrev Standing : MarkState → Type 0
-  Standing m = StandsByMark tells reads now m changes × NamesNoImage m
+  Standing m = StandsByMark tells reads now m changes × NamesNoImage m × IsBuilt changes
 
   pub stands_by : Standing mark
   stands_by =
       ⊎_elim (λ empty. absurd (some_log reads empty.0 has.some))
       (λ by_mark.
       subst Standing (one_mark reads by_mark.0 mark by_mark.1.valid has.valid) (
-        record { told = stands.told; files = by_mark.1; mark_stays = durable; log_stays = λ c left. by_mark.3 c (still c left) },
+        record { told = stands.told; files = by_mark.1; mark_stays = durable; log_stays = λ c left. by_mark.4 c (still c left) },
         by_mark.2,
+        by_mark.3,
       )) stands.stands
 
   pub started_mark : (result : Result KeeperState StartFault) → IsStart reads result → IfOk result (λ keeper. keeper ≡ record {
     log = record { number = mark.log; end = mark.log_length };
     mark = mark;
+    system = keeper.system;
     count = keeper.count;
     fault = None;
   }) → Started result tells reads now changes
-  started_mark (Err faults.Memory) is keeper_is = record { told = stands.told; stands = inr (mark, stands_by.0, stands_by.1) }
+  started_mark (Err faults.Memory) is keeper_is = record { told = stands.told; stands = inr (mark, stands_by.0, stands_by.1, stands_by.2) }
   started_mark (Err (faults.Disk failed)) is keeper_is = tt
-  started_mark (Err (faults.Damaged damage)) is keeper_is = no_list reads damage changes is (inr (mark, stands_by.0.files, stands_by.1))
+  started_mark (Err (faults.Damaged damage)) is keeper_is = no_list reads damage changes is (inr (mark, stands_by.0.files, stands_by.1, stands_by.2))
   started_mark (Ok keeper) is keeper_is =
       let P : KeeperState → Type 0 = λ k. Keeps tells reads now k changes in
+      let same = one_standing reads is.0 changes is.1 (inr (mark, stands_by.0.files, stands_by.1, stands_by.2)) in
       subst P (sym keeper_is) record {
         stands = stands_by.0;
         no_image = stands_by.1;
         named = refl;
         end = refl;
-        count = is.2 ∙ ap length (one_standing reads is.0 changes is.1 (inr (mark, stands_by.0.files, stands_by.1)));
+        built = stands_by.2;
+        classes = is.2 ∙ ap classes_of same;
+        count = is.3 ∙ ap length same;
         faultless = refl;
       }

@@ -4,22 +4,28 @@ use Rattle.s80_base.specs.declared.outside.Failed.{Failed}
 use Rattle.s80_change.specs.declared.change.Change.{Change}
 use Rattle.s80_disk.specs.Image.{Image}
 use Rattle.s80_mark.specs.declared.mark.MarkState.{MarkState}
+use Rattle.s80_class.specs.Table.{Table}
+use Rattle.s80_apply.specs.List.{IsBuilt, classes_of}
 use Rattle.s80_log.specs.Log.{LogEnd}
 use Rattle.s80_log.specs.Standing.{StandsFor as StandsByMark}
 use Rattle.s80_keeper.specs.Standing.{NamesNoImage}
 
--- the log at work, the valid mark, how many changes are kept, and the first fault of the disk
+-- the log at work, the valid mark, the classes, how many changes are kept, and the first fault of the disk
 pub record KeeperState : Type 0 where
   pub log : LogEnd
   pub mark : MarkState
+  pub system : Table
   pub count : ℕ
   pub fault : Option Failed
 
--- The disk stands for the list by the keeper's mark, which takes the keeper's log to its end. The keeper counts the changes, and has met no fault.
+-- The disk stands for the list by the keeper's mark, which takes the keeper's log to its end. The keeper has the
+-- classes that the list makes, counts its changes, and has met no fault.
 pub record Keeps (tells : Bool) (reads : Image) (may_leave : Image → Type 0) (keeper : KeeperState) (changes : List Change) : Type 0 where
   pub stands : StandsByMark tells reads may_leave keeper.mark changes
   pub no_image : NamesNoImage keeper.mark
   pub named : keeper.mark.log ≡ keeper.log.number
   pub end : keeper.mark.log_length ≡ keeper.log.end
+  pub built : IsBuilt changes
+  pub classes : keeper.system.classes ≡ classes_of changes
   pub count : keeper.count ≡ length changes
   pub faultless : keeper.fault ≡ None

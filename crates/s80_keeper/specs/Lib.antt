@@ -1,6 +1,6 @@
-pub mod List
 pub mod Standing
 pub mod Keeper
 pub mod Start
 pub mod Reading
+pub mod Untouched
 pub mod Answers

@@ -5,27 +5,29 @@ use Rattle.s80_disk.specs.Image.{Image}
 use Rattle.s80_mark.specs.declared.mark.MarkState.{MarkState}
 use Rattle.s80_mark.specs.Found.{AreLogsEmpty}
 use Rattle.s80_mark.specs.Init.{EmptyLogs}
+use Rattle.s80_apply.specs.List.{IsBuilt}
 use Rattle.s80_log.specs.Standing.{FilesStandFor as StandByMark, StandsFor as StandsByMark, marked_part}
 
 -- a mark that names no image
 abbrev pub NamesNoImage : MarkState → Type 0
 NamesNoImage mark = mark.image ≡ 255
 
--- Both logs are empty, and so is the list; or the valid mark names no image, and the part of the log that it takes is the blocks of the list.
+-- Both logs are empty, and so is the list; or the valid mark names no image, and the part of the log that it takes is the blocks of the list,
+-- each of whose changes is accepted by those before it.
 abbrev pub FilesStandFor : Image → List Change → Type 0
-FilesStandFor files changes = (AreLogsEmpty files × (changes ≡ [])) ⊎ ((mark : MarkState) × StandByMark files mark changes × NamesNoImage mark)
+FilesStandFor files changes = (AreLogsEmpty files × (changes ≡ [])) ⊎ ((mark : MarkState) × StandByMark files mark changes × NamesNoImage mark × IsBuilt changes)
 
 -- What the disk reads stands for the list, and every crash now leaves both logs empty, or leaves the mark file and the marked part of the
 -- log as they read.
 pub record StandsFor (tells : Bool) (reads : Image) (may_leave : Image → Type 0) (changes : List Change) : Type 0 where
   pub told : IsTrue tells
-  pub stands : (AreLogsEmpty reads × EmptyLogs may_leave × (changes ≡ [])) ⊎ ((mark : MarkState) × StandsByMark tells reads may_leave mark changes × NamesNoImage mark)
+  pub stands : (AreLogsEmpty reads × EmptyLogs may_leave × (changes ≡ [])) ⊎ ((mark : MarkState) × StandsByMark tells reads may_leave mark changes × NamesNoImage mark × IsBuilt changes)
 
 -- What the disk reads stands for the list, and every crash now leaves the marked part of the log as it reads. The mark need not be on the
 -- disk yet: a run that was killed as it committed leaves such a disk.
 pub record ReadsFor (tells : Bool) (reads : Image) (may_leave : Image → Type 0) (changes : List Change) : Type 0 where
   pub told : IsTrue tells
-  pub stands : (AreLogsEmpty reads × (changes ≡ [])) ⊎ ((mark : MarkState) × StandByMark reads mark changes × NamesNoImage mark × ((c : Image) → may_leave c → marked_part mark c ≡ marked_part mark reads))
+  pub stands : (AreLogsEmpty reads × (changes ≡ [])) ⊎ ((mark : MarkState) × StandByMark reads mark changes × NamesNoImage mark × IsBuilt changes × ((c : Image) → may_leave c → marked_part mark c ≡ marked_part mark reads))
 
 -- this much is told, and the files stand for this list
 pub record LeavesFor (told_before : ℕ) (changes : List Change) (told : ℕ) (c : Image) : Type 0 where

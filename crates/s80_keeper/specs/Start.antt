@@ -12,6 +12,7 @@ use Rattle.s80_mark.specs.declared.read.MarkFault.{MarkFault}
 use Rattle.s80_mark.specs.declared.read.MarkFault.TheVariants as mark_faults
 use Rattle.s80_mark.specs.Mark.{valid_mark}
 use Rattle.s80_mark.specs.Found.{AreLogsEmpty, HasLawfulNumbers, IsAnswer, longer_log}
+use Rattle.s80_apply.specs.List.{IsBuilt, classes_of, add}
 use Rattle.s80_log.specs.Log.{log_file}
 use Rattle.s80_log.specs.Standing.{marked_part}
 use Rattle.s80_log.specs.Blocks.{BeginsWithNone}
@@ -22,7 +23,6 @@ use Rattle.s80_keeper.specs.declared.start.Damage.TheVariants.{NoMark, BadMark, 
 use Rattle.s80_keeper.specs.declared.start.StartFault.{StartFault}
 use Rattle.s80_keeper.specs.declared.start.StartFault.TheVariants as faults
 use Rattle.s80_keeper.specs.Keeper.{KeeperState, Keeps}
-use Rattle.s80_keeper.specs.List.{add}
 use Rattle.s80_keeper.specs.Standing.{NamesNoImage, FilesStandFor, StandsFor}
 
 -- a log holds something, and this is the valid mark, with lawful numbers
@@ -34,12 +34,14 @@ pub record HasMark (files : Image) (mark : MarkState) : Type 0 where
 abbrev pub log_length : Image → MarkState → ℕ
 log_length files mark = length (files (log_file mark.log))
 
--- the valid mark names no image, the log is as long as it says, and its marked part is the blocks of this list and what is left behind them
+-- the valid mark names no image, the log is as long as it says, and its marked part is the blocks of this list,
+-- each of whose changes is accepted, and what is left behind them
 pub record ReadsTo (files : Image) (mark : MarkState) (changes : List Change) (rest : List ℕ) : Type 0 where
   pub has_mark : HasMark files mark
   pub no_image : NamesNoImage mark
   pub long : mark.log_length ≤ log_length files mark
   pub list : IsList changes
+  pub built : IsBuilt changes
   pub bytes : marked_part mark files ≡ blocks changes ++ rest
 
 -- the files have no valid mark, or one that is out of form or names an image; the log is shorter than the mark says; no block begins
@@ -55,7 +57,7 @@ IsDamage files (Replay place number) =
 
 -- what the files call for, where memory is found and no call on the disk fails
 abbrev pub IsStart : Image → Result KeeperState StartFault → Type 0
-IsStart files (Ok keeper) = (changes : List Change) × FilesStandFor files changes × (keeper.count ≡ length changes)
+IsStart files (Ok keeper) = (changes : List Change) × FilesStandFor files changes × (keeper.system.classes ≡ classes_of changes) × (keeper.count ≡ length changes)
 IsStart files (Err (faults.Damaged damage)) = IsDamage files damage
 IsStart files (Err faults.Memory) = ⊤
 IsStart files (Err (faults.Disk failed)) = ⊤

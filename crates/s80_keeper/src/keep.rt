@@ -7,10 +7,11 @@ ghost use Rattle.s80_change.specs.Block.{block, log_limit, IsLawful};
 ghost use Rattle.s80_disk.specs.declared.disk.FileId.{FileId};
 ghost use Rattle.s80_disk.specs.declared.disk.FileId.TheVariants.{Mark};
 ghost use Rattle.s80_disk.specs.Moments.{Beside, LeavesOnly};
+ghost use Rattle.s80_apply.specs.System.{IsReady};
 ghost use Rattle.s80_log.specs.Log.{log_file};
 ghost use Rattle.s80_keeper.specs.Keeper.{Keeps};
 ghost use Rattle.s80_keeper.specs.Standing.{LeavesEither};
-ghost use Rattle.s80_keeper.specs.Answers.{after_keeping, Kept, IfKeepDisk};
+ghost use Rattle.s80_keeper.specs.Answers.{after_keeping, IsFor, Kept, IfKeepDisk};
 
 use crate::keeper::{Keeper, Prepared};
 use s80_base::Failed;
@@ -35,25 +36,26 @@ impl Keeper {
     /// Keeps a change: writes its block behind the log, and commits. Answers where the block begins.
     /// Takes no memory.
     pub fn keep<D: Disk>(&mut self, disk: &mut D, prepared: Prepared) -> Result<u64, KeepFault>
-        ensures after { self.new ≡ after_keeping result (length (block prepared)) self.old }
+        requires { IsReady self.old.system prepared.step }
+        ensures after { self.new ≡ after_keeping result prepared self.old }
         ensures place { IfOk result (λ at. at ≡ self.old.log.end) }
 
         // From a disk that stands for a list, a crash at any moment, inside a write too, leaves files that stand for it or for the list with
         // the change; after Ok the disk stands for that.
         ensures any_moment { (changes : List Change)
-            → Keeps (D.tells disk.old) (D.reads disk.old) (D.may_leave disk.old) self.old changes → IsLawful prepared
+            → Keeps (D.tells disk.old) (D.reads disk.old) (D.may_leave disk.old) self.old changes → IsLawful prepared.change → IsFor self.old.system prepared
             → LeavesOnly D.moment D.left_since disk.old disk.new
-            (LeavesEither (D.beside disk.old).told changes (changes ++ prepared ∷ [])) }
+            (LeavesEither (D.beside disk.old).told changes (changes ++ prepared.change ∷ [])) }
         ensures kept { (changes : List Change)
-            → Keeps (D.tells disk.old) (D.reads disk.old) (D.may_leave disk.old) self.old changes → IsLawful prepared
-            → Kept result (D.tells disk.new) (D.reads disk.new) (D.may_leave disk.new) self.new changes prepared }
+            → Keeps (D.tells disk.old) (D.reads disk.old) (D.may_leave disk.old) self.old changes → IsLawful prepared.change → IsFor self.old.system prepared
+            → Kept result (D.tells disk.new) (D.reads disk.new) (D.may_leave disk.new) self.new changes prepared.change }
 
         // After a fault of the disk each call answers it, and none is made.
         ensures closed { (failed : Failed) → (result ≡ Err (KeepFault.Closed failed)) ↔ (self.old.fault ≡ Some failed) }
         ensures uncalled { self.old.fault ≢ None → disk.new ≡ disk.old }
         ensures full { (n : ℕ) → (result ≡ Err (KeepFault.Full n))
-            ↔ ((self.old.fault ≡ None) × (n ≡ self.old.log.end) × (log_limit < self.old.log.end + length (block prepared))) }
-        ensures unfit { log_limit < self.old.log.end + length (block prepared) → disk.new ≡ disk.old }
+            ↔ ((self.old.fault ≡ None) × (n ≡ self.old.log.end) × (log_limit < self.old.log.end + length (block prepared.change))) }
+        ensures unfit { log_limit < self.old.log.end + length (block prepared.change) → disk.new ≡ disk.old }
 
         ensures others { (other : FileId) → other ≢ Mark → other ≢ log_file self.old.log.number
             → D.reads disk.new other ≡ D.reads disk.old other }
@@ -71,6 +73,7 @@ impl Keeper {
             .append_and_commit(disk, &mut self.mark, &prepared.block)
         {
             Ok(at) => {
+                self.system.install(prepared.step);
                 self.count = self.count.saturating_add(1);
                 Ok(at)
             }

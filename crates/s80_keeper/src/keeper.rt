@@ -2,6 +2,7 @@
 ghost use Rattle.std.specs.Prelude.{◌≡◌};
 ghost use Rattle.s80_keeper.specs.Answers.{Prepares};
 
+use s80_apply::{Step, System};
 use s80_base::{Failed, Text};
 use s80_change::{Change, Refusal, Refused, block_text};
 use s80_log::Log;
@@ -14,17 +15,22 @@ use std::marker::Model;
 pub struct Keeper {
     pub(crate) log: Log,
     pub(crate) mark: MarkState,
+    pub(crate) system: System,
     pub(crate) count: u64,
     /// The first fault of the disk. After it no call is made.
     pub(crate) fault: Option<Failed>,
 }
 
 impl Model for Keeper {
+    ghost use Rattle.std.specs.Coded.{codes};
+    ghost use Rattle.s80_class.specs.Kept.{table_code};
     ghost use Rattle.s80_keeper.specs.Keeper.{KeeperState};
 
     ghost Value = { KeeperState };
 
-    ghost view = { λ k. record { log = k.log; mark = k.mark; count = k.count; fault = k.fault } };
+    ghost coded = { Prim.hlevel (codes, table_code) };
+
+    ghost view = { λ k. record { log = k.log; mark = k.mark; system = k.system; count = k.count; fault = k.fault } };
 }
 
 /// A change with all that is needed to keep it. Keeping it takes no memory.
@@ -32,16 +38,17 @@ impl Model for Keeper {
 pub struct Prepared {
     change: Change,
     pub(crate) block: Text,
+    pub(crate) step: Step,
 }
 
 impl Model for Prepared {
     ghost use Rattle.std.specs.Prelude.{◌≡◌};
-    ghost use Rattle.s80_change.specs.declared.change.Change.{Change};
     ghost use Rattle.s80_change.specs.Block.{block as block_of};
+    ghost use Rattle.s80_keeper.specs.Answers.{PreparedChange};
 
-    ghost Value = { Change };
+    ghost Value = { PreparedChange };
 
-    ghost view = { λ p. p.change };
+    ghost view = { λ p. record { change = p.change; step = p.step } };
 
     ghost invariant = { λ p. p.block ≡ block_of p.change };
 }
@@ -49,14 +56,28 @@ impl Model for Prepared {
 impl Keeper {
     /// Prepares a change to be kept, or says why the list refuses it. The list stays.
     pub fn prepare(&mut self, alloc: Global, change: Change) -> Result<Prepared, Refused>
-        ensures answer { Prepares self.old.log.end change result }
-        ensures same { self.new ≡ self.old }
+        ensures answer { Prepares self.old.system.classes self.old.log.end change self.new.system result }
+        ensures same { self.new ≡ record self.old { system = self.new.system } }
+        ensures classes { self.new.system.classes ≡ self.old.system.classes }
+        ensures names { self.new.system.names ≡ self.old.system.names }
     {
+        let step = self.system.prepare(alloc, &change)?;
         let block = block_text(alloc, &change)?;
         if !self.log.has_room(block.bytes().len() as u64) {
             return Err(Refused::Refusal(Refusal::LogFull(self.log.length())));
         }
-        Ok(Prepared { change, block })
+        Ok(Prepared {
+            change,
+            block,
+            step,
+        })
+    }
+
+    /// The classes that the changes make.
+    pub fn system(&self) -> &System
+        ensures { result.now ≡ self.now.system }
+    {
+        &self.system
     }
 
     /// How many changes are kept.

@@ -26,8 +26,8 @@ pub fn files_have_one_damage()
 {}
 
 /// What a disk that stands for a list reads stands for it, and the marked part of its log is on the disk.
-pub fn a_disk_that_stands_reads_so<D: Disk>(_disk: &D)
+pub fn a_disk_that_stands_reads_so<D: Disk>(disk: &D)
     ensures { (changes : List Change)
-        → StandsFor (D.tells _disk.now) (D.reads _disk.now) (D.may_leave _disk.now) changes
-        → ReadsFor (D.tells _disk.now) (D.reads _disk.now) (D.may_leave _disk.now) changes }
+        → StandsFor (D.tells disk.now) (D.reads disk.now) (D.may_leave disk.now) changes
+        → ReadsFor (D.tells disk.now) (D.reads disk.now) (D.may_leave disk.now) changes }
 {}

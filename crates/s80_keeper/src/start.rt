@@ -3,20 +3,23 @@ ghost use Rattle.std.specs.Prelude.{◌≡◌, ◌≢◌, ◌⊎◌, ◌<◌, �
 ghost use Rattle.s80_base.specs.Causes.{Rose};
 ghost use Rattle.s80_base.specs.declared.outside.Call.TheVariants.{Length, Read, Write, Sync};
 ghost use Rattle.s80_change.specs.declared.change.Change.{Change};
+ghost use Rattle.s80_change.specs.Block.{block};
+ghost use Rattle.s80_change.specs.Refusal.{refusal_number};
 ghost use Rattle.s80_disk.specs.declared.disk.FileId.{FileId};
 ghost use Rattle.s80_disk.specs.declared.disk.FileId.TheVariants.{Mark};
 ghost use Rattle.s80_disk.specs.Image.{Only};
 ghost use Rattle.s80_disk.specs.Moments.{Beside, LeavesOnly};
 ghost use Rattle.s80_mark.specs.Found.{IsLawfulFound, longer_log};
-ghost use Rattle.s80_mark.specs.Stays.{StillLeft};
 ghost use Rattle.s80_log.specs.Log.{log_file, held_in};
 ghost use Rattle.s80_keeper.specs.Standing.{NamesNoImage, ReadsFor, StandsFor, LeavesFor};
 ghost use Rattle.s80_keeper.specs.Start.{HasMark, IsStart, Started, StartLeaves, IfStartDisk};
-ghost use Rattle.s80_keeper.specs.Reading.{IsFound, IsLengthChecked, AreCounted};
+ghost use Rattle.s80_keeper.specs.Reading.{IsFound, IsLengthChecked, AreReplayed, Accepts};
+ghost use Rattle.s80_keeper.specs.Untouched.{IsUntouched};
 
 use crate::keeper::Keeper;
-use s80_base::Failed;
-use s80_change::Refusal;
+use s80_apply::{System, boot};
+use s80_base::{Failed, OutOfMemory};
+use s80_change::{Change, Refusal, Refused};
 use s80_disk::{Disk, FileId};
 use s80_log::{BlockFault, LOG_LIMIT, Log};
 use s80_mark::{Found, MarkFault, MarkState, NO_IMAGE, init_mark, read_mark};
@@ -78,6 +81,16 @@ impl From<MarkFault> for StartFault {
     }
 }
 
+impl From<OutOfMemory> for StartFault {
+    ghost use Rattle.s80_keeper.specs.declared.start.StartFault.TheVariants.{Memory};
+
+    ghost from_gives = { λ _ fault. fault ≡ Memory };
+
+    fn from(_: OutOfMemory) -> Self {
+        StartFault::Memory
+    }
+}
+
 impl From<BlockFault> for StartFault {
     ghost use Rattle.s80_keeper.specs.Start.{fault_of_block};
 
@@ -119,18 +132,22 @@ impl Keeper {
             (failed.call ≡ Length) ⊎ (failed.call ≡ Read) ⊎ (failed.call ≡ Write) ⊎ (failed.call ≡ Sync)) }
     {
         match find_mark(disk)? {
-            Found::Fresh => Ok(Keeper::at(Log::resume(0, 0), init_mark(disk)?, 0)),
+            Found::Fresh => {
+                let mark = init_mark(disk)?;
+                Ok(Keeper::at(Log::resume(0, 0), mark, boot(alloc)?, 0))
+            }
             Found::Mark(mark) => Keeper::resume(alloc, disk, mark),
         }
     }
 
-    /// A keeper of so many changes in this log, with this mark.
-    fn at(log: Log, mark: MarkState, count: u64) -> Keeper
-        ensures { result ≡ record { log = log; mark = mark; count = count; fault = None } }
+    /// A keeper of so many changes in this log, with this mark and the classes that they make.
+    fn at(log: Log, mark: MarkState, system: System, count: u64) -> Keeper
+        ensures { result ≡ record { log = log; mark = mark; system = system; count = count; fault = None } }
     {
         Keeper {
             log,
             mark,
+            system,
             count,
             fault: None,
         }
@@ -143,17 +160,12 @@ impl Keeper {
         ensures keeper { IfOk result (λ keeper. keeper ≡ record {
           log = record { number = mark.log; end = mark.log_length };
           mark = mark;
+          system = keeper.system;
           count = keeper.count;
           fault = None;
         }) }
         ensures image { IfOk result (λ keeper. NamesNoImage mark) }
-        ensures tells { D.tells disk.new ≡ D.tells disk.old }
-        ensures same { (file : FileId) → D.reads disk.new file ≡ D.reads disk.old file }
-        ensures crash { (c : FileId → List ℕ) → D.may_leave disk.new c → D.may_leave disk.old c }
-        ensures any_moment { LeavesOnly D.moment D.left_since disk.old disk.new
-            (StillLeft (D.may_leave disk.old) (D.beside disk.old).told) }
-        ensures beside { D.beside disk.new ≡ D.beside disk.old }
-        ensures later { D.disk_faults disk.old ≤ D.disk_faults disk.new }
+        ensures untouched { IsUntouched D.tells D.reads D.may_leave D.moment D.left_since D.beside D.disk_faults disk.old disk.new }
         ensures cause { IfStartDisk result (λ failed. Rose (D.disk_faults disk.old) (D.disk_faults disk.new)) }
         ensures named { IfStartDisk result (λ failed. (failed.call ≡ Length) ⊎ (failed.call ≡ Read)) }
     {
@@ -162,8 +174,8 @@ impl Keeper {
         }
         let log = Log::resume(mark.log, mark.log_length);
         check_length(disk, &log)?;
-        let count = count_changes(alloc, disk, &log)?;
-        Ok(Keeper::at(log, mark, count))
+        let (system, count) = replay(alloc, disk, &log)?;
+        Ok(Keeper::at(log, mark, system, count))
     }
 }
 
@@ -172,13 +184,7 @@ fn find_mark<D: Disk>(disk: &mut D) -> Result<Found, StartFault>
     ensures answer { IsTrue (D.tells disk.old) → IsFound (D.reads disk.old) result }
     ensures lawful { IfOk result IsLawfulFound }
     ensures durable { IfOk result (λ _. Only Mark (D.reads disk.old Mark) (D.may_leave disk.new)) }
-    ensures tells { D.tells disk.new ≡ D.tells disk.old }
-    ensures same { (file : FileId) → D.reads disk.new file ≡ D.reads disk.old file }
-    ensures crash { (c : FileId → List ℕ) → D.may_leave disk.new c → D.may_leave disk.old c }
-    ensures any_moment { LeavesOnly D.moment D.left_since disk.old disk.new
-        (StillLeft (D.may_leave disk.old) (D.beside disk.old).told) }
-    ensures beside { D.beside disk.new ≡ D.beside disk.old }
-    ensures later { D.disk_faults disk.old ≤ D.disk_faults disk.new }
+    ensures untouched { IsUntouched D.tells D.reads D.may_leave D.moment D.left_since D.beside D.disk_faults disk.old disk.new }
     ensures cause { IfStartDisk result (λ failed. Rose (D.disk_faults disk.old) (D.disk_faults disk.new)) }
     ensures named { IfStartDisk result (λ failed. (failed.call ≡ Length) ⊎ (failed.call ≡ Read) ⊎ (failed.call ≡ Sync)) }
 {
@@ -189,13 +195,7 @@ fn find_mark<D: Disk>(disk: &mut D) -> Result<Found, StartFault>
 /// A log's file is as long as what counts of it.
 fn check_length<D: Disk>(disk: &mut D, log: &Log) -> Result<(), StartFault>
     ensures answer { IsTrue (D.tells disk.old) → IsLengthChecked (D.reads disk.old) log.now result }
-    ensures tells { D.tells disk.new ≡ D.tells disk.old }
-    ensures same { (file : FileId) → D.reads disk.new file ≡ D.reads disk.old file }
-    ensures crash { (c : FileId → List ℕ) → D.may_leave disk.new c → D.may_leave disk.old c }
-    ensures any_moment { LeavesOnly D.moment D.left_since disk.old disk.new
-        (StillLeft (D.may_leave disk.old) (D.beside disk.old).told) }
-    ensures beside { D.beside disk.new ≡ D.beside disk.old }
-    ensures later { D.disk_faults disk.old ≤ D.disk_faults disk.new }
+    ensures untouched { IsUntouched D.tells D.reads D.may_leave D.moment D.left_since D.beside D.disk_faults disk.old disk.new }
     ensures cause { IfStartDisk result (λ failed. Rose (D.disk_faults disk.old) (D.disk_faults disk.new)) }
     ensures named { IfStartDisk result (λ failed. failed.call ≡ Length) }
 {
@@ -206,30 +206,51 @@ fn check_length<D: Disk>(disk: &mut D, log: &Log) -> Result<(), StartFault>
     Ok(())
 }
 
-/// How many changes a log keeps, by its blocks.
-fn count_changes<D: Disk>(alloc: Global, disk: &mut D, log: &Log) -> Result<u64, StartFault>
+/// The classes that the changes of a log make, and how many changes it keeps, by its blocks.
+fn replay<D: Disk>(alloc: Global, disk: &mut D, log: &Log) -> Result<(System, u64), StartFault>
     ensures answer { IsTrue (D.tells disk.old) → log.now.end ≤ length (D.reads disk.old (log_file log.now.number))
-        → AreCounted (held_in (D.reads disk.old) log.now) result }
-    ensures tells { D.tells disk.new ≡ D.tells disk.old }
-    ensures same { (file : FileId) → D.reads disk.new file ≡ D.reads disk.old file }
-    ensures crash { (c : FileId → List ℕ) → D.may_leave disk.new c → D.may_leave disk.old c }
-    ensures any_moment { LeavesOnly D.moment D.left_since disk.old disk.new
-        (StillLeft (D.may_leave disk.old) (D.beside disk.old).told) }
-    ensures beside { D.beside disk.new ≡ D.beside disk.old }
-    ensures later { D.disk_faults disk.old ≤ D.disk_faults disk.new }
+        → AreReplayed (held_in (D.reads disk.old) log.now) result }
+    ensures untouched { IsUntouched D.tells D.reads D.may_leave D.moment D.left_since D.beside D.disk_faults disk.old disk.new }
     ensures cause { IfStartDisk result (λ failed. Rose (D.disk_faults disk.old) (D.disk_faults disk.new)) }
     ensures named { IfStartDisk result (λ failed. failed.call ≡ Read) }
 {
+    let mut system = boot(alloc)?;
     let mut count = 0;
     let mut at = 0;
     while at < log.length() {
-        let (_, next) = log.read_block(alloc, disk, at)?;
-        if next > LOG_LIMIT {
-            let refusal = Refusal::LogFull(at);
-            return Err(StartFault::Damaged(Damage::Replay(at, refusal.number())));
-        }
+        let (change, next) = log.read_block(alloc, disk, at)?;
+        accept(alloc, &mut system, &change, at, next)?;
         count += 1;
         at = next;
     }
-    Ok(count)
+    Ok((system, count))
+}
+
+/// Has the classes accept the change of a block, which begins and ends at these places.
+fn accept(
+    alloc: Global,
+    system: &mut System,
+    change: &Change,
+    at: u64,
+    next: u64,
+) -> Result<(), StartFault>
+    requires { next ≡ at + length (block change.now) }
+    ensures { Accepts system.old.classes system.new.classes at change.now result }
+{
+    match system.prepare(alloc, change) {
+        Err(Refused::Memory) => Err(StartFault::Memory),
+        Err(Refused::Refusal(refusal)) => Err(refused(at, &refusal)),
+        Ok(_) if next > LOG_LIMIT => Err(refused(at, &Refusal::LogFull(at))),
+        Ok(step) => {
+            system.install(step);
+            Ok(())
+        }
+    }
+}
+
+/// The damage of a block whose change is refused.
+fn refused(at: u64, refusal: &Refusal) -> StartFault
+    ensures { result ≡ StartFault.Damaged (Damage.Replay at (refusal_number refusal.now)) }
+{
+    StartFault::Damaged(Damage::Replay(at, refusal.number()))
 }

@@ -1,8 +1,12 @@
 // Folders that are started on, and commits that are stopped at each of their calls, with ample memory.
-// That a change is refused as the log is read again wants a log of a gibibyte: no test here has one.
+// That the log is full as it is read again wants a gibibyte: no test here has one.
+ghost use Rattle.std.specs.Prelude.{IfOk};
+ghost use Rattle.s80_apply.specs.System.{IsReady};
+
 use crate::{Damage, KeepFault, Keeper, Prepared, StartFault};
-use s80_base::{Call, Failed, Text};
-use s80_change::{Change, Refusal, Refused};
+use s80_apply::boot;
+use s80_base::{Call, Failed, Names, OutOfMemory, Text};
+use s80_change::{Change, Definition, Kind, Refusal, Refused};
 use s80_disk::{Disk, FaultPlan, FileId, MemDisk};
 use s80_log::Log;
 use s80_mark::{MarkState, NO_IMAGE};
@@ -29,9 +33,21 @@ fn folder(alloc: Global, stop: u64, is_used: bool) -> Result<(MemDisk, Keeper), 
 }
 
 /// The doIt `3 + 4`, prepared to be kept.
-fn prepared(alloc: Global, keeper: &mut Keeper) -> Result<Prepared, Fail> {
+fn prepared(alloc: Global, keeper: &mut Keeper) -> Result<Prepared, Fail>
+    ensures { IfOk result (λ prepared. IsReady keeper.new.system prepared.step) }
+{
     let text = Text::from_bytes(alloc, b"3 + 4")?;
     Ok(keeper.prepare(alloc, Change::DoIt { text })?)
+}
+
+/// Prepares the doIt `3 + 4`, and keeps it.
+fn kept(
+    alloc: Global,
+    disk: &mut MemDisk,
+    keeper: &mut Keeper,
+) -> Result<Result<u64, KeepFault>, Fail> {
+    let change = prepared(alloc, keeper)?;
+    Ok(keeper.keep(disk, change))
 }
 
 /// How many changes are found after a crash.
@@ -54,8 +70,7 @@ fn a_change_is_kept(rt: HostRuntime) -> Result<(), Fail> {
         slot_at(&mut disk, 0)?,
         *b"\x21\0\0\0\0\0\0\0\x01\0\0\0\0\0\0\0\0\0\xff\0\0\0\0\0\0\0\0\0\0\0\0\0\0\0\0"
     );
-    let change = prepared(rt.alloc(), &mut keeper)?;
-    assert_eq!(rt; keeper.keep(&mut disk, change), Ok(0));
+    assert_eq!(rt; kept(rt.alloc(), &mut disk, &mut keeper)?, Ok(0));
     assert_eq!(rt; (keeper.count(), keeper.log_length()), (1, 7));
     let mut log = [0; 8];
     assert_eq!(rt; disk.read_at(FileId::Log0, 0, &mut log), Ok(7));
@@ -74,9 +89,8 @@ fn a_stopped_commit_leaves_the_list_or_the_list_with_the_change(
     for is_used in [false, true] {
         for call in 1..=9u8 {
             let (mut disk, mut keeper) = folder(rt.alloc(), 13 + u64::from(call), is_used)?;
-            let change = prepared(rt.alloc(), &mut keeper)?;
-            let kept = keeper.keep(&mut disk, change);
-            assert_eq!(rt; kept.is_ok(), call == 9, "call {call}");
+            let is_kept = kept(rt.alloc(), &mut disk, &mut keeper)?.is_ok();
+            assert_eq!(rt; is_kept, call == 9, "call {call}");
             for choice in CHOICES {
                 let count = count_after(rt.alloc(), &disk, choice)?;
                 assert!(rt; count <= 1, "call {call}, choice {choice}");
@@ -93,10 +107,8 @@ fn a_stopped_commit_leaves_the_list_or_the_list_with_the_change(
 /// Whether a second commit succeeds, where its call of this number and each later one fail.
 fn keeps_a_second(alloc: Global, call: u8) -> Result<bool, Fail> {
     let (mut disk, mut keeper) = folder(alloc, 21 + u64::from(call), false)?;
-    let change = prepared(alloc, &mut keeper)?;
-    keeper.keep(&mut disk, change)?;
-    let change = prepared(alloc, &mut keeper)?;
-    Ok(keeper.keep(&mut disk, change).is_ok())
+    kept(alloc, &mut disk, &mut keeper)??;
+    Ok(kept(alloc, &mut disk, &mut keeper)?.is_ok())
 }
 
 #[test]
@@ -125,30 +137,28 @@ fn keeps_another(alloc: Global, disk: &mut MemDisk) -> Result<Option<(u64, bool)
         return Ok(None);
     };
     let count = keeper.count();
-    let change = prepared(alloc, &mut keeper)?;
-    Ok(Some((count, keeper.keep(disk, change).is_ok())))
+    Ok(Some((count, kept(alloc, disk, &mut keeper)?.is_ok())))
 }
 
 #[test]
 fn a_crash_after_a_crash_loses_no_change(rt: HostRuntime) -> Result<(), Fail> {
     for (call, choice) in [(5u8, 33), (5, 225), (7, 2), (7, 225), (8, 0), (8, 1)] {
         let (mut disk, mut keeper) = folder(rt.alloc(), 13 + u64::from(call), false)?;
-        let change = prepared(rt.alloc(), &mut keeper)?;
-        assert!(rt; keeper.keep(&mut disk, change).is_err());
+        assert!(rt; kept(rt.alloc(), &mut disk, &mut keeper)?.is_err());
         let mut left = disk.crash(rt.alloc(), choice)?;
         let before = count_after(rt.alloc(), &left, 1)?;
         let after = before.saturating_add(1);
         for stop in 1..=24u8 {
             let mut again = copied(rt.alloc(), &mut left, 4 + u64::from(stop))?;
-            let kept = keeps_another(rt.alloc(), &mut again)?;
-            assert!(rt; stop < 24 || kept == Some((before, true)));
+            let another = keeps_another(rt.alloc(), &mut again)?;
+            assert!(rt; stop < 24 || another == Some((before, true)));
             for choice in CHOICES {
                 let count = count_after(rt.alloc(), &again, choice)?;
                 assert!(rt;
                     count == before || count == after,
                     "{call}, {stop}, {choice}"
                 );
-                if let Some((found, is_kept)) = kept {
+                if let Some((found, is_kept)) = another {
                     assert_eq!(rt; found, before, "{call}, {stop}, {choice}");
                     assert!(rt; count == after || !is_kept, "{call}, {stop}, {choice}");
                 }
@@ -163,8 +173,7 @@ fn a_run_killed_at_the_last_sync_loses_no_change(rt: HostRuntime) -> Result<(), 
     // the start makes eleven calls, and the commit's eighth is the sync of the open gate
     let mut disk = MemDisk::make(rt.alloc(), 512, 64, FaultPlan::One(19))?;
     let mut keeper = Keeper::start(rt.alloc(), &mut disk)?;
-    let change = prepared(rt.alloc(), &mut keeper)?;
-    assert!(rt; keeper.keep(&mut disk, change).is_err());
+    assert!(rt; kept(rt.alloc(), &mut disk, &mut keeper)?.is_err());
     assert_eq!(rt; Keeper::start(rt.alloc(), &mut disk)?.count(), 1);
     for choice in CHOICES {
         assert_eq!(rt;
@@ -194,6 +203,11 @@ fn files(alloc: Global, slots: [Slot; 2], log: &[u8]) -> Result<MemDisk, Fail> {
     }
     disk.write_at(FileId::Log0, 0, log)?;
     Ok(disk)
+}
+
+/// How many changes a keeper finds, or why it doesn't start.
+fn found(alloc: Global, disk: &mut MemDisk) -> Result<u64, StartFault> {
+    Ok(Keeper::start(alloc, disk)?.count())
 }
 
 #[test]
@@ -238,11 +252,46 @@ fn what_is_found_in_a_folder(rt: HostRuntime) -> Result<(), Fail> {
     ];
     for (number, (slots, log, answer)) in rows.iter().enumerate() {
         let mut disk = files(rt.alloc(), *slots, log)?;
-        let found = match Keeper::start(rt.alloc(), &mut disk) {
-            Ok(keeper) => Ok(keeper.count()),
-            Err(fault) => Err(fault),
-        };
-        assert_eq!(rt; found, answer.map_err(StartFault::Damaged), "row {number}");
+        assert_eq!(rt;
+            found(rt.alloc(), &mut disk),
+            answer.map_err(StartFault::Damaged),
+            "row {number}"
+        );
+    }
+    Ok(())
+}
+
+#[test]
+fn definitions_are_replayed_one_after_the_other(rt: HostRuntime) -> Result<(), Fail> {
+    let rows: [(u8, &[u8], Result<u64, Damage>); 4] = [
+        (
+            211,
+            b"Object subclass: #A\n\tinstanceVariableNames: ''\n\tclassVariableNames: ''\n\tpoolDictionaries: ''\n\tcategory: ''!\nA subclass: #B\n\tinstanceVariableNames: ''\n\tclassVariableNames: ''\n\tpoolDictionaries: ''\n\tcategory: ''!\n",
+            Ok(2),
+        ),
+        (
+            106,
+            b"Zork subclass: #A\n\tinstanceVariableNames: ''\n\tclassVariableNames: ''\n\tpoolDictionaries: ''\n\tcategory: ''!\n",
+            Err(Damage::Replay(0, 4)),
+        ),
+        (
+            109,
+            b"1!\nZork subclass: #A\n\tinstanceVariableNames: ''\n\tclassVariableNames: ''\n\tpoolDictionaries: ''\n\tcategory: ''!\n",
+            Err(Damage::Replay(3, 4)),
+        ),
+        (
+            211,
+            b"Object subclass: #A\n\tinstanceVariableNames: ''\n\tclassVariableNames: ''\n\tpoolDictionaries: ''\n\tcategory: ''!\nA subclass: #A\n\tinstanceVariableNames: ''\n\tclassVariableNames: ''\n\tpoolDictionaries: ''\n\tcategory: ''!\n",
+            Err(Damage::Replay(108, 7)),
+        ),
+    ];
+    for (number, (length, log, answer)) in rows.iter().enumerate() {
+        let mut disk = files(rt.alloc(), [(0x21, 1, 0, *length, 255), CLOSED], log)?;
+        assert_eq!(rt;
+            found(rt.alloc(), &mut disk),
+            answer.map_err(StartFault::Damaged),
+            "row {number}"
+        );
     }
     Ok(())
 }
@@ -266,8 +315,7 @@ fn sequences_go_round(rt: HostRuntime) -> Result<(), Fail> {
         let mut disk = files(rt.alloc(), [first, second], b"1!\n")?;
         let mut keeper = Keeper::start(rt.alloc(), &mut disk)?;
         assert_eq!(rt; keeper.count(), 0);
-        let change = prepared(rt.alloc(), &mut keeper)?;
-        keeper.keep(&mut disk, change)?;
+        kept(rt.alloc(), &mut disk, &mut keeper)??;
         let mut sequence = [0; 8];
         disk.read_at(FileId::Mark, at, &mut sequence)?;
         assert_eq!(rt; u64::from_be_bytes(sequence), next);
@@ -282,15 +330,13 @@ fn after_a_fault_no_call_is_made(rt: HostRuntime) -> Result<(), Fail> {
     let mut disk = MemDisk::make(rt.alloc(), 512, 64, FaultPlan::One(12))?;
     let mut keeper = Keeper::start(rt.alloc(), &mut disk)?;
     let failed = Failed { call: Call::Write };
-    let change = prepared(rt.alloc(), &mut keeper)?;
     assert_eq!(rt;
-        keeper.keep(&mut disk, change),
+        kept(rt.alloc(), &mut disk, &mut keeper)?,
         Err(KeepFault::Disk(failed))
     );
     for _ in 0..2 {
-        let change = prepared(rt.alloc(), &mut keeper)?;
         assert_eq!(rt;
-            keeper.keep(&mut disk, change),
+            kept(rt.alloc(), &mut disk, &mut keeper)?,
             Err(KeepFault::Closed(failed))
         );
     }
@@ -299,8 +345,111 @@ fn after_a_fault_no_call_is_made(rt: HostRuntime) -> Result<(), Fail> {
     Ok(())
 }
 
+/// The definition of a class under a superclass.
+fn definition(alloc: Global, superclass: &[u8], class_name: &[u8]) -> Result<Change, OutOfMemory> {
+    let definition = Definition {
+        class_name: Text::from_bytes(alloc, class_name)?,
+        superclass: Text::from_bytes(alloc, superclass)?,
+        kind: Kind::Plain,
+        inst_vars: Names::empty(alloc),
+        class_vars: Names::empty(alloc),
+        pools: Names::empty(alloc),
+        category: Text::empty(alloc),
+    };
+    Ok(Change::Define(definition))
+}
+
+/// Prepares the definition of a class under a superclass, and keeps it.
+fn defined(
+    alloc: Global,
+    disk: &mut MemDisk,
+    keeper: &mut Keeper,
+    superclass: &[u8],
+    class_name: &[u8],
+) -> Result<Result<u64, KeepFault>, Fail> {
+    let change = keeper.prepare(alloc, definition(alloc, superclass, class_name)?)?;
+    Ok(keeper.keep(disk, change))
+}
+
+/// Whether a keeper has both classes, the first below the second.
+fn is_below(alloc: Global, keeper: &Keeper, class: &[u8], above: &[u8]) -> Result<bool, Fail> {
+    let classes = keeper.system().classes();
+    let class = classes.find(&Text::from_bytes(alloc, class)?);
+    let above = classes.find(&Text::from_bytes(alloc, above)?);
+    match (class, above) {
+        (Some(class), Some(above)) => Ok(classes.is_descendant(class, above)),
+        _ => Ok(false),
+    }
+}
+
+#[test]
+fn a_kept_definition_is_found_again(rt: HostRuntime) -> Result<(), Fail> {
+    let mut disk = MemDisk::make(rt.alloc(), 1_024, 128, FaultPlan::Never)?;
+    let mut keeper = Keeper::start(rt.alloc(), &mut disk)?;
+    assert_eq!(rt; keeper.system().classes().count(), 28);
+    assert_eq!(rt;
+        defined(rt.alloc(), &mut disk, &mut keeper, b"Object", b"Account")?,
+        Ok(0)
+    );
+    assert_eq!(rt;
+        defined(rt.alloc(), &mut disk, &mut keeper, b"Account", b"Savings")?,
+        Ok(114)
+    );
+    let mut log = [0; 114];
+    assert_eq!(rt; disk.read_at(FileId::Log0, 0, &mut log), Ok(114));
+    assert_eq!(rt;
+        log,
+        *b"Object subclass: #Account\n\tinstanceVariableNames: ''\n\tclassVariableNames: ''\n\tpoolDictionaries: ''\n\tcategory: ''!\n"
+    );
+    let again = Keeper::start(rt.alloc(), &mut disk)?;
+    for keeper in [&keeper, &again] {
+        assert_eq!(rt; (keeper.count(), keeper.log_length()), (2, 229));
+        assert_eq!(rt; keeper.system().classes().count(), 30);
+        assert!(rt; is_below(rt.alloc(), keeper, b"Savings", b"Account")?);
+    }
+    Ok(())
+}
+
+/// Why the definition of a class under a superclass is refused.
+fn refusal(
+    alloc: Global,
+    keeper: &mut Keeper,
+    superclass: &[u8],
+    class_name: &[u8],
+) -> Result<Option<Refusal>, OutOfMemory> {
+    match keeper.prepare(alloc, definition(alloc, superclass, class_name)?) {
+        Err(Refused::Refusal(refusal)) => Ok(Some(refusal)),
+        _ => Ok(None),
+    }
+}
+
+/// Whether the classes refuse the class Other under the class Zork, since there is none.
+fn is_refused_under_zork(alloc: Global, keeper: &mut Keeper) -> Result<bool, OutOfMemory> {
+    match refusal(alloc, keeper, b"Zork", b"Other")? {
+        Some(Refusal::UnknownClass(name)) => Ok(name.bytes() == b"Zork".as_slice()),
+        _ => Ok(false),
+    }
+}
+
+#[test]
+fn a_refused_definition_is_not_kept(rt: HostRuntime) -> Result<(), Fail> {
+    let mut disk = MemDisk::make(rt.alloc(), 512, 64, FaultPlan::Never)?;
+    let mut keeper = Keeper::start(rt.alloc(), &mut disk)?;
+    defined(rt.alloc(), &mut disk, &mut keeper, b"Object", b"Account")??;
+    assert!(rt; is_refused_under_zork(rt.alloc(), &mut keeper)?);
+    let cycle = refusal(rt.alloc(), &mut keeper, b"Account", b"Account")?;
+    assert_eq!(rt; cycle.map(|refusal| refusal.number()), Some(7));
+    let kernel = refusal(rt.alloc(), &mut keeper, b"Object", b"Object")?;
+    assert_eq!(rt; kernel.map(|refusal| refusal.number()), Some(5));
+    assert_eq!(rt; (keeper.count(), keeper.log_length()), (1, 114));
+    assert_eq!(rt; keeper.system().classes().count(), 29);
+    assert_eq!(rt; disk.length(FileId::Log0), Ok(114));
+    assert_eq!(rt; count_after(rt.alloc(), &disk, 0)?, 1);
+    Ok(())
+}
+
 /// A keeper whose log has this length, without the bytes.
-fn at_length(length: u64) -> Keeper {
+fn at_length(alloc: Global, length: u64) -> Result<Keeper, Fail> {
     let mark = MarkState {
         sequence: 1,
         log: 0,
@@ -309,31 +458,42 @@ fn at_length(length: u64) -> Keeper {
         image_length: 0,
         image_position: 0,
     };
-    Keeper {
+    Ok(Keeper {
         log: Log::resume(0, length),
         mark,
+        system: boot(alloc)?,
         count: 0,
         fault: None,
-    }
+    })
 }
 
 #[test]
 fn a_full_log_takes_no_change(rt: HostRuntime) -> Result<(), Fail> {
     let mut disk = MemDisk::make(rt.alloc(), 8, 8, FaultPlan::Never)?;
-    let change = prepared(rt.alloc(), &mut at_length(1_073_741_817))?;
-    let mut full = at_length(1_073_741_818);
+    let mut keeper = at_length(rt.alloc(), 1_073_741_817)?;
+    let change = prepared(rt.alloc(), &mut keeper)?;
+    keeper.log = Log::resume(0, 1_073_741_818);
+    assert_eq!(rt;
+        keeper.keep(&mut disk, change),
+        Err(KeepFault::Full(1_073_741_818))
+    );
+    assert_eq!(rt; keeper.log_length(), 1_073_741_818);
     let text = Text::from_bytes(rt.alloc(), b"3 + 4")?;
-    let refused = full.prepare(rt.alloc(), Change::DoIt { text });
+    let refused = keeper.prepare(rt.alloc(), Change::DoIt { text });
     assert!(rt;
         matches!(
             refused,
             Err(Refused::Refusal(Refusal::LogFull(1_073_741_818)))
         )
     );
-    assert_eq!(rt;
-        full.keep(&mut disk, change),
-        Err(KeepFault::Full(1_073_741_818))
-    );
-    assert_eq!(rt; full.log_length(), 1_073_741_818);
+    Ok(())
+}
+
+#[test]
+fn the_classes_are_asked_before_a_full_log(rt: HostRuntime) -> Result<(), Fail> {
+    let mut keeper = at_length(rt.alloc(), 1 << 30)?;
+    assert!(rt; is_refused_under_zork(rt.alloc(), &mut keeper)?);
+    let full = refusal(rt.alloc(), &mut keeper, b"Object", b"Account")?;
+    assert!(rt; matches!(full, Some(Refusal::LogFull(1_073_741_824))));
     Ok(())
 }

@@ -1,57 +1,66 @@
-use Rattle.std.proofs.Common.{◌≡◌, ◌⊎◌, ◌+◌, ◌++◌, ◌∷◌, [], List, length, refl, sym, ap, ◌∙◌, subst, arith}
+use Rattle.std.proofs.Common.{◌≡◌, ◌⊎◌, ◌+◌, ◌++◌, ◌∷◌, [], List, length, refl, sym, ap, ◌∙◌, subst, arith, rules}
 use Rattle.s80_change.specs.declared.change.Change.{Change}
 use Rattle.s80_change.specs.Block.{block, IsLawful}
 use Rattle.s80_disk.specs.Image.{Image}
 use Rattle.s80_disk.specs.Moments.{LeavesOnly}
 use Rattle.s80_disk.proofs.Run.{weaker}
 use Rattle.s80_mark.specs.declared.mark.MarkState.{MarkState}
+use Rattle.s80_apply.specs.List.{IsBuilt}
+use Rattle.s80_apply.specs.System.{installed}
 use Rattle.s80_log.specs.Log.{log_file}
 use Rattle.s80_log.specs.Commit.{next_mark}
 use Rattle.s80_keeper.specs.Keeper.{KeeperState, Keeps}
 use Rattle.s80_keeper.specs.Standing.{FilesStandFor, LeavesEither}
-use Rattle.s80_keeper.proofs.Keeping.{either_list, leaves_either, keeps_more, keeps_still}
+use Rattle.s80_keeper.specs.Answers.{PreparedChange, IsFor}
+use Rattle.s80_keeper.proofs.Keeping.{either_list, leaves_either, built_kept, keeps_more, keeps_still}
 use Rattle.s80_keeper.proofs.keeper.Keeper.keep.Goals as goal
 use Rattle.s80_keeper.proofs.keeper.Keeper.keep.Goals.{After-append_and_commit}
 
 -- the block that is written is that of the change
-is_block : (g : _) (c : After-append_and_commit g) → c.prepared.inside.block ≡ block c.args.prepared
-is_block g c = c.prepared.invariant ∙ ap block c.prepared.view_is
+is_block : (g : _) (c : After-append_and_commit g) → c.prepared.inside.block ≡ block c.args.prepared.change
+is_block g c = c.prepared.invariant ∙ ap (λ (p : PreparedChange). block p.change) c.prepared.view_is
 
-module _ (g : _) (c : After-append_and_commit g) (changes : List Change) (keeps : Keeps (g.D.Disk.tells c.args.disk.now) (g.D.Disk.reads c.args.disk.now) (g.D.Disk.may_leave c.args.disk.now) c.args.self.now changes) (lawful : IsLawful c.args.prepared) where
+module _ (g : _) (c : After-append_and_commit g) (changes : List Change) (keeps : Keeps (g.D.Disk.tells c.args.disk.now) (g.D.Disk.reads c.args.disk.now) (g.D.Disk.may_leave c.args.disk.now) c.args.self.now changes) (lawful : IsLawful c.args.prepared.change) (ready : IsFor c.args.self.now.system c.args.prepared) where
   -- the keeper as the code has it
   abbrev keeper : KeeperState
-  keeper = record { log = c.self.inside.log; mark = c.self.inside.mark; count = c.self.inside.count; fault = c.self.inside.fault }
+  keeper = record { log = c.self.inside.log; mark = c.self.inside.mark; system = c.self.inside.system; count = c.self.inside.count; fault = c.self.inside.fault }
 
   kept : Keeps (g.D.Disk.tells c.args.disk.now) (g.D.Disk.reads c.args.disk.now) (g.D.Disk.may_leave c.args.disk.now) keeper changes
   kept =
       let P : KeeperState → Type 0 = λ k. Keeps (g.D.Disk.tells c.args.disk.now) (g.D.Disk.reads c.args.disk.now) (g.D.Disk.may_leave c.args.disk.now) k changes in
       subst P (sym c.self.view_is) keeps
 
+  built_all : IsBuilt (changes ++ c.args.prepared.change ∷ [])
+  built_all = built_kept _ _ _ c.args.self.now changes c.args.prepared.change (installed c.args.self.now.system c.args.prepared.step).classes keeps ready.accepted
+
   -- the mark that is committed
   abbrev next : MarkState
   next = next_mark c.self.inside.mark (record c.self.inside.log { end = c.self.inside.log.end + length c.prepared.inside.block })
 
-  run : LeavesOnly g.D.Disk.moment g.D.Disk.left_since c.args.disk.now c.append_and_commit.new.disk (LeavesEither (g.D.Disk.beside c.args.disk.now).told changes (changes ++ c.args.prepared ∷ []))
+  run : LeavesOnly g.D.Disk.moment g.D.Disk.left_since c.args.disk.now c.append_and_commit.new.disk (LeavesEither (g.D.Disk.beside c.args.disk.now).told changes (changes ++ c.args.prepared.change ∷ []))
   run =
       let D = g.D.Disk in
       let d = c.args.disk.now in
-      weaker D.moment D.left_since d c.append_and_commit.new.disk _ _ (c.append_and_commit.ensures.one_commit changes c.args.prepared kept.stands kept.named kept.end lawful (is_block g c))
-      (leaves_either (D.may_leave d) (D.beside d).told (log_file c.self.inside.log.number) c.self.inside.mark next changes (changes ++ c.args.prepared ∷ []) kept.no_image kept.no_image)
+      weaker D.moment D.left_since d c.append_and_commit.new.disk _ _ (c.append_and_commit.ensures.one_commit changes c.args.prepared.change kept.stands kept.named kept.end lawful (is_block g c))
+      (leaves_either (D.may_leave d) (D.beside d).told (log_file c.self.inside.log.number) c.self.inside.mark next changes (changes ++ c.args.prepared.change ∷ []) kept.no_image kept.no_image keeps.built built_all)
 
-  left_now : (e : Image) → g.D.Disk.may_leave c.append_and_commit.new.disk e → FilesStandFor e changes ⊎ FilesStandFor e (changes ++ c.args.prepared ∷ [])
+  left_now : (e : Image) → g.D.Disk.may_leave c.append_and_commit.new.disk e → FilesStandFor e changes ⊎ FilesStandFor e (changes ++ c.args.prepared.change ∷ [])
   left_now e left =
-      either_list c.self.inside.mark next changes (changes ++ c.args.prepared ∷ []) e kept.no_image kept.no_image
-      (c.append_and_commit.ensures.left changes c.args.prepared e kept.stands kept.named kept.end lawful (is_block g c) left)
+      either_list c.self.inside.mark next changes (changes ++ c.args.prepared.change ∷ []) e kept.no_image kept.no_image keeps.built built_all
+      (c.append_and_commit.ensures.left changes c.args.prepared.change e kept.stands kept.named kept.end lawful (is_block g c) left)
 
 pub returns-in-Ok-clause-any_moment : goal.returns-in-Ok-clause-any_moment
 returns-in-Ok-clause-any_moment g c = run g (goal.at.returns-in-Ok-clause-any_moment g c).After-append_and_commit
 
+pub returns-in-Ok-clause-after : goal.returns-in-Ok-clause-after
+returns-in-Ok-clause-after g c = search rules
+
 pub returns-in-Ok-clause-kept : goal.returns-in-Ok-clause-kept
-returns-in-Ok-clause-kept g c = λ changes keeps lawful.
+returns-in-Ok-clause-kept g c = λ changes keeps lawful ready.
     let at = (goal.at.returns-in-Ok-clause-kept g c).After-append_and_commit in
-    let was = kept g at changes keeps lawful in
-    keeps_more _ _ _ _ _ _ (keeper g at changes keeps lawful) c.append_and_commit.new.self c.append_and_commit.new.mark c.saturating_add-self-inside.result changes c.args.prepared was c.in-Ok.ensures.mark c.saturating_add-self-inside.ensures
-    (c.in-Ok.ensures.kept changes c.args.prepared was.stands was.named was.end lawful (is_block g at))
+    let was = kept g at changes keeps lawful ready in
+    let stands = c.in-Ok.ensures.kept changes c.args.prepared.change was.stands was.named was.end lawful (is_block g at) in
+    keeps_more _ _ _ _ _ _ c.args.self.now _ c.in-Ok.at c.args.prepared changes keeps ready (returns-in-Ok-clause-after g c) stands
 
 pub returns-in-Err-Disk-clause-any_moment : goal.returns-in-Err-Disk-clause-any_moment
 returns-in-Err-Disk-clause-any_moment g c = run g (goal.at.returns-in-Err-Disk-clause-any_moment g c).After-append_and_commit
@@ -87,8 +96,8 @@ returns-clause-full g c = λ n.
     )
 
 pub returns-clause-kept : goal.returns-clause-kept
-returns-clause-kept g c = λ changes keeps lawful.
+returns-clause-kept g c = λ changes keeps lawful ready.
     let at = (goal.at.returns-clause-kept g c).After-append_and_commit in
     let D = g.D.Disk in
     let full = (c.in-Err-Full.ensures.full c.in-Err-Full.length).0 (rw c.in-Err-Full.field-0-is refl) in
-    keeps_still D.tells D.reads D.may_leave c.args.disk.now c.append_and_commit.new.disk (keeper g at changes keeps lawful) c.append_and_commit.new.self c.append_and_commit.new.mark changes (c.in-Err-Full.ensures.untouched full.1) c.in-Err-Full.ensures.end c.in-Err-Full.ensures.mark (kept g at changes keeps lawful)
+    keeps_still D.tells D.reads D.may_leave c.args.disk.now c.append_and_commit.new.disk (keeper g at changes keeps lawful ready) c.append_and_commit.new.self c.append_and_commit.new.mark changes (c.in-Err-Full.ensures.untouched full.1) c.in-Err-Full.ensures.end c.in-Err-Full.ensures.mark (kept g at changes keeps lawful ready)

@@ -8,7 +8,7 @@ use Rattle.s80_mark.specs.Found.{AreLogsEmpty}
 use Rattle.s80_keeper.specs.Standing.{StandsFor, LeavesFor}
 use Rattle.s80_keeper.specs.Start.{HasMark, IsStart, Started, StartLeaves}
 use Rattle.s80_keeper.specs.Reading.{IsFound}
-use Rattle.s80_keeper.proofs.Starts.{still_left, left_on, synced_on, leaves_for, none_kept, first_keeps}
+use Rattle.s80_keeper.proofs.Starts.{still_left, left_on, synced_on, leaves_for, none_kept, first_keeps, first_stands}
 use Rattle.s80_keeper.proofs.Resumed.{found_started, started_mark}
 use Rattle.s80_keeper.proofs.keeper.Keeper.start.Goals as goal
 use Rattle.s80_keeper.proofs.keeper.Keeper.start.Goals.{After-find_mark, After-init_mark, After-resume-in-Mark}
@@ -24,7 +24,7 @@ pub returns-in_err-find_mark-clause-any_moment : goal.returns-in_err-find_mark-c
 returns-in_err-find_mark-clause-any_moment g c = λ told.
     let D = g.D.Disk in
     let d = c.args.disk.now in
-    weaker D.moment D.left_since d c.find_mark.new.disk _ (StartLeaves (D.reads d) (D.may_leave d) (D.beside d).told) c.find_mark.ensures.any_moment (still_left (D.reads d) (D.may_leave d) (D.beside d).told)
+    weaker D.moment D.left_since d c.find_mark.new.disk _ (StartLeaves (D.reads d) (D.may_leave d) (D.beside d).told) c.find_mark.ensures.untouched.any_moment (still_left (D.reads d) (D.may_leave d) (D.beside d).told)
 
 pub returns-in_err-find_mark-clause-stands : goal.returns-in_err-find_mark-clause-stands
 returns-in_err-find_mark-clause-stands g c = λ changes is. stands g (goal.at.returns-in_err-find_mark-clause-stands g c).After-find_mark _ changes is (returns-in_err-find_mark-clause-any_moment g c is.told)
@@ -47,33 +47,51 @@ fresh g c told =
     let D = g.D.Disk in
     let d = c.args.disk.now in
     let mid = c.find_mark.new.disk in
-    let found = c.find_mark.ensures in
+    let found = c.find_mark.ensures.untouched in
     let P = StartLeaves (D.reads d) (D.may_leave d) (D.beside d).told in
     joined D.moment D.left_since d mid c.init_mark.new.disk P _
     (weaker D.moment D.left_since d mid _ P found.any_moment (still_left (D.reads d) (D.may_leave d) (D.beside d).told)) c.init_mark.ensures.synced_first
-    (synced_on (D.reads d) (D.may_leave d) (D.beside d).told (D.may_leave mid) (D.beside mid).told (ap (λ (b : Beside). b.told) found.beside) found.crash (D.reads mid) found.same (empty g c told))
+    (synced_on (D.reads d) (D.may_leave d) (D.beside d).told (D.may_leave mid) (D.beside mid).told (ap (λ (b : Beside). b.told) found.rest) found.crash (D.reads mid) found.same (empty g c told))
 
-pub returns-in_err-init_mark-in-Fresh-clause-any_moment : goal.returns-in_err-init_mark-in-Fresh-clause-any_moment
-returns-in_err-init_mark-in-Fresh-clause-any_moment g c = fresh g (goal.at.returns-in_err-init_mark-in-Fresh-clause-any_moment g c).After-init_mark
+pub returns-in_err-mark-in-Fresh-clause-any_moment : goal.returns-in_err-mark-in-Fresh-clause-any_moment
+returns-in_err-mark-in-Fresh-clause-any_moment g c = fresh g (goal.at.returns-in_err-mark-in-Fresh-clause-any_moment g c).After-init_mark
 
-pub returns-in_err-init_mark-in-Fresh-clause-stands : goal.returns-in_err-init_mark-in-Fresh-clause-stands
-returns-in_err-init_mark-in-Fresh-clause-stands g c = λ changes is. stands g (goal.at.returns-in_err-init_mark-in-Fresh-clause-stands g c).After-find_mark _ changes is (returns-in_err-init_mark-in-Fresh-clause-any_moment g c is.told)
+pub returns-in_err-mark-in-Fresh-clause-stands : goal.returns-in_err-mark-in-Fresh-clause-stands
+returns-in_err-mark-in-Fresh-clause-stands g c = λ changes is. stands g (goal.at.returns-in_err-mark-in-Fresh-clause-stands g c).After-find_mark _ changes is (returns-in_err-mark-in-Fresh-clause-any_moment g c is.told)
 
-pub returns-in_ok-init_mark-in-Fresh-clause-any_moment : goal.returns-in_ok-init_mark-in-Fresh-clause-any_moment
-returns-in_ok-init_mark-in-Fresh-clause-any_moment g c = fresh g (goal.at.returns-in_ok-init_mark-in-Fresh-clause-any_moment g c).After-init_mark
+pub returns-in_ok-boot-in-Fresh-clause-any_moment : goal.returns-in_ok-boot-in-Fresh-clause-any_moment
+returns-in_ok-boot-in-Fresh-clause-any_moment g c = fresh g (goal.at.returns-in_ok-boot-in-Fresh-clause-any_moment g c).After-init_mark
 
-pub returns-in_ok-init_mark-in-Fresh-clause-stands : goal.returns-in_ok-init_mark-in-Fresh-clause-stands
-returns-in_ok-init_mark-in-Fresh-clause-stands g c = λ changes is. stands g (goal.at.returns-in_ok-init_mark-in-Fresh-clause-stands g c).After-find_mark _ changes is (returns-in_ok-init_mark-in-Fresh-clause-any_moment g c is.told)
+pub returns-in_ok-boot-in-Fresh-clause-stands : goal.returns-in_ok-boot-in-Fresh-clause-stands
+returns-in_ok-boot-in-Fresh-clause-stands g c = λ changes is. stands g (goal.at.returns-in_ok-boot-in-Fresh-clause-stands g c).After-find_mark _ changes is (returns-in_ok-boot-in-Fresh-clause-any_moment g c is.told)
 
-pub returns-in_ok-init_mark-in-Fresh-clause-started : goal.returns-in_ok-init_mark-in-Fresh-clause-started
-returns-in_ok-init_mark-in-Fresh-clause-started g c = λ changes is.
+pub returns-in_ok-boot-in-Fresh-clause-started : goal.returns-in_ok-boot-in-Fresh-clause-started
+returns-in_ok-boot-in-Fresh-clause-started g c = λ changes is.
     let D = g.D.Disk in
     let d = c.args.disk.now in
     let new = c.init_mark.new.disk in
-    let made = c.in_ok-init_mark-in-Fresh in
-    let told = c.find_mark.ensures.tells ∙ is.told in
-    let none = none_kept (D.tells d) (D.reads d) (D.may_leave d) changes is (empty g (goal.at.returns-in_ok-init_mark-in-Fresh-clause-started g c).After-init_mark is.told) in
-    first_keeps (D.tells new) (D.reads new) (D.may_leave new) changes (c.init_mark.ensures.tells ∙ told) none made.ensures.durable c.resume.result made.field-0 c.at.result c.resume.ensures made.ensures.first (made.ensures.valid told) c.at.ensures
+    let made = c.in_ok-mark-in-Fresh in
+    let told = c.find_mark.ensures.untouched.telling ∙ is.told in
+    let none = none_kept (D.tells d) (D.reads d) (D.may_leave d) changes is (empty g (goal.at.returns-in_ok-boot-in-Fresh-clause-started g c).After-init_mark is.told) in
+    first_keeps (D.tells new) (D.reads new) (D.may_leave new) changes (c.init_mark.ensures.tells ∙ told) none made.ensures.durable c.resume.result made.mark c.in_ok-boot-in-Fresh.field-0 c.at.result c.resume.ensures made.ensures.first c.in_ok-boot-in-Fresh.ensures (made.ensures.valid told) c.at.ensures
+
+-- there is no memory for the classes
+pub returns-in_err-boot-in-Fresh-clause-any_moment : goal.returns-in_err-boot-in-Fresh-clause-any_moment
+returns-in_err-boot-in-Fresh-clause-any_moment g c = fresh g (goal.at.returns-in_err-boot-in-Fresh-clause-any_moment g c).After-init_mark
+
+pub returns-in_err-boot-in-Fresh-clause-stands : goal.returns-in_err-boot-in-Fresh-clause-stands
+returns-in_err-boot-in-Fresh-clause-stands g c = λ changes is. stands g (goal.at.returns-in_err-boot-in-Fresh-clause-stands g c).After-find_mark _ changes is (returns-in_err-boot-in-Fresh-clause-any_moment g c is.told)
+
+pub returns-in_err-boot-in-Fresh-clause-started : goal.returns-in_err-boot-in-Fresh-clause-started
+returns-in_err-boot-in-Fresh-clause-started g c = λ changes is.
+    let D = g.D.Disk in
+    let d = c.args.disk.now in
+    let new = c.init_mark.new.disk in
+    let made = c.in_ok-mark-in-Fresh in
+    let told = c.find_mark.ensures.untouched.telling ∙ is.told in
+    let none = none_kept (D.tells d) (D.reads d) (D.may_leave d) changes is (empty g (goal.at.returns-in_err-boot-in-Fresh-clause-started g c).After-init_mark is.told) in
+    let p = err_from_is_err_and c.from_residual-in_err-boot-in-Fresh.result c.from_residual-in_err-boot-in-Fresh.ensures.1 in
+    rw (p.1, p.2) (first_stands (D.tells new) (D.reads new) (D.may_leave new) changes (c.init_mark.ensures.tells ∙ told) none made.ensures.durable made.mark made.ensures.first (made.ensures.valid told))
 
 -- a mark is found
 has : (g : _) (c : After-resume-in-Mark g) → IsTrue (g.D.Disk.tells c.args.disk.now) → HasMark (g.D.Disk.reads c.args.disk.now) c.in-Mark.mark
@@ -82,11 +100,11 @@ has g c told = subst (λ (f : Found). IsFound (g.D.Disk.reads c.args.disk.now) (
 resumed : (g : _) (c : After-resume-in-Mark g) → IsTrue (g.D.Disk.tells c.args.disk.now) → IsStart (g.D.Disk.reads c.args.disk.now) c.resume-in-Mark.result
 resumed g c told =
     let D = g.D.Disk in
-    let found = c.find_mark.ensures in
+    let found = c.find_mark.ensures.untouched in
     let same : D.reads c.find_mark.new.disk ≡ D.reads c.args.disk.now = λ i file. found.same file i in
     let Has : Image → Type 0 = λ r. HasMark r c.in-Mark.mark in
     let Starts : Image → Type 0 = λ r. IsStart r c.resume-in-Mark.result in
-    subst Starts same (c.resume-in-Mark.ensures.answer (found.tells ∙ told) (subst Has (sym same) (has g c told)))
+    subst Starts same (c.resume-in-Mark.ensures.answer (found.telling ∙ told) (subst Has (sym same) (has g c told)))
 
 pub returns-in-Mark-clause-answer : goal.returns-in-Mark-clause-answer
 returns-in-Mark-clause-answer g c = resumed g (goal.at.returns-in-Mark-clause-answer g c).After-resume-in-Mark
@@ -96,11 +114,11 @@ returns-in-Mark-clause-any_moment g c = λ told.
     let D = g.D.Disk in
     let d = c.args.disk.now in
     let mid = c.find_mark.new.disk in
-    let found = c.find_mark.ensures in
+    let found = c.find_mark.ensures.untouched in
     let P = StartLeaves (D.reads d) (D.may_leave d) (D.beside d).told in
     joined D.moment D.left_since d mid c.resume-in-Mark.new.disk P _
-    (weaker D.moment D.left_since d mid _ P found.any_moment (still_left (D.reads d) (D.may_leave d) (D.beside d).told)) c.resume-in-Mark.ensures.any_moment
-    (left_on (D.reads d) (D.may_leave d) (D.beside d).told (D.may_leave mid) (D.beside mid).told (ap (λ (b : Beside). b.told) found.beside) found.crash)
+    (weaker D.moment D.left_since d mid _ P found.any_moment (still_left (D.reads d) (D.may_leave d) (D.beside d).told)) c.resume-in-Mark.ensures.untouched.any_moment
+    (left_on (D.reads d) (D.may_leave d) (D.beside d).told (D.may_leave mid) (D.beside mid).told (ap (λ (b : Beside). b.told) found.rest) found.crash)
 
 pub returns-in-Mark-clause-stands : goal.returns-in-Mark-clause-stands
 returns-in-Mark-clause-stands g c = λ changes is. stands g (goal.at.returns-in-Mark-clause-stands g c).After-find_mark _ changes is (returns-in-Mark-clause-any_moment g c is.told)
@@ -112,9 +130,9 @@ returns-in-Mark-clause-started g c = λ changes is.
     let new = c.resume-in-Mark.new.disk in
     let run = (goal.at.returns-in-Mark-clause-started g c).After-resume-in-Mark in
     let after = c.resume-in-Mark.ensures in
-    let same_reads : D.reads d ≡ D.reads new = λ i file. sym (after.same file ∙ c.find_mark.ensures.same file) i in
-    let same_tells = sym (after.tells ∙ c.find_mark.ensures.tells) in
+    let same_reads : D.reads d ≡ D.reads new = λ i file. sym (after.untouched.same file ∙ c.find_mark.ensures.untouched.same file) i in
+    let same_tells = sym (after.untouched.telling ∙ c.find_mark.ensures.untouched.telling) in
     let P : Bool → Image → Type 0 = λ t r. Started c.resume-in-Mark.result t r (D.may_leave new) changes in
     subst (P (D.tells new)) same_reads (subst (λ t. P t (D.reads d)) same_tells (
-    started_mark (D.tells d) (D.reads d) (D.may_leave d) (D.may_leave new) c.in-Mark.mark changes (has g run is.told) is (λ image left. c.find_mark.ensures.crash image (after.crash image left)) (λ image left. c.in_ok-find_mark.ensures.durable image (after.crash image left))
+    started_mark (D.tells d) (D.reads d) (D.may_leave d) (D.may_leave new) c.in-Mark.mark changes (has g run is.told) is (λ image left. c.find_mark.ensures.untouched.crash image (after.untouched.crash image left)) (λ image left. c.in_ok-find_mark.ensures.durable image (after.untouched.crash image left))
     c.resume-in-Mark.result (resumed g run is.told) after.keeper))
