@@ -1,20 +1,31 @@
 -- What items ask, one by one.
-use Rattle.std.proofs.Common.{◌≡◌, ◌≢◌, ℕ, List, [], ◌∷◌, ◌++◌, refl, sym, ap, ◌∙◌, Option, Some}
-use Rattle.std.specs.Prelude.{None}
+use Rattle.std.proofs.Common.{◌≡◌, ◌≢◌, ℕ, List, [], ◌∷◌, ◌++◌, refl, sym, ap, subst, ◌∙◌, Option, Some}
+use Rattle.std.specs.Prelude.{None, false}
 use Rattle.s80_chunk.specs.declared.item.Item.{Item}
 use Rattle.s80_chunk.specs.declared.item.Item.TheVariants as items
 use Rattle.s80_syntax.specs.declared.fault.ParseFault.{ParseFault}
 use Rattle.s80_syntax.specs.declared.fault.ParseFault.TheVariants as faults
-use Rattle.s80_syntax.specs.Text.{IsFaultOf}
 use Rattle.s80_syntax.proofs.OneReading.{one_fault_of, doit_only_memory}
 use Rattle.s80_grammar.specs.Faults.{IsDoItText}
+use Rattle.s80_tree.specs.Tree.{DoItParts}
+use Rattle.s80_syntax.specs.Text.{IsDoItOf, IsFaultOf}
+use Rattle.s80_chunk.specs.Chunks.{IsPlainText}
+use Rattle.s80_change.specs.declared.change.Change.{Change}
+use Rattle.s80_change.specs.declared.change.Change.TheVariants.{Define, DoIt}
+use Rattle.s80_change.specs.declared.form.Recognised.TheVariants as recognised
+use Rattle.s80_change.specs.Block.{IsNoDefinition}
+use Rattle.s80_change.specs.Definition.{IsNoForm}
+use Rattle.s80_change.specs.Form.{Recognises}
+use Rattle.s80_change.proofs.TextOf.{form_of_text, one_definition_of}
 use Rattle.s80_change.specs.declared.refusal.SyntaxKind.TheVariants as kinds
 use Rattle.s80_change.specs.declared.refusal.Refusal.{Refusal}
 use Rattle.s80_change.specs.declared.refusal.Refusal.TheVariants as refusals
 use Rattle.s80_session.specs.declared.item.SessionItem.{SessionItem}
 use Rattle.s80_session.specs.declared.item.SessionItem.TheVariants.{Chunk, Unended, Query}
-use Rattle.s80_session.specs.Asked.{Ask, refuses, adds, nothing, tells, IsSyntaxRefusal, HasTree, AsksPlain, Asks, AllAsk}
+use Rattle.s80_session.specs.Asked.{Ask, refuses, adds, nothing, tells, IsSyntaxRefusal, HasTree, IsChangeOf, AsksPlain, Asks, AllAsk}
 use Rattle.s80_session.specs.Run.{chunks}
+use Rattle.s80_session.specs.Working.{IsLawfulFor}
+use Rattle.s80_session.proofs.Lawful.{definition_lawful}
 
 pub chunks_more : (given : List Item) (item : Item) → chunks (given ++ item ∷ []) ≡ chunks given ++ Chunk item ∷ []
 chunks_more [] item = refl
@@ -81,11 +92,39 @@ one_refusal text one other h k =
 no_refusal : (text : List ℕ) (refusal : Refusal) → HasTree text → IsSyntaxRefusal text refusal → ⊥
 no_refusal text refusal tree h = let f = fault_behind text refusal h in f.1.no_memory (doit_only_memory text tree.0 f.0 tree.1 f.1.first)
 
+-- the change that a text is has its tree
+tree_of : (text : List ℕ) (change : Change) → IsChangeOf text change → HasTree text
+tree_of text (Define d) h = (h.tree, h.tree_is)
+tree_of text (DoIt own) h = h.1
+
+-- a text is one change
+one_change : (text : List ℕ) (one other : Change) → IsChangeOf text one → IsChangeOf text other → one ≡ other
+one_change text (Define d) (Define other) h k = ap Define (one_definition_of text d other h k)
+one_change text (Define d) (DoIt own) h k = absurd (k.2 d h)
+one_change text (DoIt own) (Define d) h k = absurd (h.2 d k)
+one_change text (DoIt own) (DoIt other) h k = ap DoIt (h.0 ∙ sym k.0)
+
+-- what is recognised by the tree of a text is the change that the text is
+pub change_in : (text : List ℕ) (tree : DoItParts) (change : Change) → IsDoItOf text tree → Recognises tree (recognised.Change change) → IsChangeOf text change
+change_in text tree (Define d) is h = record { tree = tree; tree_is = is; form = h }
+change_in text tree (DoIt own) is h = absurd h
+
+pub doit_in : (text : List ℕ) (tree : DoItParts) → IsDoItOf text tree → IsNoForm tree → IsChangeOf text (DoIt text)
+doit_in text tree is h = (refl, (tree, is), form_of_text text tree is false h)
+
+-- the change of a plain text is lawful, if it is accepted
+pub lawful_for : (changes : List Change) (text : List ℕ) (change : Change) → IsPlainText text → IsChangeOf text change → IsLawfulFor changes change
+lawful_for changes text (Define d) plain is = definition_lawful changes d
+lawful_for changes text (DoIt own) plain is = λ accepted.
+    let P : List ℕ → Type 0 = λ t. IsPlainText t in
+    let Q : List ℕ → Type 0 = λ t. IsNoDefinition t in
+    (subst P (sym is.0) plain, subst Q (sym is.0) is.2)
+
 one_plain : (text : List ℕ) (one other : Ask) → AsksPlain text one → AsksPlain text other → one ≡ other
 one_plain text (refuses refusal) (refuses other) h k = one_refusal text refusal other h k
-one_plain text (refuses refusal) (adds change) h k = absurd (no_refusal text refusal k.1 h)
-one_plain text (adds change) (refuses refusal) h k = absurd (no_refusal text refusal h.1 k)
-one_plain text (adds change) (adds other) h k = ap adds (h.0 ∙ sym k.0)
+one_plain text (refuses refusal) (adds change) h k = absurd (no_refusal text refusal (tree_of text change k) h)
+one_plain text (adds change) (refuses refusal) h k = absurd (no_refusal text refusal (tree_of text change h) k)
+one_plain text (adds change) (adds other) h k = ap adds (one_change text change other h k)
 one_plain text (refuses refusal) nothing h k = absurd k
 one_plain text (refuses refusal) (tells query) h k = absurd k
 one_plain text (adds change) nothing h k = absurd k

@@ -1,5 +1,5 @@
 -- A keeper at work on a disk, and what a crash now leaves of it.
-use Rattle.std.proofs.Common.{inr, List, Bool, ap, ◌∙◌}
+use Rattle.std.proofs.Common.{◌≡◌, inr, List, Bool, sym, ap, subst, ◌∙◌}
 use Rattle.s80_change.specs.declared.change.Change.{Change}
 use Rattle.s80_disk.specs.Image.{Image}
 use Rattle.s80_mark.specs.Mark.{valid_mark}
@@ -14,12 +14,29 @@ module _ (tells : Bool) (reads : Image) (may_leave : Image → Type 0) (keeper :
     no_image = h.no_image;
     named = h.named;
     end = h.end;
+    built = h.built;
+    classes = h.classes;
     count = h.count;
     faultless = h.faultless;
   }
 
+  -- and where a keeper has prepared a change
+  pub keeps_prepared : (now : KeeperState) → now ≡ record keeper { system = now.system } → now.system.classes ≡ keeper.system.classes → Keeps tells reads may_leave keeper changes → Keeps tells reads may_leave now changes
+  keeps_prepared now same classes h =
+      let P : KeeperState → Type 0 = λ k. Keeps tells reads may_leave k changes in
+      subst P (sym same) (record {
+        stands = h.stands;
+        no_image = h.no_image;
+        named = h.named;
+        end = h.end;
+        built = h.built;
+        classes = classes ∙ h.classes;
+        count = h.count;
+        faultless = h.faultless;
+      })
+
   pub keeps_stands : Keeps tells reads may_leave keeper changes → StandsFor tells reads may_leave changes
-  keeps_stands h = record { told = h.stands.told; stands = inr (keeper.mark, h.stands, h.no_image) }
+  keeps_stands h = record { told = h.stands.told; stands = inr (keeper.mark, h.stands, h.no_image, h.built) }
 
   -- every crash now leaves files that stand for its list
   pub keeps_leaves : Keeps tells reads may_leave keeper changes → (c : Image) → may_leave c → FilesStandFor c changes
@@ -35,4 +52,5 @@ module _ (tells : Bool) (reads : Image) (may_leave : Image → Type 0) (keeper :
           bytes = h.stands.log_stays c left ∙ files.bytes;
         },
         h.no_image,
+        h.built,
       )

@@ -4,6 +4,8 @@ pub mod Asking
 pub mod Finishing
 pub mod Keeping
 pub mod Lasting
+pub mod Lawful
 pub mod Stepping
 pub mod Taking
 pub mod UnderWay
+pub mod Telling

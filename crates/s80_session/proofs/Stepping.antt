@@ -6,42 +6,41 @@ use Rattle.s80_chunk.specs.declared.item.Role.{Role}
 use Rattle.s80_chunk.specs.declared.item.Role.TheVariants as roles
 use Rattle.s80_chunk.specs.declared.item.Item.TheVariants as items
 use Rattle.s80_change.specs.declared.change.Change.{Change}
-use Rattle.s80_change.specs.declared.change.Change.TheVariants.{DoIt}
 use Rattle.s80_change.specs.declared.refusal.Refusal.{Refusal}
 use Rattle.s80_disk.specs.Image.{Image}
 use Rattle.s80_disk.specs.Moments.{LeavesOnly}
 use Rattle.s80_disk.proofs.Run.{weaker}
 use Rattle.s80_keeper.specs.Keeper.{KeeperState, Keeps}
 use Rattle.s80_session.specs.declared.reply.Reply.{Reply}
-use Rattle.s80_session.specs.declared.reply.Reply.TheVariants.{Silent, Refused, Recovered}
+use Rattle.s80_session.specs.declared.reply.Reply.TheVariants.{Silent, Refused}
 use Rattle.s80_session.specs.declared.item.SessionItem.{SessionItem}
 use Rattle.s80_session.specs.declared.item.Query.{Query as SessionQuery}
-use Rattle.s80_session.specs.declared.item.Query.TheVariants as queries
 use Rattle.s80_session.specs.declared.item.SessionItem.TheVariants.{Chunk, Query}
 use Rattle.s80_session.specs.declared.end.SessionEnd.{SessionEnd}
 use Rattle.s80_session.specs.declared.end.SessionEnd.TheVariants as ends
 use Rattle.s80_keeper.specs.declared.start.StartFault.{StartFault}
 use Rattle.s80_keeper.specs.declared.start.StartFault.TheVariants as faults
 use Rattle.s80_keeper.specs.Start.{Started}
-use Rattle.s80_keeper.specs.List.{add}
-use Rattle.s80_session.specs.Asked.{Ask, refuses, adds, nothing, tells, IsSyntaxRefusal, HasTree, ask_of_too_long, Asks}
+use Rattle.s80_apply.specs.List.{add}
+use Rattle.s80_session.specs.Told.{told}
+use Rattle.s80_session.specs.Asked.{Ask, refuses, adds, nothing, tells, IsSyntaxRefusal, IsChangeOf, ask_of_too_long, Asks}
 use Rattle.s80_session.specs.Replies.{list_or, reply_to_adding, reply_to, reply_text, is_refused, list_after}
 use Rattle.s80_session.specs.Run.{Shown}
 use Rattle.s80_session.proofs.Keeping.{keeps_less}
 use Rattle.s80_session.specs.Ends.{end_of_start}
 use Rattle.s80_session.specs.Working.{IsAt, Kept, Worked, Stepped, IsPut, AnswerPut, KeepLeaves, WorkLeaves, Starts}
 
--- a text that has a tree is worked by keeping its doIt
-pub worked_plain : (r : Result Reply SessionEnd) (may_leave : Image → Type 0) (now : Shown) (keeper : KeeperState) (changes : List Change) (put text : List ℕ) → HasTree text → Kept r may_leave now keeper changes put (DoIt text) → Worked r may_leave now keeper changes put (Chunk (items.Plain text))
-worked_plain (Ok reply) may_leave now keeper changes put text tree h = (adds (DoIt text), (refl, tree), h.0, h.1)
-worked_plain (Err ends.Memory) may_leave now keeper changes put text tree h = h
-worked_plain (Err (ends.Disk failed)) may_leave now keeper changes put text tree h = h
-worked_plain (Err (ends.Read failed)) may_leave now keeper changes put text tree h = h
-worked_plain (Err (ends.Write failed)) may_leave now keeper changes put text tree h = h
-worked_plain (Err ends.TooLong) may_leave now keeper changes put text tree h = h
-worked_plain (Err (ends.Damaged damage)) may_leave now keeper changes put text tree h = h
+-- a text that is a change is worked by keeping it
+pub worked_plain : (r : Result Reply SessionEnd) (may_leave : Image → Type 0) (now : Shown) (keeper : KeeperState) (changes : List Change) (put text : List ℕ) (change : Change) → IsChangeOf text change → Kept r may_leave now keeper changes put change → Worked r may_leave now keeper changes put (Chunk (items.Plain text))
+worked_plain (Ok reply) may_leave now keeper changes put text change is h = (adds change, is, h.0, h.1)
+worked_plain (Err ends.Memory) may_leave now keeper changes put text change is h = h
+worked_plain (Err (ends.Disk failed)) may_leave now keeper changes put text change is h = h
+worked_plain (Err (ends.Read failed)) may_leave now keeper changes put text change is h = h
+worked_plain (Err (ends.Write failed)) may_leave now keeper changes put text change is h = h
+worked_plain (Err ends.TooLong) may_leave now keeper changes put text change is h = h
+worked_plain (Err (ends.Damaged damage)) may_leave now keeper changes put text change is h = h
 
--- one that has none is refused
+-- one that has no tree is refused
 pub worked_fault : (may_leave : Image → Type 0) (now : Shown) (keeper : KeeperState) (changes : List Change) (put text : List ℕ) (refusal : Refusal) → IsSyntaxRefusal text refusal → IsAt may_leave now keeper changes put → Worked (Ok (Refused refusal)) may_leave now keeper changes put (Chunk (items.Plain text))
 worked_fault may_leave now keeper changes put text refusal is h = (refuses refusal, is, refl, h)
 
@@ -49,22 +48,22 @@ worked_fault may_leave now keeper changes put text refusal is h = (refuses refus
 pub worked_asked : (may_leave : Image → Type 0) (now : Shown) (keeper : KeeperState) (changes : List Change) (put : List ℕ) (item : SessionItem) (ask : Ask) (reply : Reply) → Asks item ask → reply ≡ reply_to changes ask → list_after changes ask ≡ changes → IsAt may_leave now keeper changes put → Worked (Ok reply) may_leave now keeper changes put item
 worked_asked may_leave now keeper changes put item ask reply one is stays h = (ask, one, is, let P : List Change → Type 0 = λ l. IsAt may_leave now keeper l put in subst P (sym stays) h)
 
-pub worked_query : (may_leave : Image → Type 0) (now : Shown) (keeper : KeeperState) (changes : List Change) (put : List ℕ) (query : SessionQuery) (count : ℕ) → count ≡ keeper.count → IsAt may_leave now keeper changes put → Worked (Ok (Recovered count)) may_leave now keeper changes put (Query query)
-worked_query may_leave now keeper changes put queries.Recover count is h = (tells queries.Recover, refl, ap Recovered (is ∙ h.keeps.count), h)
+pub worked_query : (may_leave : Image → Type 0) (now : Shown) (keeper : KeeperState) (changes : List Change) (put : List ℕ) (query : SessionQuery) (reply : Reply) → reply ≡ told keeper.system.classes keeper.count query → IsAt may_leave now keeper changes put → Worked (Ok reply) may_leave now keeper changes put (Query query)
+worked_query may_leave now keeper changes put query reply is h = (tells query, refl, is ∙ (λ i. told (h.keeps.classes i) (h.keeps.count i) query), h)
 
 pub too_long_stays : (changes : List Change) (role : Role) (n : ℕ) → list_after changes (ask_of_too_long role n) ≡ changes
 too_long_stays changes roles.Plain n = refl
 too_long_stays changes roles.Head n = refl
 too_long_stays changes roles.Method n = refl
 
--- what a crash leaves while a doIt is kept
-pub keep_works : (changes : List Change) (put text : List ℕ) (told : ℕ) (c : Image) → HasTree text → KeepLeaves changes put (DoIt text) told c → WorkLeaves changes put (Chunk (items.Plain text)) told c
-keep_works changes put text told c tree (inl h) = inl h
-keep_works changes put text told c tree (inr h) = inr (adds (DoIt text), (refl, tree), h)
+-- what a crash leaves while the change of a text is kept
+keep_works : (changes : List Change) (put text : List ℕ) (change : Change) (told : ℕ) (c : Image) → IsChangeOf text change → KeepLeaves changes put change told c → WorkLeaves changes put (Chunk (items.Plain text)) told c
+keep_works changes put text change told c is (inl h) = inl h
+keep_works changes put text change told c is (inr h) = inr (adds change, is, h)
 
 module _ {D : Type 0} (moment : D → ℕ) (left_since : D → ℕ → ℕ → Image → Type 0) where
-  pub plain_lasts : (old new : D) (changes : List Change) (put text : List ℕ) → HasTree text → LeavesOnly moment left_since old new (KeepLeaves changes put (DoIt text)) → LeavesOnly moment left_since old new (WorkLeaves changes put (Chunk (items.Plain text)))
-  plain_lasts old new changes put text tree run = weaker moment left_since old new (KeepLeaves changes put (DoIt text)) (WorkLeaves changes put (Chunk (items.Plain text))) run (λ told c h. keep_works changes put text told c tree h)
+  pub plain_lasts : (old new : D) (changes : List Change) (put text : List ℕ) (change : Change) → IsChangeOf text change → LeavesOnly moment left_since old new (KeepLeaves changes put change) → LeavesOnly moment left_since old new (WorkLeaves changes put (Chunk (items.Plain text)))
+  plain_lasts old new changes put text change is run = weaker moment left_since old new (KeepLeaves changes put change) (WorkLeaves changes put (Chunk (items.Plain text))) run (λ told c h. keep_works changes put text change told c is h)
 
 -- where the work breaks off, nothing is answered
 pub worked_err : (T : Type 0) (end : SessionEnd) (may_leave : Image → Type 0) (now : Shown) (keeper : KeeperState) (was troubled : Bool) (changes : List Change) (put : List ℕ) (item : SessionItem) → Worked (Err end) may_leave now keeper changes put item → Stepped {T = T} (Err end) may_leave now keeper was troubled changes put item
@@ -113,20 +112,6 @@ answered (Err (ends.Damaged damage)) was_left may_leave mid now keeper was troub
 -- an item that isn't answered
 pub silent : (may_leave : Image → Type 0) (now : Shown) (keeper : KeeperState) (list : List Change) (put : List ℕ) (reply : Reply) → reply ≡ Silent → IsAt may_leave now keeper list put → IsAt may_leave now keeper list (put ++ reply_text reply)
 silent may_leave now keeper list put reply is h = let P : List ℕ → Type 0 = λ l. IsAt may_leave now keeper list l in subst P (sym (append-nil put) ∙ ap (λ r. put ++ reply_text r) (sym is)) h
-
-adding_recovers : (r : Result (List Change) Refusal) (changes : List Change) (count : ℕ) → reply_to_adding r ≡ Recovered count → list_or r changes ≡ changes
-adding_recovers (Ok list) changes count e = cc
-adding_recovers (Err refusal) changes count e = refl
-
--- a query changes nothing
-recovered_stays : (changes : List Change) (ask : Ask) (count : ℕ) → reply_to changes ask ≡ Recovered count → list_after changes ask ≡ changes
-recovered_stays changes (refuses other) count e = refl
-recovered_stays changes (adds change) count e = adding_recovers (add changes change) changes count e
-recovered_stays changes nothing count e = refl
-recovered_stays changes (tells query) count e = refl
-
-pub recovered_is_at : (may_leave : Image → Type 0) (now : Shown) (keeper : KeeperState) (changes : List Change) (put : List ℕ) (ask : Ask) (count : ℕ) → reply_to changes ask ≡ Recovered count → IsAt may_leave now keeper (list_after changes ask) put → IsAt may_leave now keeper changes put
-recovered_is_at may_leave now keeper changes put ask count e h = let P : List Change → Type 0 = λ l. IsAt may_leave now keeper l put in subst P (recovered_stays changes ask count e) h
 
 -- whether something was refused
 pub still_troubled : (was now : Bool) (reply : Reply) → is_refused reply ≡ false → now ≡ was → now ≡ (was || is_refused reply)

@@ -9,7 +9,9 @@ use Rattle.s80_syntax.specs.declared.fault.ParseFault.{ParseFault}
 use Rattle.s80_syntax.specs.declared.fault.ParseFault.TheVariants as faults
 use Rattle.s80_syntax.specs.Text.{IsDoItOf, IsFaultOf}
 use Rattle.s80_change.specs.declared.change.Change.{Change}
-use Rattle.s80_change.specs.declared.change.Change.TheVariants.{DoIt}
+use Rattle.s80_change.specs.declared.change.Change.TheVariants.{Define, DoIt}
+use Rattle.s80_change.specs.Definition.{IsDefinitionOf}
+use Rattle.s80_change.specs.Block.{IsNoDefinition}
 use Rattle.s80_change.specs.declared.refusal.FitWord.TheVariants as fits
 use Rattle.s80_change.specs.declared.refusal.SyntaxKind.{SyntaxKind}
 use Rattle.s80_change.specs.declared.refusal.SyntaxKind.TheVariants as kinds
@@ -41,10 +43,15 @@ IsSyntaxRefusal text _ = ⊥
 abbrev pub HasTree : List ℕ → Type 0
 HasTree text = (tree : DoItParts) × IsDoItOf text tree
 
--- A plain text is added as a doIt, or refused with its first fault.
+-- the change that a text with a tree is: the definition whose form its tree is, or else a doIt
+abbrev pub IsChangeOf : List ℕ → Change → Type 0
+IsChangeOf text (Define d) = IsDefinitionOf text d
+IsChangeOf text (DoIt own) = (own ≡ text) × HasTree text × IsNoDefinition text
+
+-- A plain text is added as the change that it is, or refused with its first fault.
 abbrev pub AsksPlain : List ℕ → Ask → Type 0
 AsksPlain text (refuses refusal) = IsSyntaxRefusal text refusal
-AsksPlain text (adds change) = (change ≡ DoIt text) × HasTree text
+AsksPlain text (adds change) = IsChangeOf text change
 AsksPlain text nothing = ⊥
 AsksPlain text (tells query) = ⊥
 

@@ -1,4 +1,5 @@
 pub mod Asked
+pub mod Told
 pub mod Replies
 pub mod Ending
 pub mod Ends

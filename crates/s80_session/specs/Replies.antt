@@ -1,12 +1,12 @@
 -- The model keeper: what each thing asked changes, and what it is answered.
-use Rattle.std.specs.Prelude.{ℕ, Bool, true, false, ◌||◌, List, [], ◌∷◌, ◌++◌, length, codes, decimal, Result, Ok, Err}
+use Rattle.std.specs.Prelude.{ℕ, Bool, true, false, ◌||◌, List, [], ◌∷◌, ◌++◌, length, codes, Result, Ok, Err}
 use Rattle.s80_change.specs.declared.change.Change.{Change}
 use Rattle.s80_change.specs.declared.refusal.Refusal.{Refusal}
 use Rattle.s80_print.specs.Refusal.{refusal_text}
-use Rattle.s80_keeper.specs.List.{add}
+use Rattle.s80_apply.specs.List.{classes_of, add}
 use Rattle.s80_session.specs.declared.reply.Reply.{Reply}
-use Rattle.s80_session.specs.declared.reply.Reply.TheVariants.{Silent, Accepted, Refused, Recovered}
-use Rattle.s80_session.specs.declared.item.Query.TheVariants as queries
+use Rattle.s80_session.specs.declared.reply.Reply.TheVariants.{Silent, Accepted, Refused, Told}
+use Rattle.s80_session.specs.Told.{told}
 use Rattle.s80_session.specs.Asked.{Ask, refuses, adds, nothing, tells}
 
 abbrev pub reply_to_adding : Result (List Change) Refusal → Reply
@@ -22,7 +22,7 @@ abbrev pub reply_to : List Change → Ask → Reply
 reply_to changes (refuses refusal) = Refused refusal
 reply_to changes (adds change) = reply_to_adding (add changes change)
 reply_to changes nothing = Silent
-reply_to changes (tells queries.Recover) = Recovered (length changes)
+reply_to changes (tells query) = told (classes_of changes) (length changes) query
 
 -- the list of changes afterwards
 abbrev pub list_after : List Change → Ask → List Change
@@ -31,22 +31,18 @@ list_after changes (adds change) = list_or (add changes change) changes
 list_after changes nothing = changes
 list_after changes (tells query) = changes
 
--- the line that says how many changes are kept. They define no class and no method yet.
-abbrev pub recovered_line : ℕ → List ℕ
-recovered_line count = (codes "recovered " ++ decimal count) ++ (codes " changes, 0 classes, 0 methods" ++ 10 ∷ [])
-
--- a reply as it is written: a line, or nothing
+-- a reply as it is written: a line, lines, or nothing
 abbrev pub reply_text : Reply → List ℕ
 reply_text Silent = []
 reply_text Accepted = codes "ok" ++ 10 ∷ []
 reply_text (Refused refusal) = refusal_text refusal ++ 10 ∷ []
-reply_text (Recovered count) = recovered_line count
+reply_text (Told text) = text
 
 abbrev pub is_refused : Reply → Bool
 is_refused Silent = false
 is_refused Accepted = false
 is_refused (Refused refusal) = true
-is_refused (Recovered count) = false
+is_refused (Told text) = false
 
 -- the replies to what is asked one after another, and the list of changes after all of it
 abbrev pub replies : List Change → List Ask → List ℕ

@@ -4,7 +4,9 @@ use Rattle.s80_chunk.specs.declared.item.Item.{Item}
 use Rattle.s80_chunk.specs.Chunks.{Reads, IsSound}
 use Rattle.s80_chunk.specs.Held.{Held, HasRead, HoldsNoMore}
 use Rattle.s80_change.specs.declared.change.Change.{Change}
-use Rattle.s80_keeper.specs.List.{add}
+use Rattle.s80_change.specs.Block.{IsLawful}
+use Rattle.s80_apply.specs.Accept.{accept}
+use Rattle.s80_apply.specs.List.{IsAccepted, classes_of, add}
 use Rattle.s80_keeper.specs.Keeper.{KeeperState, Keeps}
 use Rattle.s80_disk.specs.Image.{Image}
 use Rattle.s80_keeper.specs.Standing.{FilesStandFor}
@@ -45,6 +47,10 @@ abbrev pub AnswerPut : {T : Type 0} → Result T SessionEnd → Option (List ℕ
 AnswerPut (Ok done) taken told put line = IsPut taken told (put ++ line)
 AnswerPut (Err (ends.Write failed)) taken told put line = (count : ℕ) × IsPut taken told (put ++ take count line)
 AnswerPut (Err _) taken told put line = ⊥
+
+-- the change is lawful, if the list accepts it
+abbrev pub IsLawfulFor : List Change → Change → Type 0
+IsLawfulFor changes change = IsAccepted (accept change (classes_of changes)) → IsLawful change
 
 -- after a change was to be kept
 abbrev pub Kept : Result Reply SessionEnd → (Image → Type 0) → Shown → KeeperState → List Change → List ℕ → Change → Type 0
@@ -173,7 +179,7 @@ Starts (Err ends.TooLong) may_leave now changes put = ⊥
 
 -- what the files call for at the start
 abbrev pub IsSessionStart : Image → Result Session SessionEnd → Type 0
-IsSessionStart files (Ok session) = (changes : List Change) × FilesStandFor files changes × ((keeper_of session).count ≡ length changes)
+IsSessionStart files (Ok session) = (changes : List Change) × FilesStandFor files changes × ((keeper_of session).system.classes ≡ classes_of changes) × ((keeper_of session).count ≡ length changes)
 IsSessionStart files (Err (ends.Damaged damage)) = IsDamage files damage
 IsSessionStart files (Err ends.Memory) = Unit {0}
 IsSessionStart files (Err (ends.Disk failed)) = Unit {0}

@@ -9,6 +9,7 @@ mod outside;
 mod reply;
 mod session;
 mod syntax;
+mod told;
 
 pub use end::SessionEnd;
 pub use item::{Query, SessionItem};

@@ -11,7 +11,8 @@ ghost use Rattle.s80_mark.specs.Found.{longer_log};
 ghost use Rattle.s80_keeper.specs.Keeper.{Keeps};
 ghost use Rattle.s80_keeper.specs.Standing.{ReadsFor, StandsFor, LeavesEither};
 ghost use Rattle.s80_keeper.specs.Start.{IsStart, Started, IfStartDisk};
-ghost use Rattle.s80_keeper.specs.Answers.{after_keeping, Kept, IfKeepDisk};
+ghost use Rattle.s80_keeper.specs.Answers.{after_keeping, IsFor, Kept, IfKeepDisk};
+ghost use Rattle.s80_apply.specs.System.{IsReady};
 ghost use Rattle.s80_session.specs.Ending.{faults};
 ghost use Rattle.s80_session.specs.Putting.{IsAsBefore, PutsFront};
 ghost use Rattle.s80_session.specs.Run.{shown, HasKept};
@@ -47,17 +48,18 @@ pub(crate) fn keep_change<O: Outside>(
     outside: &mut O,
     prepared: Prepared,
 ) -> Result<u64, KeepFault>
-    ensures after { keeper.new ≡ after_keeping result (length (block prepared)) keeper.old }
+    requires { IsReady keeper.old.system prepared.step }
+    ensures after { keeper.new ≡ after_keeping result prepared keeper.old }
     ensures kept { (changes : List Change)
-        → Keeps (O.tells outside.old) (O.reads outside.old) (O.may_leave outside.old) keeper.old changes → IsLawful prepared
-        → Kept result (O.tells outside.new) (O.reads outside.new) (O.may_leave outside.new) keeper.new changes prepared }
+        → Keeps (O.tells outside.old) (O.reads outside.old) (O.may_leave outside.old) keeper.old changes → IsLawful prepared.change → IsFor keeper.old.system prepared
+        → Kept result (O.tells outside.new) (O.reads outside.new) (O.may_leave outside.new) keeper.new changes prepared.change }
     ensures any_moment { (changes : List Change)
-        → Keeps (O.tells outside.old) (O.reads outside.old) (O.may_leave outside.old) keeper.old changes → IsLawful prepared
+        → Keeps (O.tells outside.old) (O.reads outside.old) (O.may_leave outside.old) keeper.old changes → IsLawful prepared.change → IsFor keeper.old.system prepared
         → LeavesOnly O.moment O.left_since outside.old outside.new
-        (LeavesEither (O.told outside.old) changes (changes ++ prepared ∷ [])) }
+        (LeavesEither (O.told outside.old) changes (changes ++ prepared.change ∷ [])) }
     ensures closed { (failed : Failed) → (result ≡ Err (KeepFault.Closed failed)) ↔ (keeper.old.fault ≡ Some failed) }
     ensures full { (n : ℕ) → (result ≡ Err (KeepFault.Full n))
-        ↔ ((keeper.old.fault ≡ None) × (n ≡ keeper.old.log.end) × (log_limit < keeper.old.log.end + length (block prepared))) }
+        ↔ ((keeper.old.fault ≡ None) × (n ≡ keeper.old.log.end) × (log_limit < keeper.old.log.end + length (block prepared.change))) }
     ensures shown { shown O.tells O.reads O.left O.taken O.told outside.new
         ≡ record (shown O.tells O.reads O.left O.taken O.told outside.old) { files = O.reads outside.new } }
     ensures faults { faults O.read_faults O.write_faults O.disk_faults outside.new

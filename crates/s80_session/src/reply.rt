@@ -1,7 +1,6 @@
 // What an item is answered, and how that is written.
 ghost use Rattle.std.specs.Prelude.{◌≡◌, ◌++◌, ◌∷◌, [], IfOk};
 ghost use Rattle.s80_print.specs.Refusal.{refusal_text};
-ghost use Rattle.s80_session.specs.Replies.{recovered_line};
 
 use s80_base::{OutOfMemory, Text};
 use s80_change::Refusal;
@@ -16,8 +15,8 @@ pub enum Reply {
     /// The change was kept.
     Accepted,
     Refused(Refusal),
-    /// So many changes are kept.
-    Recovered(u64),
+    /// These lines.
+    Told(Text),
 }
 
 /// The line that answers a refused item.
@@ -26,15 +25,5 @@ pub(crate) fn refusal_line(alloc: Global, refusal: &Refusal) -> Result<Text, Out
 {
     let mut line = refusal_text(alloc, refusal)?;
     line.append(b"\n")?;
-    Ok(line)
-}
-
-/// The line that says how many changes are kept.
-pub(crate) fn recovered_line(alloc: Global, count: u64) -> Result<Text, OutOfMemory>
-    ensures { IfOk result (λ line. line ≡ recovered_line count) }
-{
-    let front = format!(in alloc; "recovered {count}")?;
-    let mut line = Text::from_bytes(alloc, front.as_bytes())?;
-    line.append(b" changes, 0 classes, 0 methods\n")?;
     Ok(line)
 }

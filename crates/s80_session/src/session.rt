@@ -6,22 +6,25 @@ ghost use Rattle.s80_disk.specs.Moments.{LeavesOnly};
 ghost use Rattle.s80_mark.specs.Found.{longer_log};
 ghost use Rattle.s80_keeper.specs.Standing.{FilesStandFor, ReadsFor, StandsFor};
 ghost use Rattle.s80_session.specs.Ending.{faults, Counts, NoFewer, StartsForReason};
-ghost use Rattle.s80_session.specs.Asked.{ask_of_too_long};
+ghost use Rattle.s80_tree.specs.Tree.{doit_of};
+ghost use Rattle.s80_syntax.specs.Text.{IsDoItOf};
+ghost use Rattle.s80_session.specs.Asked.{ask_of_too_long, IsChangeOf};
 ghost use Rattle.s80_session.specs.Replies.{reply_to};
 ghost use Rattle.s80_session.specs.Run.{shown, HasKept};
 ghost use Rattle.s80_session.specs.Working.{AnswerPut};
 
 use crate::end::SessionEnd;
-use crate::item::{Query, SessionItem};
+use crate::item::SessionItem;
 use crate::outside::{keep_change, put_all, start_keeper};
-use crate::reply::{Reply, recovered_line, refusal_line};
+use crate::reply::{Reply, refusal_line};
 use crate::syntax::refusal_of;
-use s80_base::Text;
-use s80_change::{Change, FitWord, Refusal, Refused};
-use s80_chunk::{Item, Role};
+use crate::told::tell;
+use s80_base::{OutOfMemory, Text};
+use s80_change::{Change, FitWord, Recognised, Refusal, Refused, recognise};
+use s80_chunk::{Item, LONGEST, Role};
 use s80_disk::Outside;
 use s80_keeper::{KeepFault, Keeper};
-use s80_syntax::parse_doit;
+use s80_syntax::{DoItTree, parse_doit};
 use std::alloc::Global;
 
 /// A session at work on a folder.
@@ -33,10 +36,9 @@ pub struct Session {
 }
 
 impl Session {
-    ghost use Rattle.s80_change.specs.Block.{IsLawful};
     ghost use Rattle.s80_chunk.specs.Chunks.{IsPlainText};
     ghost use Rattle.s80_session.specs.Session.{keeper_of, troubled_of, IsFaultless};
-    ghost use Rattle.s80_session.specs.Working.{IsAt, IsReadable, IsSessionStart, Kept, KeepLeaves, Starts, Worked, WorkLeaves, Stepped, StepLeaves};
+    ghost use Rattle.s80_session.specs.Working.{IsAt, IsLawfulFor, IsReadable, IsSessionStart, Kept, KeepLeaves, Starts, Worked, WorkLeaves, Stepped, StepLeaves};
 
     /// A session on the folder that was attached.
     pub fn start<O: Outside>(alloc: Global, outside: &mut O) -> Result<Session, SessionEnd>
@@ -81,13 +83,12 @@ impl Session {
         outside: &mut O,
     ) -> Result<(), SessionEnd>
         requires faultless { IsFaultless self.old }
-        requires readable { IsReadable item }
-        ensures stepped { (changes : List Change) (put : List ℕ)
+        ensures stepped { (changes : List Change) (put : List ℕ) → IsReadable item
             → IsAt (O.may_leave outside.old)
             (shown O.tells O.reads O.left O.taken O.told outside.old) (keeper_of self.old) changes put
             → Stepped result (O.may_leave outside.new)
             (shown O.tells O.reads O.left O.taken O.told outside.new) (keeper_of self.new) (troubled_of self.old) (troubled_of self.new) changes put item }
-        ensures any_moment { (changes : List Change) (put : List ℕ)
+        ensures any_moment { (changes : List Change) (put : List ℕ) → IsReadable item
             → IsAt (O.may_leave outside.old)
             (shown O.tells O.reads O.left O.taken O.told outside.old) (keeper_of self.old) changes put
             → LeavesOnly O.moment O.left_since outside.old outside.new (StepLeaves changes put item) }
@@ -104,10 +105,7 @@ impl Session {
                 let line = refusal_line(alloc, &refusal)?;
                 answer(outside, line.bytes())
             }
-            Reply::Recovered(count) => {
-                let line = recovered_line(alloc, count)?;
-                answer(outside, line.bytes())
-            }
+            Reply::Told(text) => answer(outside, text.bytes()),
         }
     }
 
@@ -119,13 +117,12 @@ impl Session {
         outside: &mut O,
     ) -> Result<Reply, SessionEnd>
         requires faultless { IsFaultless self.old }
-        requires readable { IsReadable item }
-        ensures worked { (changes : List Change) (put : List ℕ)
+        ensures worked { (changes : List Change) (put : List ℕ) → IsReadable item
             → IsAt (O.may_leave outside.old)
             (shown O.tells O.reads O.left O.taken O.told outside.old) (keeper_of self.old) changes put
             → Worked result (O.may_leave outside.new)
             (shown O.tells O.reads O.left O.taken O.told outside.new) (keeper_of self.new) changes put item }
-        ensures any_moment { (changes : List Change) (put : List ℕ)
+        ensures any_moment { (changes : List Change) (put : List ℕ) → IsReadable item
             → IsAt (O.may_leave outside.old)
             (shown O.tells O.reads O.left O.taken O.told outside.old) (keeper_of self.old) changes put
             → LeavesOnly O.moment O.left_since outside.old outside.new (WorkLeaves changes put item) }
@@ -136,30 +133,29 @@ impl Session {
             (faults O.read_faults O.write_faults O.disk_faults outside.new) result }
     {
         match item {
-            SessionItem::Chunk(Item::Plain(text)) => self.keep_doit(alloc, text, outside),
+            SessionItem::Chunk(Item::Plain(text)) => self.keep_text(alloc, text, outside),
             SessionItem::Chunk(Item::Head(text)) => Ok(Reply::Refused(Refusal::NoSection(text))),
             SessionItem::Chunk(Item::Method(_) | Item::SectionEnd) => Ok(Reply::Silent),
             SessionItem::Chunk(Item::TooLong { role, length }) => Ok(too_long_reply(role, length)),
             SessionItem::Unended => Ok(Reply::Refused(Refusal::Unended)),
-            SessionItem::Query(Query::Recover) => Ok(Reply::Recovered(self.keeper.count())),
+            SessionItem::Query(query) => Ok(tell(alloc, &self.keeper, &query)?),
         }
     }
 
-    /// Keeps a text that has a tree as a doIt, and refuses every other one with its first fault.
-    fn keep_doit<O: Outside>(
+    /// Keeps the change that a text with a tree is, and refuses every other text: one that is too long, or has no tree.
+    fn keep_text<O: Outside>(
         &mut self,
         alloc: Global,
         text: Text,
         outside: &mut O,
     ) -> Result<Reply, SessionEnd>
         requires faultless { IsFaultless self.old }
-        requires plain { IsPlainText text }
-        ensures worked { (changes : List Change) (put : List ℕ)
+        ensures worked { (changes : List Change) (put : List ℕ) → IsPlainText text
             → IsAt (O.may_leave outside.old)
             (shown O.tells O.reads O.left O.taken O.told outside.old) (keeper_of self.old) changes put
             → Worked result (O.may_leave outside.new)
             (shown O.tells O.reads O.left O.taken O.told outside.new) (keeper_of self.new) changes put (SessionItem.Chunk (Item.Plain text)) }
-        ensures any_moment { (changes : List Change) (put : List ℕ)
+        ensures any_moment { (changes : List Change) (put : List ℕ) → IsPlainText text
             → IsAt (O.may_leave outside.old)
             (shown O.tells O.reads O.left O.taken O.told outside.old) (keeper_of self.old) changes put
             → LeavesOnly O.moment O.left_since outside.old outside.new (WorkLeaves changes put (SessionItem.Chunk (Item.Plain text))) }
@@ -169,8 +165,16 @@ impl Session {
         ensures counts { Counts (faults O.read_faults O.write_faults O.disk_faults outside.old)
             (faults O.read_faults O.write_faults O.disk_faults outside.new) result }
     {
+        let length = text.bytes().len();
+        if length > LONGEST {
+            let refusal = Refusal::TooLarge(FitWord::Chunk, length as u64);
+            return Ok(Reply::Refused(refusal));
+        }
         match parse_doit(alloc, &text) {
-            Ok(_) => self.keep(alloc, Change::DoIt { text }, outside),
+            Ok(tree) => {
+                let change = change_of(alloc, tree, text)?;
+                self.keep(alloc, change, outside)
+            }
             Err(fault) => Ok(Reply::Refused(refusal_of(fault)?)),
         }
     }
@@ -183,12 +187,12 @@ impl Session {
         outside: &mut O,
     ) -> Result<Reply, SessionEnd>
         requires faultless { IsFaultless self.old }
-        ensures kept { (changes : List Change) (put : List ℕ) → IsLawful change
+        ensures kept { (changes : List Change) (put : List ℕ) → IsLawfulFor changes change
             → IsAt (O.may_leave outside.old)
             (shown O.tells O.reads O.left O.taken O.told outside.old) (keeper_of self.old) changes put
             → Kept result (O.may_leave outside.new)
             (shown O.tells O.reads O.left O.taken O.told outside.new) (keeper_of self.new) changes put change }
-        ensures any_moment { (changes : List Change) (put : List ℕ) → IsLawful change
+        ensures any_moment { (changes : List Change) (put : List ℕ) → IsLawfulFor changes change
             → IsAt (O.may_leave outside.old)
             (shown O.tells O.reads O.left O.taken O.told outside.old) (keeper_of self.old) changes put
             → LeavesOnly O.moment O.left_since outside.old outside.new (KeepLeaves changes put change) }
@@ -209,6 +213,16 @@ impl Session {
             Err(KeepFault::Closed(failed)) => Err(SessionEnd::Disk(failed)),
             Err(KeepFault::Full(length)) => Ok(Reply::Refused(Refusal::LogFull(length))),
         }
+    }
+}
+
+/// The change that a text with this tree is: the definition whose form the tree is, or else a doIt.
+fn change_of(alloc: Global, tree: DoItTree, text: Text) -> Result<Change, OutOfMemory>
+    ensures { IsDoItOf text (doit_of tree) → IfOk result (IsChangeOf text) }
+{
+    match recognise(alloc, &tree)? {
+        Recognised::Change(change) => Ok(change),
+        Recognised::Evaluate => Ok(Change::DoIt { text }),
     }
 }
 

@@ -1,6 +1,5 @@
 // A session over an outside in memory, with ample memory.
 ghost use Rattle.std.specs.Prelude.{◌≡◌, IfOk};
-ghost use Rattle.s80_chunk.specs.Chunks.{IsPlainText};
 ghost use Rattle.s80_disk.specs.Memory.{told_by};
 
 use crate::{Query, Session, SessionEnd, SessionItem, put_all};
@@ -61,9 +60,7 @@ fn items_are_answered_one_by_one(rt: HostRuntime) -> Result<(), Fail> {
 }
 
 /// What a session answers to a plain text.
-fn answer_to(alloc: Global, text: &[u8]) -> Result<Vec<u8>, Fail>
-    requires { IsPlainText text.now }
-{
+fn answer_to(alloc: Global, text: &[u8]) -> Result<Vec<u8>, Fail> {
     let mut outside = outside_of(alloc, new_disk(alloc, FaultPlan::Never)?, b"")?;
     let mut session = Session::start(alloc, &mut outside)?;
     let item = Item::Plain(Text::from_bytes(alloc, text)?);
@@ -102,6 +99,259 @@ fn a_text_without_a_tree_is_refused_with_its_first_fault(rt: HostRuntime) -> Res
     );
     let nested = answer_to(alloc, &[b'('; 65])?;
     assert_eq!(rt; nested.as_slice(), b"refused 2 nested at 64\n".as_slice());
+    Ok(())
+}
+
+/// A string of so many digits that doesn't end.
+fn unended_string(alloc: Global, count: usize) -> Result<Text, OutOfMemory> {
+    let digits = vec![in alloc; b'1'; count]?;
+    let mut text = Text::from_bytes(alloc, b"'")?;
+    text.append(digits.as_slice())?;
+    Ok(text)
+}
+
+#[test]
+fn a_text_that_is_too_long_is_refused_before_it_is_parsed(rt: HostRuntime) -> Result<(), Fail> {
+    let alloc = rt.alloc();
+    let longest = answer_to(alloc, unended_string(alloc, 65_534)?.bytes())?;
+    assert_eq!(rt;
+        longest.as_slice(),
+        b"refused 2 unended-token at 0\n".as_slice()
+    );
+    let too_long = answer_to(alloc, unended_string(alloc, 65_535)?.bytes())?;
+    assert_eq!(rt;
+        too_long.as_slice(),
+        b"refused 3 too large chunk 65536\n".as_slice()
+    );
+    Ok(())
+}
+
+/// What a session answers to an input and then to a query.
+fn answers(alloc: Global, input: &[u8], query: Query) -> Result<Vec<u8>, Fail> {
+    let mut outside = outside_of(alloc, new_disk(alloc, FaultPlan::Never)?, input)?;
+    let mut session = Session::start(alloc, &mut outside)?;
+    session.run_items(alloc, &mut outside)?;
+    session.step(alloc, SessionItem::Query(query), &mut outside)?;
+    let (_disk, _source, sink) = outside.parts();
+    Ok(sink.bytes().to_vec(alloc)?)
+}
+
+/// What a session answers to an input and then to `browse` with this name.
+fn browsed(alloc: Global, input: &[u8], name: &[u8]) -> Result<Vec<u8>, Fail> {
+    answers(alloc, input, Query::Browse(Text::from_bytes(alloc, name)?))
+}
+
+#[test]
+fn a_definition_is_browsed_line_by_line(rt: HostRuntime) -> Result<(), Fail> {
+    let alloc = rt.alloc();
+    let account = browsed(
+        alloc,
+        b"Object subclass: #Account\n\tinstanceVariableNames: 'balance '\n\tclassVariableNames: ''\n\tpoolDictionaries: ''\n\tcategory: 'Bank'!\n",
+        b"Account",
+    )?;
+    assert_eq!(rt;
+        account.as_slice(),
+        b"ok\nObject subclass: #Account\n\tinstanceVariableNames: 'balance'\n\tclassVariableNames: ''\n\tpoolDictionaries: ''\n\tcategory: 'Bank'\ncomment: ''\nclass instanceVariableNames: ''\n".as_slice()
+    );
+    let marked = browsed(
+        alloc,
+        b"Magnitude variableByteSubclass: #Name instanceVariableNames: '' classVariableNames: 'Most Least' poolDictionaries: '\tPool ' category: 'Bob''s!! names'!",
+        b"Name",
+    )?;
+    assert_eq!(rt;
+        marked.as_slice(),
+        b"ok\nMagnitude variableByteSubclass: #Name\n\tinstanceVariableNames: ''\n\tclassVariableNames: 'Most Least'\n\tpoolDictionaries: 'Pool'\n\tcategory: 'Bob''s! names'\ncomment: ''\nclass instanceVariableNames: ''\n".as_slice()
+    );
+    Ok(())
+}
+
+#[test]
+fn a_class_is_browsed_as_it_was_defined_last(rt: HostRuntime) -> Result<(), Fail> {
+    let alloc = rt.alloc();
+    let words = browsed(
+        alloc,
+        b"Object subclass: #A instanceVariableNames: 'a' classVariableNames: 'B' poolDictionaries: 'C' category: 'D'! Boolean variableWordSubclass: #A instanceVariableNames: '' classVariableNames: '' poolDictionaries: '' category: ''!",
+        b"A",
+    )?;
+    assert_eq!(rt;
+        words.as_slice(),
+        b"ok\nok\nBoolean variableWordSubclass: #A\n\tinstanceVariableNames: ''\n\tclassVariableNames: ''\n\tpoolDictionaries: ''\n\tcategory: ''\ncomment: ''\nclass instanceVariableNames: ''\n".as_slice()
+    );
+    Ok(())
+}
+
+#[test]
+fn classes_of_the_kernel_are_browsed(rt: HostRuntime) -> Result<(), Fail> {
+    let alloc = rt.alloc();
+    let object = browsed(alloc, b"", b"Object")?;
+    assert_eq!(rt;
+        object.as_slice(),
+        b"nil subclass: #Object\n\tinstanceVariableNames: ''\n\tclassVariableNames: ''\n\tpoolDictionaries: ''\n\tcategory: 'Kernel'\ncomment: ''\nclass instanceVariableNames: ''\n".as_slice()
+    );
+    let array = browsed(alloc, b"", b"Array")?;
+    assert_eq!(rt;
+        array.as_slice(),
+        b"ArrayedCollection variableSubclass: #Array\n\tinstanceVariableNames: ''\n\tclassVariableNames: ''\n\tpoolDictionaries: ''\n\tcategory: 'Kernel'\ncomment: ''\nclass instanceVariableNames: ''\n".as_slice()
+    );
+    let message = browsed(alloc, b"", b"Message")?;
+    assert_eq!(rt;
+        message.as_slice(),
+        b"Object subclass: #Message\n\tinstanceVariableNames: 'selector args'\n\tclassVariableNames: ''\n\tpoolDictionaries: ''\n\tcategory: 'Kernel'\ncomment: ''\nclass instanceVariableNames: ''\n".as_slice()
+    );
+    Ok(())
+}
+
+#[test]
+fn a_name_without_a_class_is_not_browsed(rt: HostRuntime) -> Result<(), Fail> {
+    let alloc = rt.alloc();
+    let rows: [(&[u8], &[u8]); 8] = [
+        (b"Nobody", b"refused 4 unknown class Nobody\n"),
+        (b"object", b"refused 4 unknown class object\n"),
+        (b"Smalltalk", b"refused 4 unknown class Smalltalk\n"),
+        (b"3x", b"refused 9 bad name 3x\n"),
+        (b"self", b"refused 9 bad name self\n"),
+        (b"Object class", b"refused 9 bad name Object class\n"),
+        (b"Object ", b"refused 9 bad name Object \n"),
+        (b"", b"refused 9 bad name \n"),
+    ];
+    for (name, wanted) in rows {
+        let found = browsed(alloc, b"", name)?;
+        assert_eq!(rt; found.as_slice(), wanted);
+    }
+    Ok(())
+}
+
+#[test]
+fn classes_stand_in_byte_order(rt: HostRuntime) -> Result<(), Fail> {
+    let alloc = rt.alloc();
+    let found = answers(
+        alloc,
+        b"Object subclass: #Zoo instanceVariableNames: '' classVariableNames: '' poolDictionaries: '' category: ''! Zoo subclass: #Account instanceVariableNames: '' classVariableNames: '' poolDictionaries: '' category: ''! Object subclass: #Objects instanceVariableNames: '' classVariableNames: '' poolDictionaries: '' category: ''!",
+        Query::Classes,
+    )?;
+    assert_eq!(rt;
+        found.as_slice(),
+        b"ok\nok\nok\nAccount\nArray\nArrayedCollection\nBehavior\nBlockContext\nBoolean\nCharacter\nClass\nCollection\nContextPart\nFalse\nFloat\nInteger\nLargeNegativeInteger\nLargePositiveInteger\nMagnitude\nMessage\nMetaclass\nMethodContext\nNumber\nObject\nObjects\nSequenceableCollection\nSmallInteger\nString\nSymbol\nSystemDictionary\nTextCollector\nTrue\nUndefinedObject\nZoo\n".as_slice()
+    );
+    Ok(())
+}
+
+/// Adds a definition as a chunk.
+fn add_definition(
+    input: &mut Text,
+    superclass: &[u8],
+    class_name: &[u8],
+    inst_vars: &[u8],
+) -> Result<(), OutOfMemory> {
+    input.append(superclass)?;
+    input.append(b" subclass: #")?;
+    input.append(class_name)?;
+    input.append(b" instanceVariableNames: '")?;
+    input.append(inst_vars)?;
+    input.append(b"' classVariableNames: '' poolDictionaries: '' category: 'Bank'!")
+}
+
+/// What a session that has the class Account answers to a definition, and how much it then has.
+fn answers_to_definition(
+    alloc: Global,
+    superclass: &[u8],
+    class_name: &[u8],
+    inst_vars: &[u8],
+) -> Result<Vec<u8>, Fail> {
+    let mut input = Text::empty(alloc);
+    add_definition(&mut input, b"Object", b"Account", b"balance")?;
+    add_definition(&mut input, superclass, class_name, inst_vars)?;
+    answers(alloc, input.bytes(), Query::Recover)
+}
+
+#[test]
+fn a_definition_is_refused_with_its_first_reason(rt: HostRuntime) -> Result<(), Fail> {
+    let alloc = rt.alloc();
+    let unknown = answers_to_definition(alloc, b"Nobody", b"Savings", b"rate")?;
+    assert_eq!(rt;
+        unknown.as_slice(),
+        b"ok\nrefused 4 unknown class Nobody\nrecovered 1 changes, 1 classes, 0 methods\n".as_slice()
+    );
+    let kernel = answers_to_definition(alloc, b"Account", b"Integer", b"rate")?;
+    assert_eq!(rt;
+        kernel.as_slice(),
+        b"ok\nrefused 5 kernel class Integer\nrecovered 1 changes, 1 classes, 0 methods\n".as_slice()
+    );
+    let cycle = answers_to_definition(alloc, b"Account", b"Account", b"rate")?;
+    assert_eq!(rt;
+        cycle.as_slice(),
+        b"ok\nrefused 7 cycle Account\nrecovered 1 changes, 1 classes, 0 methods\n".as_slice()
+    );
+    let duplicate = answers_to_definition(alloc, b"Account", b"Savings", b"rate due rate")?;
+    assert_eq!(rt;
+        duplicate.as_slice(),
+        b"ok\nrefused 8 duplicate rate\nrecovered 1 changes, 1 classes, 0 methods\n".as_slice()
+    );
+    let bad_name = answers_to_definition(alloc, b"Nobody", b"savings", b"rate")?;
+    assert_eq!(rt;
+        bad_name.as_slice(),
+        b"ok\nrefused 9 bad name savings\nrecovered 1 changes, 1 classes, 0 methods\n".as_slice()
+    );
+    let too_many = answers_to_definition(alloc, b"String", b"Savings", b"rate due")?;
+    assert_eq!(rt;
+        too_many.as_slice(),
+        b"ok\nrefused 11 too many bits variables 2\nrecovered 1 changes, 1 classes, 0 methods\n".as_slice()
+    );
+    let accepted = answers_to_definition(alloc, b"Account", b"Savings", b"rate due")?;
+    assert_eq!(rt;
+        accepted.as_slice(),
+        b"ok\nok\nrecovered 2 changes, 2 classes, 0 methods\n".as_slice()
+    );
+    Ok(())
+}
+
+#[test]
+fn every_other_expression_is_kept_as_a_doit(rt: HostRuntime) -> Result<(), Fail> {
+    let alloc = rt.alloc();
+    let returned = answers(
+        alloc,
+        b"^Object subclass: #A instanceVariableNames: '' classVariableNames: '' poolDictionaries: '' category: ''! (Object subclass: #A instanceVariableNames: '' classVariableNames: '' poolDictionaries: '' category: '')! nil subclass: #A instanceVariableNames: '' classVariableNames: '' poolDictionaries: '' category: ''!",
+        Query::Recover,
+    )?;
+    assert_eq!(rt;
+        returned.as_slice(),
+        b"ok\nok\nok\nrecovered 3 changes, 0 classes, 0 methods\n".as_slice()
+    );
+    let others = answers(
+        alloc,
+        b"Object subclass: #A! Object subclass: 'A' instanceVariableNames: '' classVariableNames: '' poolDictionaries: '' category: ''! Object comment: 'c'! Object removeSelector: #halt! 'a'! \"a\"!",
+        Query::Recover,
+    )?;
+    assert_eq!(rt;
+        others.as_slice(),
+        b"ok\nok\nok\nok\nok\nok\nrecovered 6 changes, 0 classes, 0 methods\n".as_slice()
+    );
+    Ok(())
+}
+
+#[test]
+fn a_definition_is_kept_or_refused(rt: HostRuntime) -> Result<(), Fail> {
+    let alloc = rt.alloc();
+    let mut outside = outside_of(alloc, new_disk(alloc, FaultPlan::Never)?, b"")?;
+    let mut session = Session::start(alloc, &mut outside)?;
+    let account = Item::Plain(Text::from_bytes(
+        alloc,
+        b"Object subclass: #Account instanceVariableNames: 'balance ' classVariableNames: '' poolDictionaries: '' category: 'Bank'",
+    )?);
+    session.step(alloc, SessionItem::Chunk(account), &mut outside)?;
+    assert!(rt; !session.troubled());
+    let array = Item::Plain(Text::from_bytes(
+        alloc,
+        b"Object subclass: #Array instanceVariableNames: 'balance ' classVariableNames: '' poolDictionaries: '' category: 'Bank'",
+    )?);
+    session.step(alloc, SessionItem::Chunk(array), &mut outside)?;
+    assert!(rt; session.troubled());
+    session.step(alloc, SessionItem::Query(Query::Recover), &mut outside)?;
+    let (_disk, _source, sink) = outside.parts();
+    assert_eq!(rt;
+        sink.bytes(),
+        b"ok\nrefused 5 kernel class Array\nrecovered 1 changes, 1 classes, 0 methods\n".as_slice()
+    );
     Ok(())
 }
 

@@ -17,15 +17,17 @@ loop-item-preserved g c = record {
   working = λ changes before bytes given start.
       let w = c.loop-item.invariant.working changes before bytes given start in
       let read = read_some c.next_item.new.self bytes w.0 c.in_ok-item.field-0 c.in-Some.item c.in-Some.is (c.in_ok-item.ensures.item bytes w.0 w.1.read) in
+      let sound = sound_some c.in_ok-item.field-0 c.in-Some.item c.loop-item.reader bytes w.0 c.in-Some.is c.in_ok-item.ensures.sound w.1.read in
       let list = list_after_all changes w.1.asks in
       let put = before ++ replies changes w.1.asks in (
         w.0 ++ c.in-Some.item ∷ [],
-        worked_on (g.O.Disk.may_leave c.loop-item.outside) (g.O.Disk.may_leave c.step.new.outside) _ _ _ _ _ _ c.loop-item.reader c.next_item.new.self changes before bytes w.0 c.in-Some.item w.1 read (c.in_ok-step.ensures.stepped list put w.1.at),
+        worked_on (g.O.Disk.may_leave c.loop-item.outside) (g.O.Disk.may_leave c.step.new.outside) _ _ _ _ _ _ c.loop-item.reader c.next_item.new.self changes before bytes w.0 c.in-Some.item w.1 read (c.in_ok-step.ensures.stepped list put sound w.1.at),
       );
   run = λ changes before bytes given start.
       let w = c.loop-item.invariant.working changes before bytes given start in
       let read = read_some c.next_item.new.self bytes w.0 c.in_ok-item.field-0 c.in-Some.item c.in-Some.is (c.in_ok-item.ensures.item bytes w.0 w.1.read) in
-      items_last g.O.Disk.moment g.O.Disk.left_since _ _ _ c.args.reader.now.ended changes before bytes w.0 w.1.asks c.in-Some.item (begins c.loop-item.reader c.args.reader.now.ended bytes w.0 c.loop-item.invariant.ended w.1.read) w.1.asked (begins c.next_item.new.self c.args.reader.now.ended bytes (w.0 ++ c.in-Some.item ∷ []) (c.next_item.ensures.ended ∙ c.loop-item.invariant.ended) read) (c.loop-item.invariant.run changes before bytes given start) (c.step.ensures.any_moment (list_after_all changes w.1.asks) (before ++ replies changes w.1.asks) w.1.at);
+      let sound = sound_some c.in_ok-item.field-0 c.in-Some.item c.loop-item.reader bytes w.0 c.in-Some.is c.in_ok-item.ensures.sound w.1.read in
+      items_last g.O.Disk.moment g.O.Disk.left_since _ _ _ c.args.reader.now.ended changes before bytes w.0 w.1.asks c.in-Some.item (begins c.loop-item.reader c.args.reader.now.ended bytes w.0 c.loop-item.invariant.ended w.1.read) w.1.asked (begins c.next_item.new.self c.args.reader.now.ended bytes (w.0 ++ c.in-Some.item ∷ []) (c.next_item.ensures.ended ∙ c.loop-item.invariant.ended) read) (c.loop-item.invariant.run changes before bytes given start) (c.step.ensures.any_moment (list_after_all changes w.1.asks) (before ++ replies changes w.1.asks) sound w.1.at);
   reading =
       let some = c.loop-item.invariant.reading in
       (some.0, some.1 ++ c.in-Some.item ∷ [], read_some c.next_item.new.self some.0 some.1 c.in_ok-item.field-0 c.in-Some.item c.in-Some.is (c.in_ok-item.ensures.item some.0 some.1 some.2));
@@ -40,10 +42,11 @@ pub returns-in_err-step-clause-answered : goal.returns-in_err-step-clause-answer
 returns-in_err-step-clause-answered g c = λ changes before bytes given start.
     let w = c.loop-item.invariant.working changes before bytes given start in
     let read = read_some c.next_item.new.self bytes w.0 c.in_ok-item.field-0 c.in-Some.item c.in-Some.is (c.in_ok-item.ensures.item bytes w.0 w.1.read) in
+    let sound = sound_some c.in_ok-item.field-0 c.in-Some.item c.loop-item.reader bytes w.0 c.in-Some.is c.in_ok-item.ensures.sound w.1.read in
     let list = list_after_all changes w.1.asks in
     let put = before ++ replies changes w.1.asks in
     let p = err_from_is_err_and c.from_residual-in_err-step.result c.from_residual-in_err-step.ensures.1 in
-    rw (p.1, p.2) (broke_off (Unit {0}) _ (g.O.Disk.may_leave c.step.new.outside) _ _ _ _ c.next_item.new.self.ended changes before bytes w.0 w.1.asks c.in-Some.item (begins c.loop-item.reader c.next_item.new.self.ended bytes w.0 (sym c.next_item.ensures.ended) w.1.read) w.1.asked (read.rest, read.reads) (c.in_err-step.ensures.stepped list put w.1.at))
+    rw (p.1, p.2) (broke_off (Unit {0}) _ (g.O.Disk.may_leave c.step.new.outside) _ _ _ _ c.next_item.new.self.ended changes before bytes w.0 w.1.asks c.in-Some.item (begins c.loop-item.reader c.next_item.new.self.ended bytes w.0 (sym c.next_item.ensures.ended) w.1.read) w.1.asked (read.rest, read.reads) (c.in_err-step.ensures.stepped list put sound w.1.at))
 
 pub returns-clause-answered : goal.returns-clause-answered
 returns-clause-answered g c = λ changes before bytes given start.
@@ -74,7 +77,8 @@ pub returns-in_err-step-clause-any_moment : goal.returns-in_err-step-clause-any_
 returns-in_err-step-clause-any_moment g c = λ changes before bytes given start.
     let w = c.loop-item.invariant.working changes before bytes given start in
     let read = read_some c.next_item.new.self bytes w.0 c.in_ok-item.field-0 c.in-Some.item c.in-Some.is (c.in_ok-item.ensures.item bytes w.0 w.1.read) in
-    items_last g.O.Disk.moment g.O.Disk.left_since _ _ _ c.args.reader.now.ended changes before bytes w.0 w.1.asks c.in-Some.item (begins c.loop-item.reader c.args.reader.now.ended bytes w.0 c.loop-item.invariant.ended w.1.read) w.1.asked (begins c.next_item.new.self c.args.reader.now.ended bytes (w.0 ++ c.in-Some.item ∷ []) (c.next_item.ensures.ended ∙ c.loop-item.invariant.ended) read) (c.loop-item.invariant.run changes before bytes given start) (c.step.ensures.any_moment (list_after_all changes w.1.asks) (before ++ replies changes w.1.asks) w.1.at)
+    let sound = sound_some c.in_ok-item.field-0 c.in-Some.item c.loop-item.reader bytes w.0 c.in-Some.is c.in_ok-item.ensures.sound w.1.read in
+    items_last g.O.Disk.moment g.O.Disk.left_since _ _ _ c.args.reader.now.ended changes before bytes w.0 w.1.asks c.in-Some.item (begins c.loop-item.reader c.args.reader.now.ended bytes w.0 c.loop-item.invariant.ended w.1.read) w.1.asked (begins c.next_item.new.self c.args.reader.now.ended bytes (w.0 ++ c.in-Some.item ∷ []) (c.next_item.ensures.ended ∙ c.loop-item.invariant.ended) read) (c.loop-item.invariant.run changes before bytes given start) (c.step.ensures.any_moment (list_after_all changes w.1.asks) (before ++ replies changes w.1.asks) sound w.1.at)
 
 pub returns-clause-any_moment : goal.returns-clause-any_moment
 returns-clause-any_moment g c = c.loop-item.invariant.run
@@ -83,8 +87,3 @@ pub returns-clause-reading : goal.returns-clause-reading
 returns-clause-reading g c =
     let some = c.loop-item.invariant.reading in
     (some.0, some.1, read_none c.next_item.new.self some.0 some.1 c.in_ok-item.field-0 c.in_default.is (c.in_ok-item.ensures.item some.0 some.1 some.2))
-
-pub step-requires-clause-readable : goal.step-requires-clause-readable
-step-requires-clause-readable g c =
-    let some = c.loop-item.invariant.reading in
-    sound_some c.in_ok-item.field-0 c.in-Some.item c.loop-item.reader some.0 some.1 c.in-Some.is c.in_ok-item.ensures.sound some.2

@@ -31,7 +31,7 @@ returns-clause-ran g c = λ changes input before left_is calm at.
     let a = c.in_ok-answer_items.ensures.answered changes before input t.given t.working in
     let list = list_after_all changes a.1.asks in
     let put = before ++ replies changes a.1.asks in
-    ends_unended c.rest.result c.step.result (g.O.Disk.may_leave c.step.new.outside) _ _ _ _ changes input before a.0 a.1.asks c.in-Unended.field-0 c.in-Unended.is (c.rest.ensures input a.0 a.1.read) a.1.asked a.1.refused (c.step.ensures.stepped list put a.1.at) (c.step.ensures.left ∙ c.answer_items.ensures.left ∙ t.left) t.within
+    ends_unended c.rest.result c.step.result (g.O.Disk.may_leave c.step.new.outside) _ _ _ _ changes input before a.0 a.1.asks c.in-Unended.field-0 c.in-Unended.is (c.rest.ensures input a.0 a.1.read) a.1.asked a.1.refused (c.step.ensures.stepped list put tt a.1.at) (c.step.ensures.left ∙ c.answer_items.ensures.left ∙ t.left) t.within
 
 pub returns-in_err-reader-clause-any_moment : goal.returns-in_err-reader-clause-any_moment
 returns-in_err-reader-clause-any_moment g c = λ changes input before left_is calm at.
@@ -57,7 +57,7 @@ returns-clause-any_moment g c = λ changes input before left_is calm at.
     let list = list_after_all changes a.1.asks in
     let put = before ++ replies changes a.1.asks in
     let ends = unended_whole c.rest.result input a.0 c.in-Unended.field-0 c.in-Unended.is (c.rest.ensures input a.0 a.1.read) in
-    unended_lasts g.O.Disk.moment g.O.Disk.left_since _ _ _ changes input before a.0 a.1.asks ends.0 a.1.asked ends.1 (keeps_on g.O.Disk.moment g.O.Disk.left_since _ _ _ changes input before (c.take_all.ensures.any_moment changes input before left_is (starts_working (g.O.Disk.may_leave c.args.outside.now) _ _ _ _ changes before c.in_ok-reader.ensures.read calm at)) (answers_last g.O.Disk.moment g.O.Disk.left_since _ _ c.take_all.new.reader.ended changes before input [] input (sym (append-nil input)) (λ e. refl) (c.answer_items.ensures.any_moment changes before input t.given t.working))) (c.step.ensures.any_moment list put a.1.at)
+    unended_lasts g.O.Disk.moment g.O.Disk.left_since _ _ _ changes input before a.0 a.1.asks ends.0 a.1.asked ends.1 (keeps_on g.O.Disk.moment g.O.Disk.left_since _ _ _ changes input before (c.take_all.ensures.any_moment changes input before left_is (starts_working (g.O.Disk.may_leave c.args.outside.now) _ _ _ _ changes before c.in_ok-reader.ensures.read calm at)) (answers_last g.O.Disk.moment g.O.Disk.left_since _ _ c.take_all.new.reader.ended changes before input [] input (sym (append-nil input)) (λ e. refl) (c.answer_items.ensures.any_moment changes before input t.given t.working))) (c.step.ensures.any_moment list put tt a.1.at)
 
 pub returns-in_err-take_all-clause-ran : goal.returns-in_err-take_all-clause-ran
 returns-in_err-take_all-clause-ran g c = λ changes input before left_is calm at.
