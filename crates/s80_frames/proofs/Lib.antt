@@ -1,0 +1,4 @@
+pub mod BlockSteps
+pub mod BothThen
+pub mod FrameLemmas
+pub mod Runs

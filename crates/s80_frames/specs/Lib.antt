@@ -1,0 +1,4 @@
+pub mod Blocks
+pub mod BlockLending
+pub mod Frames
+pub mod Lending
