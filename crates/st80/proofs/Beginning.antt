@@ -11,17 +11,18 @@ use Rattle.s80_mark.specs.Mark.{valid_mark}
 use Rattle.s80_mark.specs.Found.{longer_log}
 use Rattle.s80_keeper.specs.declared.start.Damage.{Damage}
 use Rattle.s80_keeper.specs.declared.start.Damage.TheVariants as damages
+use Rattle.s80_keeper.specs.Keeper.{KeeperState}
 use Rattle.s80_keeper.specs.Standing.{FilesStandFor, StandsFor, ReadsFor}
 use Rattle.s80_keeper.specs.Start.{IsDamage}
 use Rattle.s80_session.specs.declared.end.SessionEnd.{SessionEnd}
 use Rattle.s80_session.specs.declared.end.SessionEnd.TheVariants as ends
 use Rattle.s80_session.specs.Putting.{IsAsBefore}
 use Rattle.s80_session.specs.Run.{Shown, HasKept}
-use Rattle.s80_session.specs.Working.{IsDiskEnd, Starts, IsSessionStart}
+use Rattle.s80_session.specs.Working.{IsAt, IsDiskEnd, Starts, IsSessionStart}
+use Rattle.s80_session.proofs.Keeping.{keeps_stands}
 use Rattle.s80_session.proofs.Lasting.{keeps_at_start}
 use Rattle.st80.specs.declared.status.Status.TheVariants as status
-use Rattle.st80.specs.declared.words.Command.{Command}
-use Rattle.st80.specs.declared.words.Command.TheVariants.{Run, Recover}
+use Rattle.st80.specs.Command.{Command, Run, Tell}
 use Rattle.st80.specs.Ending.{status_after}
 use Rattle.st80.specs.Leaves.{StartsWith, Leaves, CommandKeeps, TellsDamage}
 
@@ -37,6 +38,7 @@ stands_leaves tells reads may_leave changes h c left = ⊎_elim (λ empty. inl (
     bytes = marked.1.log_stays c left ∙ marked.1.files.bytes;
   },
   marked.2,
+  marked.3,
 )) h.stands
 
 -- a call that shows nothing new, and after which a crash leaves no more
@@ -48,13 +50,14 @@ module _ (old now : Shown) (same : now ≡ old) (was may_leave : Image → Type 
       marked.0,
       record { told = marked.1.told; files = marked.1.files; mark_stays = λ c left. marked.1.mark_stays c (less c left); log_stays = λ c left. marked.1.log_stays c (less c left) },
       marked.2,
+      marked.3,
     )) h.stands;
   })
 
   pub reads_on : ReadsFor old.tells old.files was changes → ReadsFor now.tells now.files may_leave changes
   reads_on h = let P : Shown → Type 0 = λ o. ReadsFor o.tells o.files may_leave changes in subst P (sym same) (record {
     told = h.told;
-    stands = ⊎_elim (λ empty. inl empty) (λ marked. inr (marked.0, marked.1, marked.2, λ c left. marked.3 c (less c left))) h.stands;
+    stands = ⊎_elim (λ empty. inl empty) (λ marked. inr (marked.0, marked.1, marked.2, marked.3, λ c left. marked.4 c (less c left))) h.stands;
   })
 
   pub starts_on : (input before : List ℕ) → StartsWith was old changes input before → StartsWith may_leave now changes input before
@@ -72,7 +75,7 @@ lost_at_start Run (ends.Disk failed) may_leave now changes input before is left 
   first = ([], inl ([], input, stop refl refl, refl), tt);
   taken = taken ∙ ap Some (sym (append-nil before));
 }
-lost_at_start Recover (ends.Disk failed) may_leave now changes input before is left taken = (taken, left)
+lost_at_start (Tell query) (ends.Disk failed) may_leave now changes input before is left taken = (taken, left)
 lost_at_start command ends.Memory may_leave now changes input before is left taken = absurd is
 lost_at_start command (ends.Read failed) may_leave now changes input before is left taken = absurd is
 lost_at_start command (ends.Write failed) may_leave now changes input before is left taken = absurd is
@@ -86,17 +89,22 @@ no_session Run ends.Memory may_leave now changes input before h left taken = rec
   first = ([], inl ([], input, stop refl refl, refl), tt);
   answered = record { stands = h; taken = taken ∙ ap Some (sym (append-nil before)) };
 }
-no_session Recover ends.Memory may_leave now changes input before h left taken = (record { stands = h; taken = taken ∙ ap Some (sym (append-nil before)) }, left)
+no_session (Tell query) ends.Memory may_leave now changes input before h left taken = (record { stands = h; taken = taken ∙ ap Some (sym (append-nil before)) }, left)
 no_session command (ends.Disk failed) may_leave now changes input before h left taken = lost_at_start command (ends.Disk failed) may_leave now changes input before tt left taken
 no_session command (ends.Read failed) may_leave now changes input before h left taken = absurd h
 no_session command (ends.Write failed) may_leave now changes input before h left taken = absurd h
 no_session command (ends.Damaged damage) may_leave now changes input before h left taken = absurd h
 no_session command ends.TooLong may_leave now changes input before h left taken = absurd h
 
+-- memory is wanting before the first item
+pub no_memory : (command : Command) (may_leave : Image → Type 0) (now : Shown) (keeper : KeeperState) (changes : List Change) (input before : List ℕ) → IsAt may_leave now keeper changes before → now.left ≡ Some input → Leaves command (status_after (Err ends.Memory)) may_leave now changes input before
+no_memory command may_leave now keeper changes input before at left =
+    no_session command ends.Memory may_leave now changes input before (keeps_stands now.tells now.files may_leave keeper changes at.keeps) left at.taken
+
 -- what is kept before the first item
 pub kept_at_start : (command : Command) (changes : List Change) (input before : List ℕ) (told : ℕ) (c : Image) → HasKept changes (length before) told c → CommandKeeps command changes input before told c
 kept_at_start Run changes input before told c h = keeps_at_start changes input before told c h
-kept_at_start Recover changes input before told c h = inl h
+kept_at_start (Tell query) changes input before told c h = inl h
 
 module _ {D : Type 0} (moment : D → ℕ) (left_since : D → ℕ → ℕ → Image → Type 0) (command : Command) (changes : List Change) (input before : List ℕ) where
   abbrev P : ℕ → Image → Type 0

@@ -20,11 +20,8 @@ use Rattle.s80_session.specs.Working.{IsAt, IsDiskEnd, Stepped, StepLeaves}
 use Rattle.s80_session.specs.declared.session.Session.{Session}
 use Rattle.s80_session.proofs.Keeping.{keeps_stands}
 use Rattle.st80.specs.declared.status.Status.TheVariants as status
-use Rattle.st80.specs.declared.words.Command.{Command}
-use Rattle.st80.specs.declared.words.Command.TheVariants.{Run, Recover}
 use Rattle.st80.specs.Ending.{StatusHasReason, status_after}
 use Rattle.st80.specs.Leaves.{RunLeaves, ItemLeaves, AskLeaves, TellsDamage}
-use Rattle.st80.specs.Words.{command_word, Asks}
 
 -- a run that came to its end
 pub run_done : {T : Type 0} (done : T) (may_leave : Image → Type 0) (now : Shown) (troubled : Bool) (changes : List Change) (input before : List ℕ) → Ends (Ok done) may_leave now troubled changes input before → RunLeaves (status_after (Ok troubled)) may_leave now changes input before
@@ -145,17 +142,3 @@ later_reason (Err ends.TooLong) first before now le h = tt
 
 pub no_fewer : (first before now : Faults) → NoFewer first before → NoFewer before now → NoFewer first now
 no_fewer first before now p q = record { read = omega (arith, p.read, q.read); write = omega (arith, p.write, q.write); disk = omega (arith, p.disk, q.disk) }
-
--- words ask for one command
-commands_differ : (one other : Command) → command_word one ≡ command_word other → one ≡ other
-commands_differ Run Run is = refl
-commands_differ Recover Recover is = refl
-commands_differ Run Recover is = let h : 3 ≡ 7 = ap (λ (l : List ℕ). length l) is in absurd (omega (arith, h))
-commands_differ Recover Run is = let h : 7 ≡ 3 = ap (λ (l : List ℕ). length l) is in absurd (omega (arith, h))
-
-abbrev third : List (List ℕ) → List ℕ
-third (first ∷ second ∷ word ∷ rest) = word
-third _ = []
-
-pub one_command : (words : List (List ℕ)) (folder other : List ℕ) (one two : Command) → Asks words folder one → Asks words other two → one ≡ two
-one_command words folder other one two asked again = commands_differ one two (ap third (sym asked.words_are ∙ again.words_are))

@@ -7,7 +7,6 @@ use Rattle.s80_chunk.proofs.Reading.{one_reading}
 use Rattle.s80_chunk.proofs.Stopping.{reads_prefix}
 use Rattle.s80_change.specs.declared.change.Change.{Change}
 use Rattle.s80_disk.specs.Image.{Image}
-use Rattle.s80_session.specs.declared.item.Query.TheVariants as queries
 use Rattle.s80_session.specs.declared.item.SessionItem.{SessionItem}
 use Rattle.s80_session.specs.declared.item.SessionItem.TheVariants.{Chunk, Unended}
 use Rattle.s80_session.specs.Asked.{Ask, tells, AllAsk}
@@ -18,8 +17,7 @@ use Rattle.s80_session.proofs.Asking.{one_ask}
 use Rattle.s80_session.proofs.Taking.{first_of}
 use Rattle.st80.specs.declared.status.Status.{Status}
 use Rattle.st80.specs.declared.status.Status.TheVariants as status
-use Rattle.st80.specs.declared.words.Command.{Command}
-use Rattle.st80.specs.declared.words.Command.TheVariants.{Run, Recover}
+use Rattle.st80.specs.Command.{Command, Run, Tell}
 use Rattle.st80.specs.Ending.{NoFault, StatusHasReason, IsWhole}
 use Rattle.st80.specs.Leaves.{RunLeaves, ItemLeaves, Leaves, AllAsks, IsWithin}
 
@@ -138,9 +136,9 @@ item_front status.InputTooLong may_leave now changes ask before h = absurd h
 -- whatever the command and the status, a front of all replies was put
 pub front_of : (command : Command) (s : Status) (may_leave : Image → Type 0) (now : Shown) (changes : List Change) (input before : List ℕ) (all : List Ask) → Leaves command s may_leave now changes input before → AllAsks command input all → PutsFront now changes before all
 front_of Run s may_leave now changes input before all h whole = run_front s may_leave now changes input before all h whole
-front_of Recover s may_leave now changes input before all h is =
+front_of (Tell query) s may_leave now changes input before all h is =
     let P : List Ask → Type 0 = λ l. PutsFront now changes before l in
-    subst P (sym is) (item_front s may_leave now changes (tells queries.Recover) before h.0)
+    subst P (sym is) (item_front s may_leave now changes (tells query) before h.0)
 
 longer : (got left : List ℕ) (next : ℕ) (input : List ℕ) → input ≡ got ++ next ∷ left → length got ≡ input_limit → length input ≤ input_limit → ⊥
 longer got left next input is limit within =
@@ -171,4 +169,4 @@ item_whole status.InputTooLong old new may_leave now changes ask before h reason
 
 pub whole_without_fault : (command : Command) (s : Status) (old new : Faults) (may_leave : Image → Type 0) (now : Shown) (changes : List Change) (input before : List ℕ) → Leaves command s may_leave now changes input before → StatusHasReason old new s → NoFault old new → IsWithin command input → IsWhole s
 whole_without_fault Run s old new may_leave now changes input before h reason none within = run_whole s old new may_leave now changes input before h reason none within
-whole_without_fault Recover s old new may_leave now changes input before h reason none within = item_whole s old new may_leave now changes (tells queries.Recover) before h.0 reason none
+whole_without_fault (Tell query) s old new may_leave now changes input before h reason none within = item_whole s old new may_leave now changes (tells query) before h.0 reason none

@@ -1,3 +1,4 @@
+mod Asked
 mod Fronts
 mod Beginning
 mod Ends

@@ -3,14 +3,12 @@ use Rattle.std.specs.Prelude.{◌≡◌, ◌⊎◌, ◌≤◌, ℕ, true, false,
 use Rattle.s80_change.specs.declared.change.Change.{Change}
 use Rattle.s80_disk.specs.Image.{Image}
 use Rattle.s80_keeper.specs.Standing.{ReadsFor}
-use Rattle.s80_session.specs.declared.item.Query.TheVariants as queries
 use Rattle.s80_session.specs.Asked.{Ask, tells}
 use Rattle.s80_session.specs.Replies.{reply_to, reply_text, list_after, is_refused}
 use Rattle.s80_session.specs.Run.{Shown, ShownFor, Answered, Finished, CutOff, TooLong, BrokeOff, Unanswered, LostDisk, HasKept, Keeps, AsksOf, input_limit}
 use Rattle.st80.specs.declared.status.Status.{Status}
 use Rattle.st80.specs.declared.status.Status.TheVariants as status
-use Rattle.st80.specs.declared.words.Command.{Command}
-use Rattle.st80.specs.declared.words.Command.TheVariants.{Run, Recover}
+use Rattle.st80.specs.Command.{Command, Run, Tell}
 
 -- an outside that tells its contents: what its disk reads stands for this list, this input is left, and these bytes were taken
 pub record StartsWith (may_leave : Image → Type 0) (o : Shown) (changes : List Change) (input before : List ℕ) : Type 0 where
@@ -53,26 +51,26 @@ abbrev pub AskLeaves : List Change → List ℕ → Ask → ℕ → Image → Ty
 AskLeaves changes before ask told c =
     HasKept changes (length before) told c ⊎ HasKept (list_after changes ask) (length (before ++ reply_text (reply_to changes ask))) told c
 
--- what a command leaves, by the status: a run works the input, and every other command one item, and takes no input
+-- what a command leaves, by the status: a run works the input, and a query one item, and takes no input
 abbrev pub Leaves : Command → Status → (Image → Type 0) → Shown → List Change → List ℕ → List ℕ → Type 0
 Leaves Run status may_leave now changes input before = RunLeaves status may_leave now changes input before
-Leaves Recover status may_leave now changes input before = ItemLeaves status may_leave now changes (tells queries.Recover) before × (now.left ≡ Some input)
+Leaves (Tell query) status may_leave now changes input before = ItemLeaves status may_leave now changes (tells query) before × (now.left ≡ Some input)
 
 -- what a crash leaves at a moment at which so many bytes are told: files that stand for the list after the first items, up to one at least
 -- whose reply is among the bytes told
 abbrev pub CommandKeeps : Command → List Change → List ℕ → List ℕ → ℕ → Image → Type 0
 CommandKeeps Run changes input before told c = Keeps changes input before told c
-CommandKeeps Recover changes input before told c = AskLeaves changes before (tells queries.Recover) told c
+CommandKeeps (Tell query) changes input before told c = AskLeaves changes before (tells query) told c
 
 -- all that a command asks
 abbrev pub AllAsks : Command → List ℕ → List Ask → Type 0
-AllAsks Run input asks = AsksOf input asks
-AllAsks Recover input asks = asks ≡ tells queries.Recover ∷ []
+AllAsks Run input all = AsksOf input all
+AllAsks (Tell query) input all = all ≡ tells query ∷ []
 
 -- the input isn't too long for the command
 abbrev pub IsWithin : Command → List ℕ → Type 0
 IsWithin Run input = length input ≤ input_limit
-IsWithin Recover input = Unit {0}
+IsWithin (Tell query) input = Unit {0}
 
 -- where the files at entry are damaged, this is answered, or memory is wanting or a call of the disk fails
 abbrev pub TellsDamage : Status → Type 0

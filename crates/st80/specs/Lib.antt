@@ -1,3 +1,5 @@
+pub mod Command
 pub mod Words
+pub mod Task
 pub mod Ending
 pub mod Leaves

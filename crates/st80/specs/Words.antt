@@ -1,7 +1,6 @@
 -- The words of the command line.
-use Rattle.std.specs.Prelude.{◌≡◌, ◌≢◌, ℕ, List, [], ◌∷◌, IsUtf8, codes}
-use Rattle.st80.specs.declared.words.Command.{Command}
-use Rattle.st80.specs.declared.words.Command.TheVariants.{Run, Recover}
+use Rattle.std.specs.Prelude.{◌≡◌, ◌≢◌, ℕ, List, [], ◌∷◌, All, IsUtf8}
+use Rattle.st80.specs.Command.{Command, command_word, arguments_of}
 
 -- a word that begins as an option does: with `-`, and longer than that
 abbrev pub IsOption : List ℕ → Type 0
@@ -9,19 +8,26 @@ IsOption [] = ⊥
 IsOption (b ∷ []) = ⊥
 IsOption (b ∷ c ∷ rest) = b ≡ 45
 
--- a word that names a folder
-pub record IsFolder (word : List ℕ) : Type 0 where
+-- a word that is taken as it stands
+pub record IsPlain (word : List ℕ) : Type 0 where
   pub encoded : IsUtf8 word
-  pub some : word ≢ []
   pub no_option : IsOption word → ⊥
 
-abbrev pub command_word : Command → List ℕ
-command_word Run = codes "run"
-command_word Recover = codes "recover"
+-- a word that names a folder
+pub record IsFolder (word : List ℕ) : Type 0 where
+  pub plain : IsPlain word
+  pub some : word ≢ []
 
--- the words ask for a command in this folder: the program's name, the folder, and the command
+-- the words behind the folder are a command and its arguments
+pub record AreOf (words : List (List ℕ)) (command : Command) : Type 0 where
+  pub words_are : words ≡ command_word command ∷ arguments_of command
+  pub plain : All IsPlain (arguments_of command)
+
+-- the words ask for a command in this folder: the program's name, the folder, the command and its arguments
 pub record Asks (words : List (List ℕ)) (folder : List ℕ) (command : Command) : Type 0 where
   pub program : List ℕ
-  pub words_are : words ≡ program ∷ folder ∷ command_word command ∷ []
+  pub behind : List (List ℕ)
+  pub words_are : words ≡ program ∷ folder ∷ behind
   pub encoded : IsUtf8 program
   pub named : IsFolder folder
+  pub command_is : AreOf behind command

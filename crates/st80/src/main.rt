@@ -15,7 +15,6 @@ use std::env::Env;
 use std::io::ErrorKind;
 use std::process::ExitCode;
 use std::{env, io};
-pub use words::Command;
 
 /// The words that the program was started with.
 fn words_given<R: Env + AllocGlobal>(rt: &R) -> io::Result<Vec<Text>> {

@@ -1,5 +1,5 @@
 // What the program does with its words.
-ghost use Rattle.std.specs.Prelude.{◌≡◌, ◌≢◌, ◌++◌, ℕ, List, IsTrue, false, Some, IfErr};
+ghost use Rattle.std.specs.Prelude.{◌≡◌, ◌≢◌, ◌++◌, ℕ, List, IsTrue, false, Some, IfOk, IfErr};
 ghost use Rattle.s80_change.specs.declared.change.Change.{Change};
 ghost use Rattle.s80_disk.specs.declared.disk.FileId.{FileId};
 ghost use Rattle.s80_disk.specs.Moments.{LeavesOnly};
@@ -15,18 +15,21 @@ ghost use Rattle.s80_session.specs.Session.{keeper_of, troubled_of, IsFaultless}
 ghost use Rattle.s80_session.specs.Working.{IsAt, IsDiskEnd};
 ghost use Rattle.st80.specs.Ending.{NoFault, StatusHasReason, status_after, IsWhole};
 ghost use Rattle.st80.specs.Leaves.{StartsWith, Leaves, RunLeaves, ItemLeaves, AskLeaves, CommandKeeps, AllAsks, IsWithin, TellsDamage};
+ghost use Rattle.st80.specs.Command.{Command, command_with};
 ghost use Rattle.st80.specs.Words.{Asks};
+ghost use Rattle.st80.specs.Task.{command_of};
 
 use crate::outside::attach;
 use crate::status::Status;
-use crate::words::{Command, request_of};
-use s80_base::Text;
+use crate::words::{Task, request_of};
+use s80_base::{OutOfMemory, Text};
 use s80_disk::Outside;
 use s80_session::{Query, Session, SessionEnd, SessionItem};
 use std::alloc::Global;
 
-/// Does what the words ask for: the program's name, a folder and a command. `run` keeps each chunk of the input that is a doIt in the
-/// folder, on the disk, and then answers it by a line of the output; `recover` says how much there is.
+/// Does what the words ask for: the program's name, a folder and a command. `run` keeps each chunk of the input that is a definition of a
+/// class or another doIt in the folder, on the disk, and then answers it by a line of the output; `classes` names all classes, `browse NAME`
+/// shows one, and `recover` says how much there is.
 pub fn st80<O: Outside>(alloc: Global, words: &[Text], outside: &mut O) -> Status
     // Bad usage is answered exactly where the words ask for nothing, and then the outside isn't called.
     ensures usage { result ≡ Status.Usage
@@ -78,26 +81,26 @@ pub fn st80<O: Outside>(alloc: Global, words: &[Text], outside: &mut O) -> Statu
         × ((file : FileId) → O.reads outside.new file ≡ O.reads outside.old file) }
 {
     match request_of(words) {
-        Some(request) => status_of(work(alloc, request.folder, request.command, outside)),
+        Some(request) => status_of(work(alloc, request.folder, request.task, outside)),
         None => Status::Usage,
     }
 }
 
-/// Does a command in a folder. Says whether some item was refused.
+/// Does a task in a folder. Says whether some item was refused.
 fn work<O: Outside>(
     alloc: Global,
     folder: &Text,
-    command: Command,
+    task: Task<'_>,
     outside: &mut O,
 ) -> Result<bool, SessionEnd>
     ensures worked { (changes : List Change) (input before : List ℕ)
         → StartsWith (O.may_leave outside.old) (shown O.tells O.reads O.left O.taken O.told outside.old) changes input before
-        → Leaves command (status_after result) (O.may_leave outside.new)
+        → Leaves (command_of task.entry) (status_after result) (O.may_leave outside.new)
         (shown O.tells O.reads O.left O.taken O.told outside.new) changes input before }
     ensures any_moment { (changes : List Change) (input before : List ℕ)
         → StartsWith (O.may_leave outside.old) (shown O.tells O.reads O.left O.taken O.told outside.old) changes input before
         → StandsFor (O.tells outside.old) (O.reads outside.old) (O.may_leave outside.old) changes
-        → LeavesOnly O.moment O.left_since outside.old outside.new (CommandKeeps command changes input before) }
+        → LeavesOnly O.moment O.left_since outside.old outside.new (CommandKeeps (command_of task.entry) changes input before) }
     ensures found { status_after result ≡ Status.Damaged → IsTrue (O.tells outside.old)
         → (damage : Damage) × IsDamage (O.reads outside.old) damage }
     ensures damaged { (damage : Damage) → IsTrue (O.tells outside.old) → IsDamage (O.reads outside.old) damage
@@ -110,7 +113,7 @@ fn work<O: Outside>(
 {
     open_folder(outside, folder)?;
     let mut session = Session::start(alloc, outside)?;
-    do_command(&mut session, alloc, command, outside)
+    do_task(&mut session, alloc, task, outside)
 }
 
 /// Chooses the folder.
@@ -128,11 +131,11 @@ fn open_folder<O: Outside>(outside: &mut O, folder: &Text) -> Result<(), Session
     Ok(())
 }
 
-/// Does a command in a session that has begun.
-fn do_command<O: Outside>(
+/// Does a task in a session that has begun.
+fn do_task<O: Outside>(
     session: &mut Session,
     alloc: Global,
-    command: Command,
+    task: Task<'_>,
     outside: &mut O,
 ) -> Result<bool, SessionEnd>
     requires faultless { IsFaultless session.old }
@@ -140,19 +143,31 @@ fn do_command<O: Outside>(
         → troubled_of session.old ≡ false
         → IsAt (O.may_leave outside.old)
         (shown O.tells O.reads O.left O.taken O.told outside.old) (keeper_of session.old) changes before
-        → Leaves command (status_after result) (O.may_leave outside.new)
+        → Leaves (command_of task.entry) (status_after result) (O.may_leave outside.new)
         (shown O.tells O.reads O.left O.taken O.told outside.new) changes input before }
     ensures any_moment { (changes : List Change) (input before : List ℕ) → O.left outside.old ≡ Some input
         → troubled_of session.old ≡ false
         → IsAt (O.may_leave outside.old)
         (shown O.tells O.reads O.left O.taken O.told outside.old) (keeper_of session.old) changes before
-        → LeavesOnly O.moment O.left_since outside.old outside.new (CommandKeeps command changes input before) }
+        → LeavesOnly O.moment O.left_since outside.old outside.new (CommandKeeps (command_of task.entry) changes input before) }
     ensures counts { Counts (faults O.read_faults O.write_faults O.disk_faults outside.old)
         (faults O.read_faults O.write_faults O.disk_faults outside.new) result }
 {
-    match command {
-        Command::Run => run_input(session, alloc, outside),
-        Command::Recover => answer_query(session, alloc, Query::Recover, outside),
+    match query_of(alloc, task)? {
+        None => run_input(session, alloc, outside),
+        Some(query) => answer_query(session, alloc, query, outside),
+    }
+}
+
+/// What a task asks, if it is no run.
+fn query_of(alloc: Global, task: Task<'_>) -> Result<Option<Query>, OutOfMemory>
+    ensures { IfOk result (λ query. command_of task.entry ≡ command_with query) }
+{
+    match task {
+        Task::Run => Ok(None),
+        Task::Recover => Ok(Some(Query::Recover)),
+        Task::Classes => Ok(Some(Query::Classes)),
+        Task::Browse(name) => Ok(Some(Query::Browse(name.copy(alloc)?))),
     }
 }
 

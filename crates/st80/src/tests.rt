@@ -8,6 +8,7 @@ use s80_disk::{Disk, FaultPlan, FileId, MemDisk, MemOutside};
 use std::alloc::Global;
 use std::test::Fail;
 
+mod browsing;
 mod crashes;
 mod damages;
 mod noting;
@@ -120,7 +121,7 @@ fn chunks_are_kept_and_answered(rt: HostRuntime) -> Result<(), Fail> {
             ACCOUNT,
             b"ok\nok\nrefused 13 no section Account methodsFor: 'accessing'\nok\n",
             Status::DoneWithRefusals,
-            b"'From Smalltalk-80 of 1 April 1983'!\nObject subclass: #Account\r\tinstanceVariableNames: 'balance '\r\tclassVariableNames: ''\r\tpoolDictionaries: ''\r\tcategory: 'Bank'!\nAccount new deposit: 100; deposit: 50; balance!\n",
+            b"'From Smalltalk-80 of 1 April 1983'!\nObject subclass: #Account\n\tinstanceVariableNames: 'balance'\n\tclassVariableNames: ''\n\tpoolDictionaries: ''\n\tcategory: 'Bank'!\nAccount new deposit: 100; deposit: 50; balance!\n",
         ),
     ];
     for (input, written, status, log) in rows {
@@ -227,13 +228,17 @@ fn an_input_of_more_than_a_gibibyte_is_too_long(rt: HostRuntime) -> Result<(), F
 // Each call on this outside would fail.
 #[test]
 fn bad_usage_calls_nothing(rt: HostRuntime) -> Result<(), Fail> {
-    let rows: [&[&[u8]]; 10] = [
+    let rows: [&[&[u8]]; 14] = [
         &[],
         &[b"st80"],
         &[b"st80", b"F"],
         &[b"st80", b"F", b"zork"],
         &[b"st80", b"F", b"run", b"x"],
         &[b"st80", b"F", b"recover", b"x"],
+        &[b"st80", b"F", b"classes", b"x"],
+        &[b"st80", b"F", b"browse"],
+        &[b"st80", b"F", b"browse", b"A", b"B"],
+        &[b"st80", b"F", b"browse", b"-A"],
         &[b"st80", b"-x", b"F", b"run"],
         &[b"st80", b"-x", b"run"],
         &[b"st80", b"", b"run"],

@@ -1,23 +1,29 @@
 // The words of the command line.
-ghost use Rattle.std.specs.Prelude.{◌≡◌, ◌↔◌, ℕ, List, IsTrue, IsUtf8, IfSome, IfNone};
-ghost use Rattle.st80.specs.Words.{IsOption, IsFolder, Asks, command_word};
+ghost use Rattle.std.specs.Prelude.{◌≡◌, ◌↔◌, ◌∷◌, [], ℕ, List, IsTrue, IsUtf8, IfSome, IfNone};
+ghost use Rattle.st80.specs.Command.{Command};
+ghost use Rattle.st80.specs.Words.{IsOption, IsPlain, IsFolder, AreOf, Asks};
+ghost use Rattle.st80.specs.Task.{command_of};
 
 use s80_base::Text;
 
-/// What the program does.
-#[derive(Clone, Copy, Debug, PartialEq, Eq)]
-pub enum Command {
+/// What the program is asked to do.
+#[derive(Clone, Copy)]
+pub(crate) enum Task<'w> {
     /// Works the chunks of the input.
     Run,
     /// Says how much there is in the folder.
     Recover,
+    /// Names all classes.
+    Classes,
+    /// Shows the class of this name.
+    Browse(&'w Text),
 }
 
-/// A command, and the folder that it is for.
+/// A task, and the folder that it is for.
 #[derive(Clone, Copy)]
 pub(crate) struct Request<'w> {
     pub folder: &'w Text,
-    pub command: Command,
+    pub task: Task<'w>,
 }
 
 fn is_text(word: &Text) -> bool
@@ -33,41 +39,74 @@ fn is_option(word: &Text) -> bool
     matches!(word.bytes(), [b'-', _, ..])
 }
 
+fn is_plain(word: &Text) -> bool
+    ensures { IsTrue result ↔ IsPlain word.now }
+{
+    is_text(word) && !is_option(word)
+}
+
 fn is_folder(word: &Text) -> bool
     ensures { IsTrue result ↔ IsFolder word.now }
 {
-    is_text(word) && !word.bytes().is_empty() && !is_option(word)
+    is_plain(word) && !word.bytes().is_empty()
 }
 
-/// The command that a word names.
-fn command_of(word: &Text) -> Option<Command>
-    ensures found { IfSome result (λ command. word.now ≡ command_word command) }
-    ensures none { IfNone result ((command : Command) → word.now ≡ command_word command → ⊥) }
+/// The task that a word asks for by itself.
+fn task_alone(word: &Text) -> Option<Task<'_>>
+    ensures found { IfSome result (λ task. AreOf (word.now ∷ []) (command_of task)) }
+    ensures none { IfNone result ((command : Command) → AreOf (word.now ∷ []) command → ⊥) }
 {
     let bytes = word.bytes();
     if bytes == b"run".as_slice() {
-        return Some(Command::Run);
+        return Some(Task::Run);
     }
     if bytes == b"recover".as_slice() {
-        return Some(Command::Recover);
+        return Some(Task::Recover);
+    }
+    if bytes == b"classes".as_slice() {
+        return Some(Task::Classes);
     }
     None
 }
 
+/// The task that a word asks for with a name behind it.
+fn task_on<'w>(word: &Text, name: &'w Text) -> Option<Task<'w>>
+    ensures found { IfSome result (λ task. AreOf (word.now ∷ name.now ∷ []) (command_of task)) }
+    ensures none { IfNone result ((command : Command) → AreOf (word.now ∷ name.now ∷ []) command → ⊥) }
+{
+    if word.bytes() == b"browse".as_slice() && is_plain(name) {
+        Some(Task::Browse(name))
+    } else {
+        None
+    }
+}
+
+/// The task that the words behind the folder ask for.
+fn task_of(words: &[Text]) -> Option<Task<'_>>
+    ensures found { IfSome result (λ task. AreOf words.now (command_of task)) }
+    ensures none { IfNone result ((command : Command) → AreOf words.now command → ⊥) }
+{
+    match words {
+        [word] => task_alone(word),
+        [word, name] => task_on(word, name),
+        _ => None,
+    }
+}
+
 /// What the words ask for, if anything.
 pub(crate) fn request_of(words: &[Text]) -> Option<Request<'_>>
-    ensures found { IfSome result (λ request. Asks words.now request.folder.now request.command) }
+    ensures found { IfSome result (λ request. Asks words.now request.folder.now (command_of request.task)) }
     ensures none { IfNone result ((folder : List ℕ) (command : Command) → Asks words.now folder command → ⊥) }
 {
-    let [program, folder, command] = words else {
+    let [program, folder, behind @ ..] = words else {
         return None;
     };
-    let command = command_of(command)?;
     if !is_folder(folder) {
         return None;
     }
     if !is_text(program) {
         return None;
     }
-    Some(Request { folder, command })
+    let task = task_of(behind)?;
+    Some(Request { folder, task })
 }

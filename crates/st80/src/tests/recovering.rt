@@ -108,13 +108,18 @@ fn left_by(alloc: Global, disk: &MemDisk, words: &[&[u8]]) -> Result<Ran, Fail> 
     run_over(alloc, disk.crash(alloc, 1)?, source, &[], words)
 }
 
+/// The block of a class whose superclass isn't there.
+const ORPHAN: &[u8] =
+    b"Nobody subclass: #B\n\tinstanceVariableNames: ''\n\tclassVariableNames: ''\n\tpoolDictionaries: ''\n\tcategory: ''!\n";
+
 #[test]
 fn damaged_files_are_named_and_stay(rt: HostRuntime) -> Result<(), Fail> {
-    let rows: [(&[u8], &[u8]); 4] = [
+    let rows: [(&[u8], &[u8]); 5] = [
         (b"", b"3 + 4!\n"),
         (&[0x21, 0, 0, 0, 0, 0, 0, 0, 4, 2], b"3 + 4!\n"),
         (&slot(4, 6), b"3 + 4!\n"),
         (&slot(4, 7), b"3 + 4!!"),
+        (&slot(4, ORPHAN.len() as u8), ORPHAN),
     ];
     for (mark, log) in rows {
         let mut disk = new_disk(rt.alloc(), FaultPlan::Never)?;

@@ -2,12 +2,13 @@ use Rattle.std.proofs.Common.{List, ℕ, sym, subst, ◌∙◌}
 use Rattle.s80_change.specs.declared.change.Change.{Change}
 use Rattle.s80_disk.specs.Moments.{LeavesOnly}
 use Rattle.s80_session.specs.Run.{shown}
-use Rattle.st80.specs.declared.words.Command.{Command}
+use Rattle.st80.specs.Command.{Command}
 use Rattle.st80.specs.Ending.{status_after}
 use Rattle.st80.specs.Leaves.{StartsWith, Leaves, CommandKeeps}
+use Rattle.st80.specs.Task.{command_of}
 use Rattle.st80.specs.Words.{Asks}
 use Rattle.st80.proofs.Fronts.{front_of, whole_without_fault}
-use Rattle.st80.proofs.Ends.{one_command}
+use Rattle.st80.proofs.Asked.{one_command}
 use Rattle.st80.proofs.program.st80.Goals as goal
 use Rattle.st80.proofs.program.st80.Goals.{After-work}
 
@@ -15,7 +16,7 @@ use Rattle.st80.proofs.program.st80.Goals.{After-work}
 done : (g : _) (c : After-work g) (folder : List ℕ) (command : Command) (changes : List Change) (input before : List ℕ) → Asks c.args.words.now folder command → StartsWith (g.O.Disk.may_leave c.args.outside.now) (shown g.O.Disk.tells g.O.Disk.reads g.O.Source.left g.O.Sink.taken g.O.Sink.told c.args.outside.now) changes input before → Leaves command (status_after c.work.result) (g.O.Disk.may_leave c.work.new.outside) (shown g.O.Disk.tells g.O.Disk.reads g.O.Source.left g.O.Sink.taken g.O.Sink.told c.work.new.outside) changes input before
 done g c folder command changes input before asked start =
     let P : Command → Type 0 = λ k. Leaves k (status_after c.work.result) (g.O.Disk.may_leave c.work.new.outside) (shown g.O.Disk.tells g.O.Disk.reads g.O.Source.left g.O.Sink.taken g.O.Sink.told c.work.new.outside) changes input before in
-    subst P (sym (one_command _ folder _ command c.in-Some.request.command asked c.in-Some.ensures.found)) (c.work.ensures.worked changes input before start)
+    subst P (sym (one_command _ folder _ command (command_of c.in-Some.request.task) asked c.in-Some.ensures.found)) (c.work.ensures.worked changes input before start)
 
 pub returns-in-Some-clause-leaves : goal.returns-in-Some-clause-leaves
 returns-in-Some-clause-leaves g c = λ folder command changes input before asked start.
@@ -24,7 +25,7 @@ returns-in-Some-clause-leaves g c = λ folder command changes input before asked
 pub returns-in-Some-clause-any_moment : goal.returns-in-Some-clause-any_moment
 returns-in-Some-clause-any_moment g c = λ folder command changes input before asked start stands.
     let P : Command → Type 0 = λ k. LeavesOnly g.O.Disk.moment g.O.Disk.left_since c.args.outside.now c.work.new.outside (CommandKeeps k changes input before) in
-    subst P (sym (one_command _ folder _ command c.in-Some.request.command asked c.in-Some.ensures.found)) (c.work.ensures.any_moment changes input before start stands)
+    subst P (sym (one_command _ folder _ command (command_of c.in-Some.request.task) asked c.in-Some.ensures.found)) (c.work.ensures.any_moment changes input before start stands)
 
 pub returns-in-Some-clause-front : goal.returns-in-Some-clause-front
 returns-in-Some-clause-front g c = λ folder command changes input before asks asked start all.

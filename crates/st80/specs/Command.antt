@@ -1,0 +1,27 @@
+-- What the program can be asked to do.
+use Rattle.std.specs.Prelude.{ℕ, List, [], ◌∷◌, Option, Some, None, codes}
+use Rattle.s80_session.specs.declared.item.Query.{Query}
+use Rattle.s80_session.specs.declared.item.Query.TheVariants.{Recover, Classes, Browse}
+
+-- to work the items of the input, or to answer a query
+pub data Command : Type 0 where
+  Run : Command
+  Tell : Query → Command
+
+-- the word that names a command, and the words behind it
+abbrev pub command_word : Command → List ℕ
+command_word Run = codes "run"
+command_word (Tell Recover) = codes "recover"
+command_word (Tell Classes) = codes "classes"
+command_word (Tell (Browse name)) = codes "browse"
+
+abbrev pub arguments_of : Command → List (List ℕ)
+arguments_of Run = []
+arguments_of (Tell Recover) = []
+arguments_of (Tell Classes) = []
+arguments_of (Tell (Browse name)) = name ∷ []
+
+-- the command that asks this, or else is a run
+abbrev pub command_with : Option Query → Command
+command_with None = Run
+command_with (Some query) = Tell query

@@ -1,0 +1,11 @@
+-- The command that a task is.
+use Rattle.s80_session.specs.declared.item.Query.TheVariants.{Recover, Classes, Browse}
+use Rattle.st80.specs.declared.words.Task.{Task}
+use Rattle.st80.specs.declared.words.Task.TheVariants as tasks
+use Rattle.st80.specs.Command.{Command, Run, Tell}
+
+abbrev pub command_of : Task → Command
+command_of tasks.Run = Run
+command_of tasks.Recover = Tell Recover
+command_of tasks.Classes = Tell Classes
+command_of (tasks.Browse name) = Tell (Browse name.now)
