@@ -1,0 +1,4 @@
+pub mod ByWidth
+pub mod Entries
+pub mod Listing
+pub mod Table

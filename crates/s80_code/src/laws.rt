@@ -1,0 +1,49 @@
+// Laws of the table, for the crates above.
+ghost use Rattle.std.specs.Prelude.{◌≡◌, ℕ, ◌-◌, ◌<◌, ◌≤◌, ◌⊎◌, ◌↔◌, List, ◌∷◌, ◌++◌, true, false, Some, None, IsSome, length, take, slice_get, slice_range};
+ghost use Rattle.s80_code.specs.declared.instruction.Instruction.{Instruction};
+ghost use Rattle.s80_code.specs.Table.{Row, rows, formed, decoded, width_of, is_unused, Stands};
+
+/// An instruction has one to three bytes.
+pub fn widths_are_one_to_three()
+    ensures { (bytes : List ℕ) (instruction : Instruction) (width : ℕ)
+        → decoded bytes ≡ Some (instruction, width) → (1 ≤ width) × (width ≤ 3) }
+{}
+
+/// Only the bytes of an instruction say what it is.
+pub fn an_instruction_is_its_bytes()
+    ensures { (bytes : List ℕ) (instruction : Instruction) (width : ℕ)
+        → decoded bytes ≡ Some (instruction, width)
+        → (width ≤ length bytes) × ((other : List ℕ) → decoded (take width bytes ++ other) ≡ Some (instruction, width)) }
+{}
+
+/// Every byte but the unused ones begins an instruction where two bytes follow.
+pub fn used_bytes_stand_for_instructions()
+    ensures { (b c d : ℕ) (more : List ℕ) → b < 256 → is_unused b ≡ false
+        → IsSome (decoded (b ∷ c ∷ d ∷ more)) }
+{}
+
+/// An unused byte begins no instruction.
+pub fn unused_bytes_stand_for_nothing()
+    ensures { (b : ℕ) (more : List ℕ) → is_unused b ≡ true → decoded (b ∷ more) ≡ None }
+{}
+
+/// There is no instruction exactly where the byte is unused or the bytes end inside it.
+pub fn none_is_unused_or_cut_off()
+    ensures { (b : ℕ) (behind : List ℕ) → b < 256
+        → decoded (b ∷ behind) ≡ None ↔ (is_unused b ≡ true) ⊎ (length (b ∷ behind) < width_of b) }
+{}
+
+/// A byte in a row of the table is what the row says: no two rows share a byte.
+pub fn a_byte_has_one_row()
+    ensures { (k b : ℕ) (r : Row) (behind : List ℕ) → slice_get rows k ≡ Some r → r.first ≤ b → b ≤ r.last
+        → decoded (b ∷ behind) ≡ formed r.form (b - r.first) behind }
+{}
+
+/// An instruction that stands at a place ends within the bytes, and stands wherever its bytes stand there.
+pub fn a_place_and_the_next()
+    ensures { (bytes : List ℕ) (at next : ℕ) (instruction : Instruction)
+        → Stands bytes at instruction next
+        → (at < next) × (next ≤ length bytes)
+        × ((other : List ℕ) → slice_range other at next ≡ slice_range bytes at next
+        → Stands other at instruction next) }
+{}

@@ -1,0 +1,21 @@
+//! The Blue Book's bytecodes as data: code and its literals, and the instructions as one table.
+#![tactic(auto)]
+
+mod code;
+mod decoding;
+mod instruction;
+mod laws;
+mod listing;
+
+pub use code::{Code, Entry, Frame};
+pub use decoding::decode;
+pub use instruction::{Instruction, Storage};
+pub use laws::{
+    a_byte_has_one_row, a_place_and_the_next, an_instruction_is_its_bytes,
+    none_is_unused_or_cut_off, unused_bytes_stand_for_nothing, used_bytes_stand_for_instructions,
+    widths_are_one_to_three,
+};
+pub use listing::disassemble;
+
+#[cfg(test)]
+mod tests;
