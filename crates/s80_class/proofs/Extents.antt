@@ -1,5 +1,5 @@
 -- The greatest among a class and its descendants, where the class comes to have another row, by those that were found.
-use Rattle.std.proofs.Common.{◌≡◌, ◌≤◌, ◌<◌, ◌∙◌, ◌+◌, ◌^◌, ◌-◌, inl, inr, ℕ, zero, suc, Bool, cond, true, false, refl, sym, ap, List, [], ◌∷◌, length, get_or, take, fold, max, Some, is_some, arith, slice_get}
+use Rattle.std.proofs.Common.{◌≡◌, ◌≤◌, ◌<◌, ◌∙◌, ◌+◌, ◌^◌, ◌-◌, inl, inr, ℕ, zero, suc, Bool, cond, true, false, refl, sym, ap, List, [], ◌∷◌, length, get_or, take, fold, max, Option, Some, is_some, arith, slice_get}
 use Rattle.std.specs.Str.{bytes_eq}
 use Rattle.std.specs.Cmp.Lexicographic.{bytes_decides}
 use Rattle.std.specs.FinMap as map
@@ -15,7 +15,8 @@ use Rattle.s80_class.specs.Family.{Found, IsFamily, least}
 use Rattle.s80_class.proofs.Lines.{Entry, passes, get-here, get-elsewhere, not_eq, lineage_line}
 use Rattle.s80_class.proofs.Indexed.{none_there}
 use Rattle.s80_class.proofs.Most.{most_of, at_least, at_most, some_row, listed}
-use Rattle.s80_class.proofs.Families.{IsKnown, IsFound, class_found, counts, found_where}
+use Rattle.s80_class.specs.Known.{IsKnown}
+use Rattle.s80_class.proofs.Families.{IsFound, class_found, counts, found_where}
 
 -- ---- the greatest of those that were found
 
@@ -95,7 +96,7 @@ module _ (table : Table) (is : IsKnown table) (c : ℕ) (top : Totals) (found : 
       let same : lineage new q ≡ es = lineage_line new q es line in
       (ap (passes name) same ∙ h.0, h.1 tops.0 tops.1 of_top ∙ ap (λ xs. totals (inherited_in xs)) (sym same))
 
-  pub are_family : IsFamily new name found
+  pub are_family : IsFamily table.names new name found
   are_family = record {
     each = λ k p at.
         let q = class_found table is c top name named found next so_far k p at in
@@ -103,18 +104,18 @@ module _ (table : Table) (is : IsKnown table) (c : ℕ) (top : Totals) (found : 
         let r = row_after q.0 old.0 old.1 in
         let line = valid q.0 r.0 r.1 in
         let h = counts_here k p q.0 line.0 at q.1 line.1 in
-        (q.0, ap is_some r.1, h.0, h.1);
+        (q.0, q.1, ap is_some r.1, h.0, h.1);
     all = λ q key under.
         let r = some_row new q key in
         let line = valid q r.0 r.1 in
         let passed : passes name line.0 ≡ true = ap (passes name) (sym (lineage_line new q line.0 line.1)) ∙ under in
         let h = found_where table is c top name named found next so_far new (get-elsewhere table.classes name row) done q line.0 line.1 passed in
-        (h.0, h.1, h.2, (counts_here h.0 h.1 q line.0 h.2 h.3 line.1).1);
+        (h.0, h.1, h.2, h.3, (counts_here h.0 h.1 q line.0 h.2 h.3 line.1).1);
   }
 
 -- ---- the greatest of a family
 
-module _ (classes : Classes) (name : Name) (found : List Found) (family : IsFamily classes name found) where
+module _ (names : List (Option Name)) (classes : Classes) (name : Name) (found : List Found) (family : IsFamily names classes name found) where
   module _ (count : Inherited → ℕ) (f : Totals → ℕ) (alike : (u : Inherited) → f (totals u) ≡ counted (count u)) where
     abbrev whole : ℕ
     whole = most_of count (inherited_of classes) (λ q. is_under classes q name) 0 (map.keys classes)
@@ -122,8 +123,8 @@ module _ (classes : Classes) (name : Name) (found : List Found) (family : IsFami
     not_above : most_in f 0 found ≤ counted whole
     not_above = stays f (counted whole) found 0 (omega arith) (λ k p at.
         let q = family.each k p at in
-        let is_count : f p.1 ≡ counted (count (inherited_of classes q.0)) = ap f q.3 ∙ alike (inherited_of classes q.0) in
-        let le : count (inherited_of classes q.0) ≤ whole = at_least count (inherited_of classes) (λ x. is_under classes x name) q.0 (map.keys classes) 0 q.2 (listed classes q.0 ∙ q.1) in
+        let is_count : f p.1 ≡ counted (count (inherited_of classes q.0)) = ap f q.4 ∙ alike (inherited_of classes q.0) in
+        let le : count (inherited_of classes q.0) ≤ whole = at_least count (inherited_of classes) (λ x. is_under classes x name) q.0 (map.keys classes) 0 q.3 (listed classes q.0 ∙ q.2) in
         omega (arith, is_count, le))
 
     not_below : counted whole ≤ most_in f 0 found
@@ -131,7 +132,7 @@ module _ (classes : Classes) (name : Name) (found : List Found) (family : IsFami
       | inl lt ↦
           let le : whole ≤ most_in f 0 found = at_most count (inherited_of classes) (λ x. is_under classes x name) (most_in f 0 found) (map.keys classes) 0 (omega arith) (λ q key under.
           let p = family.all q (sym (listed classes q) ∙ key) under in
-          let is_count : f p.1.1 ≡ counted (count (inherited_of classes q)) = ap f p.3 ∙ alike (inherited_of classes q) in
+          let is_count : f p.1.1 ≡ counted (count (inherited_of classes q)) = ap f p.4 ∙ alike (inherited_of classes q) in
           let reached : f p.1.1 ≤ most_in f 0 found = reaches f found 0 p.0 p.1 p.2 in
           omega (arith, is_count, reached, lt)) in
           omega (arith, le)

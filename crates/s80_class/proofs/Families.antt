@@ -7,11 +7,12 @@ use Rattle.std.specs.FinMap as map
 use Rattle.std.proofs.lemmas.Option.{slice_get_within, slice_get-map, some_pair_parts}
 use Rattle.std.proofs.lemmas.List.{length-map}
 use Rattle.s80_class.specs.declared.inherited.Totals.{Totals}
-use Rattle.s80_class.specs.Classes.{Name, ClassRow, Classes, IsLine, IsValid, inherited_in}
+use Rattle.s80_class.specs.Classes.{Name, ClassRow, Classes, IsLine, inherited_in}
 use Rattle.s80_class.specs.Counted.{totals, over, own_of}
 use Rattle.s80_class.specs.Table.{Table, IsNumberOf, row_of}
 use Rattle.s80_class.specs.Kept.{names_of, classes_of, name_at, IsKept}
-use Rattle.s80_class.specs.Family.{Found, IsBelow, AreDistinct, AreSubclasses, Grows}
+use Rattle.s80_class.specs.Family.{Found, IsBelow, AreDistinct, AreUnder, Grows}
+use Rattle.s80_class.specs.Known.{IsKnown}
 use Rattle.s80_class.proofs.Lines.{Entry, passes, bytes_eq-self, not_eq, get-left, one_line, never_again, contains_some, len_positive}
 use Rattle.s80_class.proofs.Rows.{Entries, get_kept, entry_of_number, number_of_entry}
 use Rattle.s80_class.proofs.Keeping.{shows_kept}
@@ -61,12 +62,6 @@ or_true false c h = h
 
 -- ---- what a search knows of the table
 
-pub record IsKnown (table : Table) : Type 0 where
-  pub one_number : (i j : ℕ) (name : Name) → IsNumberOf table.names i name → IsNumberOf table.names j name → i ≡ j
-  pub known : (number : ℕ) (name : Name) → IsNumberOf table.names number name → (row : ClassRow) × (map.get table.classes name ≡ Some row)
-  pub numbered : (name : Name) (row : ClassRow) → map.get table.classes name ≡ Some row → (number : ℕ) × IsNumberOf table.names number name
-  pub valid : IsValid table.classes
-
 pub known_table : (es : Entries) (order : List ℕ) → IsKept es order → (spare : ℕ) (table : Table) → shown es spare ≡ table → IsKnown table
 known_table es order kept spare table shows =
     subst IsKnown shows (record {
@@ -103,6 +98,34 @@ module _ (table : Table) (is : IsKnown table) where
       let above : b.above ≡ a.above = let h : Some b.above ≡ Some a.above = sym b.superclass_is ∙ ap (λ (r : ClassRow). r.superclass) (sym rows) ∙ a.superclass_is in cc in
       is.one_number s t a.above a.named_above (subst (λ n. IsNumberOf table.names t n) above b.named_above)
 
+  -- no more than there are classes
+  few_of : (found : List Found) → ((k : ℕ) (p : Found) → slice_get found k ≡ Some p → (q : Name) × IsNumberOf table.names p.0 q) → AreDistinct found → length found ≤ map.len table.classes
+  few_of found classes distinct =
+      let short : length (list_map spelled found) ≤ map.len table.classes = few_names (list_map spelled found) table.classes each apart in
+      omega (arith, short, length-map found spelled)
+    where
+      spelled : Found → Name
+      spelled p = name_at table.names p.0
+
+      listed : (k : ℕ) (x : Name) → slice_get (list_map spelled found) k ≡ Some x → (p : Found) × (slice_get found k ≡ Some p) × IsNumberOf table.names p.0 x
+      listed k x h = go (slice_get found k) refl (sym (slice_get-map spelled found k) ∙ h)
+        where
+          go : (o : Option Found) → slice_get found k ≡ o → option_map spelled o ≡ Some x → (p : Found) × (slice_get found k ≡ Some p) × IsNumberOf table.names p.0 x
+          go None at h = absurd (let bad : None ≡ Some x = h in cc)
+          go (Some p) at h =
+              let q = classes k p at in
+              let same : q.0 ≡ x = sym (name_at_is table.names p.0 q.0 q.1) ∙ (let e : Some (name_at table.names p.0) ≡ Some x = h in cc) in
+              (p, at, subst (λ n. IsNumberOf table.names p.0 n) same q.1)
+
+      each : (k : ℕ) (x : Name) → slice_get (list_map spelled found) k ≡ Some x → (row : ClassRow) × (map.get table.classes x ≡ Some row)
+      each k x h = let p = listed k x h in is.known p.0.0 x p.2
+
+      apart : (j k : ℕ) (x : Name) → slice_get (list_map spelled found) j ≡ Some x → slice_get (list_map spelled found) k ≡ Some x → j ≡ k
+      apart j k x a b =
+          let p = listed j x a in
+          let q = listed k x b in
+          distinct j k p.0 q.0 p.1 q.1 (is.one_number p.0.0 q.0.0 x p.2 q.2)
+
   module _ (c : ℕ) (top : Totals) (name : Name) (named : IsNumberOf table.names c name) where
     pub begun : IsFound table c top ((c, top) ∷ []) 0
     begun = record { first = refl; distinct = distinct; from = from; all = λ k p lt. absurd (omega arith) }
@@ -125,31 +148,7 @@ module _ (table : Table) (is : IsKnown table) where
       class_found (suc j) p at = let f = so_far.from (suc j) p (omega arith) at in (f.below.name, f.below.named)
 
       pub few : length found ≤ map.len table.classes
-      few =
-          let short : length (list_map spelled found) ≤ map.len table.classes = few_names (list_map spelled found) table.classes each distinct in
-          omega (arith, short, length-map found spelled)
-        where
-          spelled : Found → Name
-          spelled p = name_at table.names p.0
-
-          listed : (k : ℕ) (x : Name) → slice_get (list_map spelled found) k ≡ Some x → (p : Found) × (slice_get found k ≡ Some p) × IsNumberOf table.names p.0 x
-          listed k x h = go (slice_get found k) refl (sym (slice_get-map spelled found k) ∙ h)
-            where
-              go : (o : Option Found) → slice_get found k ≡ o → option_map spelled o ≡ Some x → (p : Found) × (slice_get found k ≡ Some p) × IsNumberOf table.names p.0 x
-              go None at h = absurd (let bad : None ≡ Some x = h in cc)
-              go (Some p) at h =
-                  let q = class_found k p at in
-                  let same : q.0 ≡ x = sym (name_at_is table.names p.0 q.0 q.1) ∙ (let e : Some (name_at table.names p.0) ≡ Some x = h in cc) in
-                  (p, at, subst (λ n. IsNumberOf table.names p.0 n) same q.1)
-
-          each : (k : ℕ) (x : Name) → slice_get (list_map spelled found) k ≡ Some x → (row : ClassRow) × (map.get table.classes x ≡ Some row)
-          each k x h = let p = listed k x h in is.known p.0.0 x p.2
-
-          distinct : (j k : ℕ) (x : Name) → slice_get (list_map spelled found) j ≡ Some x → slice_get (list_map spelled found) k ≡ Some x → j ≡ k
-          distinct j k x a b =
-              let p = listed j x a in
-              let q = listed k x b in
-              so_far.distinct j k p.0 q.0 p.1 q.1 (is.one_number p.0.0 q.0.0 x p.2 q.2)
+      few = few_of found class_found so_far.distinct
 
       -- ---- each is under the class, in each map that differs at the class alone
 
@@ -232,17 +231,17 @@ module _ (table : Table) (is : IsKnown table) where
 
       -- ---- the subclasses of the next one
 
-      module _ (number : ℕ) (sums : Totals) (here : slice_get found next ≡ Some (number, sums)) (more : List Found) (subclasses : AreSubclasses table number sums more) where
+      module _ (number : ℕ) (sums : Totals) (here : slice_get found next ≡ Some (number, sums)) (more : List Found) (under : AreUnder table number sums more) where
         within : next < length found
         within = slice_get_within found next (number, sums) here
 
         apart : (j m : ℕ) (p q : Found) → slice_get found j ≡ Some p → slice_get more m ≡ Some q → p.0 ≡ q.0 → ⊥
         apart zero m p q a b same =
-            let s = subclasses.sound m q b in
+            let s = under.sound m q b in
             let first : c ≡ p.0 = (some_pair_parts c p.0 top p.1 (sym so_far.first ∙ a)).0 in
             not_again next (number, sums) s.0 here (subst (λ x. IsBelow table x s.0 number) (sym (first ∙ same)) s.1)
         apart (suc j) m p q a b same =
-            let s = subclasses.sound m q b in
+            let s = under.sound m q b in
             let f = so_far.from (suc j) p (omega arith) a in
             let above : f.parent.0 ≡ number = same_superclass p.0 f.parent.0 number f.row s.0 f.below (subst (λ x. IsBelow table x s.0 number) (sym same) s.1) in
             let place : f.place ≡ next = so_far.distinct f.place next f.parent (number, sums) f.there here above in
@@ -256,9 +255,19 @@ module _ (table : Table) (is : IsKnown table) where
           ]
           | inr new_j ↦ elim (get_appended found more k q b) as (λ _. j ≡ k) [
             | inl old_k ↦ absurd (apart k new_j.0 q p old_k new_j.2 (sym same))
-            | inr new_k ↦ let m : new_j.0 ≡ new_k.0 = subclasses.distinct new_j.0 new_k.0 p q new_j.2 new_k.2 same in omega (arith, new_j.1, new_k.1, m)
+            | inr new_k ↦ let m : new_j.0 ≡ new_k.0 = under.distinct new_j.0 new_k.0 p q new_j.2 new_k.2 same in omega (arith, new_j.1, new_k.1, m)
           ]
         ]
+
+        class_grown : (k : ℕ) (p : Found) → slice_get (found ++ more) k ≡ Some p → (q : Name) × IsNumberOf table.names p.0 q
+        class_grown k p at = elim (get_appended found more k p at) [
+          | inl old ↦ class_found k p old
+          | inr new ↦ let s = under.sound new.0 p new.2 in (s.1.name, s.1.named)
+        ]
+
+        -- so those of the next one have room too
+        pub few_grown : length (found ++ more) ≤ map.len table.classes
+        few_grown = few_of (found ++ more) class_grown distinct_grown
 
         from_grown : (j : ℕ) (p : Found) → 0 < j → slice_get (found ++ more) j ≡ Some p → IsFrom table (found ++ more) (next + 1) j p
         from_grown j p lt a = elim (get_appended found more j p a) [
@@ -275,7 +284,7 @@ module _ (table : Table) (is : IsKnown table) where
                 adds = f.adds;
               }
           | inr new ↦
-              let s = subclasses.sound new.0 p new.2 in
+              let s = under.sound new.0 p new.2 in
               record {
                 place = next;
                 parent = (number, sums);
@@ -288,8 +297,8 @@ module _ (table : Table) (is : IsKnown table) where
               }
         ]
 
-        all_grown : (k : ℕ) (p : Found) → k < next + 1 → slice_get (found ++ more) k ≡ Some p → (x : ℕ) (row : ClassRow) → IsBelow table x row p.0 → (j : ℕ) × (t : Totals) × (slice_get (found ++ more) j ≡ Some (x, t))
-        all_grown k p lt a x row below =
+        all_grown : ((x : ℕ) (row : ClassRow) → IsBelow table x row number → (k : ℕ) × (t : Totals) × (slice_get more k ≡ Some (x, t))) → (k : ℕ) (p : Found) → k < next + 1 → slice_get (found ++ more) k ≡ Some p → (x : ℕ) (row : ClassRow) → IsBelow table x row p.0 → (j : ℕ) × (t : Totals) × (slice_get (found ++ more) j ≡ Some (x, t))
+        all_grown each k p lt a x row below =
             let old : slice_get found k ≡ Some p = get_old found more k p (omega (arith, within)) a in
             go (less_or_same k next (omega arith)) old
           where
@@ -300,11 +309,11 @@ module _ (table : Table) (is : IsKnown table) where
             go (inl before) old = let r = so_far.all k p before old x row below in (r.0, r.1, get_kept found more r.0 (x, r.1) r.2)
             go (inr same) old =
                 let is_number : p.0 ≡ number = (some_pair_parts p.0 number p.1 sums (sym old ∙ ap (slice_get found) same ∙ here)).0 in
-                let r = subclasses.all x row (subst (λ s. IsBelow table x row s) is_number below) in
+                let r = each x row (subst (λ s. IsBelow table x row s) is_number below) in
                 (length found + r.0, r.1, get_behind found more r.0 (x, r.1) r.2)
 
-        grown_found : IsFound table c top (found ++ more) (next + 1)
-        grown_found = record { first = get_kept found more 0 (c, top) so_far.first; distinct = distinct_grown; from = from_grown; all = all_grown }
+        grown_found : ((x : ℕ) (row : ClassRow) → IsBelow table x row number → (k : ℕ) × (t : Totals) × (slice_get more k ≡ Some (x, t))) → IsFound table c top (found ++ more) (next + 1)
+        grown_found each = record { first = get_kept found more 0 (c, top) so_far.first; distinct = distinct_grown; from = from_grown; all = all_grown each }
 
       pub grown : (number : ℕ) (sums : Totals) → slice_get found next ≡ Some (number, sums) → (new : List Found) → Grows table number sums found new → IsFound table c top new (next + 1)
-      grown number sums here new grows = subst (λ xs. IsFound table c top xs (next + 1)) (sym grows.1) (grown_found number sums here grows.0 grows.2)
+      grown number sums here new grows = subst (λ xs. IsFound table c top xs (next + 1)) (sym grows.1) (grown_found number sums here grows.0 grows.2.under grows.2.all)

@@ -18,7 +18,7 @@ use Rattle.s80_class.specs.Counted.{over, own, own_of}
 use Rattle.s80_class.specs.Table.{Table, IsNumberOf, IsClass, IsSuperclass, IsEntryOf, row_of}
 use Rattle.s80_class.specs.Kept.{names_of, IsKept}
 use Rattle.s80_class.specs.Below.{Pair, comes_before, Has, IsPlaceOf, IsWith, IsWithout, IsMoved, IsIndexed}
-use Rattle.s80_class.specs.Family.{Found, IsBelow, AreDistinct, AreSubclasses}
+use Rattle.s80_class.specs.Family.{Found, IsBelow, AreDistinct, AreUnder, AreSubclasses}
 use Rattle.s80_class.proofs.Rows.{Entries, IsAt, get_kept, get_new, get_pushed, get_set, get_set_other, same_number, entry_of_number, name_is, superclass_in}
 use Rattle.s80_class.proofs.Keeping.{shows_kept, is_entry}
 use Rattle.s80_class.proofs.Calls.{shown}
@@ -234,6 +234,22 @@ module _ (es : Entries) (order : List ℕ) (kept : IsKept es order) (pairs : Lis
               subst (λ (q : Found). (row : ClassRow) × IsBelow table q.0 row number × (q.1 ≡ over (own_of row) totals)) new.1 (row_of table.names e, below, adds)
         ]
 
+    -- what was read are subclasses, each once
+    pub are_under : (at : ℕ) (more : List Found) → IsRead table number totals pairs first at more → AreUnder table number totals more
+    are_under at more read = record { distinct = distinct; sound = read.sound }
+      where
+        distinct : AreDistinct more
+        distinct j k p q is_p is_q same =
+            let at_p : slice_get pairs (first + j) ≡ Some (Some number, p.0) = read.stands j p is_p in
+            let at_q : slice_get pairs (first + k) ≡ Some (Some number, p.0) = read.stands k q is_q ∙ ap (λ (n : ℕ). Some (Some number, n)) (sym same) in
+            elim (cases_lt j k) as (λ _. j ≡ k) [
+              | inl lt ↦ absurd (true≢false (sym (indexed.ordered (first + j) (first + k) (Some number, p.0) (Some number, p.0) (omega arith) at_p at_q) ∙ before_itself (Some number, p.0)))
+              | inr ge ↦ elim (cases_lt k j) as (λ _. j ≡ k) [
+                | inl gt ↦ absurd (true≢false (sym (indexed.ordered (first + k) (first + j) (Some number, p.0) (Some number, p.0) (omega arith) at_q at_p) ∙ before_itself (Some number, p.0)))
+                | inr le ↦ omega arith
+              ]
+            ]
+
     -- no further one is of this superclass
     abbrev pub IsLast : ℕ → Type 0
     IsLast at = (p : Pair) → slice_get pairs at ≡ Some p → p.0 ≢ Some number
@@ -266,18 +282,6 @@ module _ (es : Entries) (order : List ℕ) (kept : IsKept es order) (pairs : Lis
                 last p here (ap (λ (q : Pair). q.0) (let both : p ≡ (Some number, x) = cc in both))
           ]
 
-      distinct : AreDistinct more
-      distinct j k p q is_p is_q same =
-          let at_p : slice_get pairs (first + j) ≡ Some (Some number, p.0) = read.stands j p is_p in
-          let at_q : slice_get pairs (first + k) ≡ Some (Some number, p.0) = read.stands k q is_q ∙ ap (λ (n : ℕ). Some (Some number, n)) (sym same) in
-          elim (cases_lt j k) as (λ _. j ≡ k) [
-            | inl lt ↦ absurd (true≢false (sym (indexed.ordered (first + j) (first + k) (Some number, p.0) (Some number, p.0) (omega arith) at_p at_q) ∙ before_itself (Some number, p.0)))
-            | inr ge ↦ elim (cases_lt k j) as (λ _. j ≡ k) [
-              | inl gt ↦ absurd (true≢false (sym (indexed.ordered (first + k) (first + j) (Some number, p.0) (Some number, p.0) (omega arith) at_q at_p) ∙ before_itself (Some number, p.0)))
-              | inr le ↦ omega arith
-            ]
-          ]
-
       all : (x : ℕ) (row : ClassRow) → IsBelow table x row number → (k : ℕ) × (t : Totals) × (slice_get more k ≡ Some (x, t))
       all x row below =
           let has = has_below x number row below in
@@ -292,4 +296,4 @@ module _ (es : Entries) (order : List ℕ) (kept : IsKept es order) (pairs : Lis
           (k, p.1, here ∙ (λ i. Some (same i, p.1)))
 
       pub are_subclasses : AreSubclasses table number totals more
-      are_subclasses = record { distinct = distinct; sound = read.sound; all = all }
+      are_subclasses = record { under = are_under at more read; all = all }

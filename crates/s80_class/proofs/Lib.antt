@@ -10,3 +10,4 @@ pub mod Pairs
 pub mod Indexed
 pub mod Families
 pub mod Extents
+pub mod Settled

@@ -1,7 +1,5 @@
 -- What a class inherits as the table counts it: a count stands still at the end of its type.
-use Rattle.std.specs.Prelude.{ℕ, ◌+◌, ◌-◌, ◌^◌, List, [], ◌∷◌, Option, Some, None, length, min, max, if◌then◌else◌}
-use Rattle.std.specs.Option.{option_map}
-use Rattle.std.specs.Str.{bytes_eq}
+use Rattle.std.specs.Prelude.{ℕ, ◌+◌, ◌-◌, ◌^◌, List, length, min, max, if◌then◌else◌}
 use Rattle.s80_change.specs.declared.definition.Kind.{Kind}
 use Rattle.s80_change.specs.declared.definition.Kind.TheVariants.{Plain}
 use Rattle.s80_class.specs.declared.inherited.Totals.{Totals}
@@ -37,11 +35,6 @@ own kind inst_vars class_side_vars = record { inst_vars = counted (length inst_v
 
 abbrev pub own_of : ClassRow → Totals
 own_of row = own row.kind row.inst_vars row.class_side_vars
-
--- of the classes of a line below this one, if it is there
-abbrev pub added_below : Name → List (Name × ClassRow) → Option Totals
-added_below name [] = None
-added_below name (e ∷ es) = if bytes_eq e.0 name then Some nothing else option_map (over (own_of e.1)) (added_below name es)
 
 -- the greatest of one more
 abbrev pub raised : Greatest → Totals → Greatest

@@ -5,3 +5,5 @@ pub mod Kept
 pub mod Below
 pub mod Family
 pub mod Sound
+pub mod Known
+pub mod Totalled

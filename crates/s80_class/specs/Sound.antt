@@ -1,6 +1,6 @@
 -- What the representation of a table owes.
 use Rattle.std.specs.Prelude.{◌≤◌, ◌+◌, ◌^◌, vec_len, vec_capacity}
-use Rattle.s80_class.specs.declared.table.ClassTable.TheInside.{Inside}
+use Rattle.s80_class.specs.declared.tree.ClassTree.TheInside.{Inside}
 use Rattle.s80_class.specs.Kept.{IsKept}
 use Rattle.s80_class.specs.Below.{IsIndexed}
 

@@ -6,6 +6,7 @@ mod entry;
 mod inherited;
 mod laws;
 mod table;
+mod tree;
 
 pub use entry::ClassEntry;
 pub use inherited::{Greatest, Totals};

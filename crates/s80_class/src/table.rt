@@ -1,15 +1,15 @@
 // The table of classes.
-ghost use Rattle.std.specs.Prelude.{◌≡◌, ◌≢◌, ◌+◌, ◌-◌, ◌^◌, ◌<◌, ◌≤◌, ◌++◌, ◌∷◌, [], List, ℕ, map as list_map, length, slice_set, Some, None, IfOk, OnOk, MatchOption};
+ghost use Rattle.std.specs.Prelude.{◌≡◌, ◌≢◌, ◌+◌, ◌<◌, ◌≤◌, ◌++◌, ◌∷◌, [], List, ℕ, length, slice_get, slice_set, Some, None, IfOk, OnOk, MatchOption, option_and_then};
 ghost use Rattle.std.specs.FinMap as map;
-ghost use Rattle.s80_class.specs.Classes.{ClassRow, IsValid, descends, inherited_of, extent_of};
-ghost use Rattle.s80_class.specs.Counted.{totals, greatest_of};
-ghost use Rattle.s80_class.specs.Table.{IsNumberOf, IsClass, IsSuperclass, IsAbove, IsEntryOf, row_of};
-ghost use Rattle.s80_class.specs.Kept.{names_of, name_at, IsRising, IsPlace};
-ghost use Rattle.s80_class.specs.Family.{IsFamily, Grows};
+ghost use Rattle.s80_class.specs.Classes.{Name, ClassRow, IsLine, IsValid, descends, inherited_in, inherited_of, extent_of};
+ghost use Rattle.s80_class.specs.Counted.{totals, greatest_of, over, own};
+ghost use Rattle.s80_class.specs.Table.{IsNumberOf, IsClass, IsSuperclass, IsAbove, IsEntryOf, name_of, row_of};
+ghost use Rattle.s80_class.specs.Family.{Found};
+ghost use Rattle.s80_class.specs.Totalled.{IsSettled};
 
-use crate::below::{move_below, place_below, put_below, take_below};
 use crate::entry::ClassEntry;
 use crate::inherited::{Greatest, Totals};
+use crate::tree::ClassTree;
 use s80_base::{Names, OutOfMemory, Text};
 use std::alloc::Global;
 use std::marker::Model;
@@ -17,33 +17,26 @@ use std::marker::Model;
 /// A table of classes. Contracts see a finite map from names to what is known of each class, and the name of the class of each number.
 #[derive(Debug, Drop)]
 pub struct ClassTable {
-    /// By their numbers; none where a class was removed.
-    entries: Vec<Option<ClassEntry>>,
-    /// Their numbers, in byte order of their names.
-    order: Vec<u32>,
-    /// Their superclasses and numbers, in rising order.
-    subclasses: Vec<(Option<u32>, u32)>,
-    /// For how many more classes all three have room.
-    spare: usize,
+    tree: ClassTree,
+    /// What each class has with all that it inherits, by its number.
+    totals: Vec<Totals>,
+    /// Empty, with room for all classes: those that a change gives other totals.
+    found: Vec<(u32, Totals)>,
 }
 
 impl Model for ClassTable {
     ghost use Rattle.s80_class.specs.Table.{Table};
-    ghost use Rattle.s80_class.specs.Kept.{table_code, names_of, classes_of};
+    ghost use Rattle.s80_class.specs.Kept.{table_code};
+    ghost use Rattle.s80_class.specs.Totalled.{IsTotalled};
 
     ghost Value = { Table };
 
     ghost coded = { table_code };
 
-    ghost use Rattle.s80_class.specs.Sound.{IsSound};
+    ghost view = { λ t. t.tree };
 
-    ghost view = { λ t. record { classes = classes_of t.entries.items; names = names_of t.entries.items; spare = t.spare } };
-
-    ghost invariant = { IsSound };
+    ghost invariant = { IsTotalled };
 }
-
-/// Numbers are below this.
-const NUMBERS: usize = 1 << 32;
 
 impl ClassTable {
     /// A table without classes and without room for any.
@@ -53,10 +46,9 @@ impl ClassTable {
         ensures spare { result.spare ≡ 0 }
     {
         ClassTable {
-            entries: Vec::new(alloc),
-            order: Vec::new(alloc),
-            subclasses: Vec::new(alloc),
-            spare: 0,
+            tree: ClassTree::empty(alloc),
+            totals: Vec::new(alloc),
+            found: Vec::new(alloc),
         }
     }
 
@@ -67,24 +59,20 @@ impl ClassTable {
         ensures classes { self.new.classes ≡ self.old.classes }
         ensures names { self.new.names ≡ self.old.names }
     {
-        if n <= self.spare {
+        if n <= self.tree.spare() {
             return Ok(());
         }
-        if n > NUMBERS - self.entries.len() {
-            return Err(OutOfMemory);
-        }
-        self.entries.reserve(n)?;
-        self.order.reserve(n)?;
-        self.subclasses.reserve(n)?;
-        self.spare = n;
-        Ok(())
+        let all = self.tree.count().checked_add(n).ok_or(OutOfMemory)?;
+        self.totals.reserve(n)?;
+        self.found.reserve(all)?;
+        self.tree.reserve(n)
     }
 
     /// How many classes there are.
     pub fn count(&self) -> usize
         ensures { result ≡ map.len self.now.classes }
     {
-        self.order.len()
+        self.tree.count()
     }
 
     /// The number of the class of this name.
@@ -93,15 +81,7 @@ impl ClassTable {
         ensures only { (c : ℕ) → IsNumberOf self.now.names c name.now → result ≡ Some c }
         ensures valid { IsValid self.now.classes }
     {
-        let at = place(&self.entries, &self.order, name.bytes());
-        let Some(&number) = self.order.get(at) else {
-            return None;
-        };
-        if name_in(&self.entries, number) == name.bytes() {
-            Some(number)
-        } else {
-            None
-        }
+        self.tree.find(name)
     }
 
     /// The class of this number.
@@ -109,7 +89,7 @@ impl ClassTable {
         requires { IsClass self.now.names c }
         ensures { IsEntryOf self.now c result.now }
     {
-        self.entries[c as usize].as_ref().unwrap()
+        self.tree.at(c)
     }
 
     /// Whether the class descends from another.
@@ -119,17 +99,7 @@ impl ClassTable {
         ensures { (name other : List ℕ) → IsNumberOf self.now.names c name → IsNumberOf self.now.names of other
             → result ≡ descends self.now.classes name other }
     {
-        let mut next = self.at(c).superclass;
-        for _ in 1..self.order.len() {
-            let Some(number) = next else {
-                return false;
-            };
-            if number == of {
-                return true;
-            }
-            next = self.at(number).superclass;
-        }
-        false
+        self.tree.is_descendant(c, of)
     }
 
     /// What a class has with all that it inherits.
@@ -137,17 +107,7 @@ impl ClassTable {
         requires { IsClass self.now.names c }
         ensures { (name : List ℕ) → IsNumberOf self.now.names c name → result ≡ totals (inherited_of self.now.classes name) }
     {
-        let mut totals = Totals::none();
-        let mut next = Some(c);
-        for _ in 0..self.order.len() {
-            let Some(number) = next else {
-                return totals;
-            };
-            let entry = self.at(number);
-            totals = totals.over(Totals::own(entry));
-            next = entry.superclass;
-        }
-        totals
+        self.totals[c as usize]
     }
 
     /// The greatest numbers of variables among a class and its descendants, if the class itself came to have these totals.
@@ -158,62 +118,21 @@ impl ClassTable {
             → IsValid (map.insert self.now.classes name row) → top ≡ totals (inherited_of (map.insert self.now.classes name row) name)
             → IfOk result (λ g. g ≡ greatest_of (extent_of (map.insert self.now.classes name row) name)) }
     {
+        let mut found = Vec::new(alloc);
+        found.reserve(self.count())?;
+        self.tree.family(c, top, &mut found);
         let mut greatest = Greatest::none();
-        for (_, totals) in &self.family(alloc, c, top)? {
+        for (_, totals) in &found {
             greatest = greatest.raised(*totals);
         }
         Ok(greatest)
-    }
-
-    // A class and its descendants with their totals, if the class itself came to have these.
-    fn family(&self, alloc: Global, c: u32, top: Totals) -> Result<Vec<(u32, Totals)>, OutOfMemory>
-        requires { IsClass self.now.names c }
-        ensures { (name : List ℕ) (row : ClassRow) → IsNumberOf self.now.names c name
-            → IsValid (map.insert self.now.classes name row) → top ≡ totals (inherited_of (map.insert self.now.classes name row) name)
-            → IfOk result (λ found. IsFamily (map.insert self.now.classes name row) name found.items) }
-    {
-        let mut found = Vec::new(alloc);
-        found.push((c, top))?;
-        for next in 0..self.order.len() {
-            let Some(&(number, totals)) = found.get(next) else {
-                return Ok(found);
-            };
-            self.find_below(number, totals, &mut found)?;
-        }
-        Ok(found)
-    }
-
-    // Puts the subclasses of a class that has these totals behind those that were found.
-    fn find_below(
-        &self,
-        number: u32,
-        totals: Totals,
-        found: &mut Vec<(u32, Totals)>,
-    ) -> Result<(), OutOfMemory>
-        ensures { IfOk result (λ _. Grows self.now number totals found.old.items found.new.items) }
-    {
-        let first = place_below(&self.subclasses, (Some(number), 0));
-        for at in first..self.subclasses.len() {
-            let (superclass, subclass) = self.subclasses[at];
-            if superclass != Some(number) {
-                return Ok(());
-            }
-            let own = Totals::own(self.at(subclass));
-            found.push((subclass, own.over(totals)))?;
-        }
-        Ok(())
     }
 
     /// The names of all classes, in byte order.
     pub fn names_sorted(&self, alloc: Global) -> Result<Names, OutOfMemory>
         ensures { IfOk result (λ names. names ≡ map.keys self.now.classes) }
     {
-        let mut names = Names::empty(alloc);
-        for number in &self.order {
-            let name = Text::from_bytes(alloc, name_in(&self.entries, *number))?;
-            names.push(name)?;
-        }
-        Ok(names)
+        self.tree.names_sorted(alloc)
     }
 
     /// Adds a class and answers its number. Takes no memory.
@@ -227,13 +146,9 @@ impl ClassTable {
         ensures spare { self.new.spare + 1 ≡ self.old.spare }
         ensures valid { IsValid self.new.classes }
     {
-        let number = self.entries.len() as u32;
-        let at = place(&self.entries, &self.order, entry.class_name.bytes());
-        self.order.insert(at, number).unwrap();
-        put_below(&mut self.subclasses, (entry.superclass, number));
-        self.entries.push_reserved(Some(entry));
-        self.spare -= 1;
-        number
+        let top = self.totals_with(&entry);
+        self.totals.push_reserved(top);
+        self.tree.add(entry)
     }
 
     /// Puts another entry in place of that of a class, and answers the old one. Takes no memory.
@@ -246,10 +161,11 @@ impl ClassTable {
         ensures spare { self.new.spare ≡ self.old.spare }
         ensures valid { IsValid self.new.classes }
     {
-        let superclass = entry.superclass;
-        let old = self.entries[c as usize].replace(entry).unwrap();
-        move_below(&mut self.subclasses, c, old.superclass, superclass);
-        old
+        let top = self.totals_with(&entry);
+        self.tree.family(c, top, &mut self.found);
+        settle(&mut self.totals, &self.found);
+        self.found.clear();
+        self.tree.replace(c, entry)
     }
 
     /// Takes a class off that is no superclass, and answers its entry. Takes no memory.
@@ -262,28 +178,29 @@ impl ClassTable {
         ensures names { self.new.names ≡ slice_set self.old.names c None }
         ensures spare { self.new.spare ≡ self.old.spare }
     {
-        let at = place(&self.entries, &self.order, name_in(&self.entries, c));
-        self.order.remove(at);
-        let old = self.entries[c as usize].take().unwrap();
-        take_below(&mut self.subclasses, (old.superclass, c));
-        old
+        self.tree.remove(c)
+    }
+
+    // What a class with this entry has with all that it inherits.
+    fn totals_with(&self, entry: &ClassEntry) -> Totals
+        requires { IsSuperclass self.now.names entry.now.superclass }
+        ensures { (es : List (Name × ClassRow)) → IsLine self.now.classes (option_and_then (name_of self.now.names) entry.now.superclass) es
+            → result ≡ over (own entry.now.kind entry.now.inst_vars entry.now.class_side_vars) (totals (inherited_in es)) }
+    {
+        let above = match entry.superclass {
+            Some(superclass) => self.totals_of(superclass),
+            None => Totals::none(),
+        };
+        Totals::own(entry).over(above)
     }
 }
 
-// The name of the class of this number, and no byte where there is none.
-fn name_in(entries: &[Option<ClassEntry>], number: u32) -> &[u8]
-    ensures { result.now ≡ name_at (names_of entries.now) number }
+// Gives each of the classes that were found its totals.
+fn settle(totals: &mut [Totals], found: &[(u32, Totals)])
+    requires { (k : ℕ) (p : Found) → slice_get found.now k ≡ Some p → p.0 < length totals.old }
+    ensures { IsSettled found.now totals.old totals.new }
 {
-    match entries.get(number as usize) {
-        Some(Some(entry)) => entry.class_name.bytes(),
-        _ => &[],
+    for (number, of_class) in found {
+        totals[*number as usize] = *of_class;
     }
-}
-
-// How many of the numbers, which stand in order of their names, have a name below this one.
-fn place(entries: &[Option<ClassEntry>], order: &[u32], name: &[u8]) -> usize
-    requires { IsRising (list_map (name_at (names_of entries.now)) order.now) }
-    ensures { IsPlace (list_map (name_at (names_of entries.now)) order.now) name.now result }
-{
-    order.partition_point(|number| name_in(entries, *number).cmp(name).is_lt())
 }

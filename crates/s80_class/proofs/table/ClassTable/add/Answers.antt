@@ -1,52 +1,21 @@
-use Rattle.std.proofs.Common.{◌≡◌, ◌∙◌, sym, ap, subst, ◌+◌, length, cond, arith, vec_len}
-use Rattle.std.specs.Result.{is_ok}
-use Rattle.std.specs.List.{insert}
-use Rattle.s80_class.specs.Table.{Table}
-use Rattle.s80_class.specs.Below.{Has, IsWith, IsIndexed}
-use Rattle.s80_class.proofs.Keeping.{names_rise}
-use Rattle.s80_class.proofs.Calls.{added_kept, added_classes, added_valid}
-use Rattle.s80_class.proofs.Indexed.{new_number, indexed_more}
+use Rattle.std.proofs.Common.{◌≡◌, ◌∙◌, None, sym, ap, subst, arith}
+use Rattle.std.specs.FinMap as map
+use Rattle.s80_class.specs.Table.{Table, IsSuperclass}
+use Rattle.s80_class.specs.Totalled.{AreTotals}
+use Rattle.s80_class.proofs.Settled.{IsTop, totals_added, one_more}
 use Rattle.s80_class.proofs.table.ClassTable.add.Goals as goal
-
-pub place-at-requires : goal.place-at-requires
-place-at-requires c = rw (c.deref.ensures.value, c.deref-2.ensures.value) (names_rise c.self.inside.entries.items c.self.inside.order.items c.self.invariant.kept)
-
--- the number is that of no class yet
-pub put_below-requires-clause-new : goal.put_below-requires-clause-new
-put_below-requires-clause-new c = λ has.
-    let pairs = c.self.inside.subclasses.items in
-    let count : c.len-number.result ≡ length c.self.inside.entries.items = omega arith in
-    new_number c.self.inside.entries.items pairs c.self.invariant.indexed c.args.entry.superclass (subst (λ n. Has pairs (c.args.entry.superclass, n)) count has)
 
 pub invariant_of-self : goal.invariant_of-self
 invariant_of-self c =
-    let order = c.self.inside.order.items in
-    let at = c.place-at.result in
-    let number = c.len-number.result in
-    let place = rw (c.deref.ensures.value, c.deref-2.ensures.value, c.bytes.ensures) at c.place-at.ensures in
-    let numbers = c.insert.ensures.items ∙ ap (λ r. cond (is_ok r) (insert order at number) order) c.unwrap.ensures in
-    let count : number ≡ length c.self.inside.entries.items = omega arith in
-    let ordered : vec_len c.insert.new.self ≡ vec_len c.self.inside.order + 1 = c.insert.ensures.len ∙ ap (λ r. cond (is_ok r) (vec_len c.self.inside.order + 1) (vec_len c.self.inside.order)) c.unwrap.ensures in
-    let pairs = c.self.inside.subclasses.items in
-    let with = subst (λ n. IsWith pairs (c.args.entry.superclass, n) c.put_below.new.pairs.items) count c.put_below.ensures.with in
-    let spare : c.self.inside.spare ≡ c.args.self.now.spare = ap (λ (t : Table). t.spare) c.self.view_is in
+    let tree = c.self.inside.tree in
+    let e = c.args.entry in
+    let none = subst (λ (t : Table). map.get t.classes e.class_name ≡ None) (sym c.self.view_is) c.requires.new in
+    let super = subst (λ (t : Table). IsSuperclass t.names e.superclass) (sym c.self.view_is) c.requires.superclass in
+    let sums = totals_added tree c.self.invariant.known c.self.inside.totals.items c.self.invariant.totals e c.totals_with-top.result (subst (λ t. IsTop t e c.totals_with-top.result) (sym c.self.view_is) c.totals_with-top.ensures) super none c.add.new.self c.add.ensures.classes c.add.ensures.names in
     record {
-      kept = added_kept c.self.inside.entries.items order c.self.invariant.kept c.self.inside.spare c.args.self.now c.self.view_is c.args.entry c.requires.new c.requires.superclass
-          c.push_reserved.new.self.items c.push_reserved.ensures.items c.insert.new.self.items at number numbers count place;
-      indexed = subst (λ es. IsIndexed es c.put_below.new.pairs.items) (sym c.push_reserved.ensures.items)
-          (indexed_more c.self.inside.entries.items pairs c.self.invariant.indexed c.args.entry c.put_below.new.pairs.items with);
-      room = omega arith;
-      order_room = omega arith;
-      below_room = omega arith;
-      numbers = omega arith;
+      known = c.add.ensures.known;
+      totals = subst (AreTotals c.add.new.self) (sym c.push_reserved.ensures.items) sums;
+      none_found = c.self.invariant.none_found;
+      room = omega (arith, c.self.invariant.room, c.push_reserved.ensures.len, c.push_reserved.ensures.capacity, c.add.ensures.spare);
+      found_room = omega (arith, c.self.invariant.found_room, ap map.len c.add.ensures.classes ∙ one_more tree.classes e.class_name _ none, c.add.ensures.spare);
     }
-
-pub returns-clause-classes : goal.returns-clause-classes
-returns-clause-classes c =
-    added_classes c.self.inside.entries.items c.self.inside.order.items c.self.invariant.kept c.self.inside.spare c.args.self.now c.self.view_is c.args.entry c.requires.new c.requires.superclass
-    c.push_reserved.new.self.items c.push_reserved.ensures.items
-
-pub returns-clause-valid : goal.returns-clause-valid
-returns-clause-valid c =
-    added_valid c.self.inside.entries.items c.self.inside.order.items c.self.invariant.kept c.self.inside.spare c.args.self.now c.self.view_is c.args.entry c.requires.new c.requires.superclass
-    c.push_reserved.new.self.items c.push_reserved.ensures.items

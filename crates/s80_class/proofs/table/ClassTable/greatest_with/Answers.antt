@@ -1,7 +1,7 @@
 use Rattle.std.proofs.Common.{◌∙◌, refl, sym, ap, subst}
 use Rattle.std.specs.FinMap as map
 use Rattle.std.proofs.lemmas.List.{take_all}
-use Rattle.s80_class.specs.Family.{IsFamily}
+use Rattle.s80_class.specs.Family.{IsFamily, FindsFamily}
 use Rattle.s80_class.proofs.Extents.{raised_by, raised_more, greatest_found}
 use Rattle.s80_class.proofs.table.ClassTable.greatest_with.Goals as goal
 
@@ -16,7 +16,8 @@ loop-totals-preserved c =
 pub returns : goal.returns
 returns c = λ name row named valid is_top.
     let items = c.deref-totals-items.result.now in
-    let family = subst (IsFamily (map.insert c.args.self.now.classes name row) name) (sym c.deref-totals-items.ensures.value) (c.in_ok-family.ensures name row named valid is_top) in
+    let finds = subst (λ t. FindsFamily t c.args.c c.args.top c.family.new.found.items) c.self.view_is c.family.ensures.family in
+    let family = subst (IsFamily c.args.self.now.names (map.insert c.args.self.now.classes name row) name) (sym c.deref-totals-items.ensures.value) (finds name row named valid is_top) in
     c.loop-totals.invariant
     ∙ ap raised_by (take_all c.loop-totals.totals-index items c.loop-totals-test.false)
-    ∙ greatest_found (map.insert c.args.self.now.classes name row) name items family
+    ∙ greatest_found c.args.self.now.names (map.insert c.args.self.now.classes name row) name items family

@@ -1,80 +1,25 @@
-use Rattle.std.proofs.Common.{◌∙◌, refl, ap, sym, subst, set, IsSome, arith}
-use Rattle.s80_class.proofs.Keeping.{names_rise, class_within}
-use Rattle.s80_class.proofs.Calls.{entry_at, entry_of_class, entry_shown, is_entry_at, place_named, removed_at, removed_kept, removed_classes, removed_names}
-use Rattle.s80_class.specs.Table.{Table, IsClass}
-use Rattle.s80_class.proofs.Rows.{IsAt}
-use Rattle.s80_class.specs.Below.{IsIndexed}
-use Rattle.s80_class.proofs.Indexed.{is_there, indexed_less}
-use Rattle.s80_class.proofs.table.ClassTable.remove.Goals.{After-unwrap-old}
+use Rattle.std.proofs.Common.{◌≡◌, ◌≢◌, Some, ap, subst, arith}
+use Rattle.std.specs.FinMap as map
+use Rattle.s80_class.specs.Classes.{Name, ClassRow}
+use Rattle.s80_class.specs.Table.{Table, IsNumberOf}
+use Rattle.s80_class.proofs.Settled.{totals_removed, not_more}
 use Rattle.s80_class.proofs.table.ClassTable.remove.Goals as goal
 
-pub place-at-requires : goal.place-at-requires
-place-at-requires c = rw (c.deref.ensures.value, c.deref-2.ensures.value) (names_rise c.self.inside.entries.items c.self.inside.order.items c.self.invariant.kept)
-
-pub remove-requires : goal.remove-requires
-remove-requires c =
-    let es = c.self.inside.entries.items in
-    let order = c.self.inside.order.items in
-    let kept = c.self.invariant.kept in
-    let spare = c.self.inside.spare in
-    let table = c.args.self.now in
-    let place = rw (c.deref.ensures.value, c.deref-2.ensures.value, c.name_in.ensures, c.deref-3.ensures.value) at c.place-at.ensures in
-    let old = entry_of_class es order kept spare table c.self.view_is c.args.c c.requires.class in
-    let within = removed_at es order kept spare table c.self.view_is c.args.c old.0 old.1 c.requires.alone c.place-at.result
-    (place_named es order kept spare table c.self.view_is c.args.c old.0 old.1 c.place-at.result place) in
-    omega (arith, within)
-
-pub index_mut-requires : goal.index_mut-requires
-index_mut-requires c =
-    let class = subst (λ (t : Table). IsClass t.names c.args.c) (sym c.self.view_is) c.requires.class in
-    omega (arith, class_within c.self.inside.entries.items c.self.inside.order.items c.self.invariant.kept c.args.c class)
-
-pub unwrap-old-requires : goal.unwrap-old-requires
-unwrap-old-requires c =
-    let some = is_entry_at c.self.inside.entries.items c.self.inside.order.items c.self.invariant.kept c.self.inside.spare c.args.self.now c.self.view_is c.args.c c.index_mut.result.now
-    c.requires.class c.index_mut.ensures.value in
-    subst IsSome (sym (c.take.ensures.value ∙ some.1)) refl
-
--- the entry that was there
-old_at : (c : After-unwrap-old) → IsAt c.self.inside.entries.items c.args.c c.unwrap-old.result
-old_at c =
-    entry_at c.self.inside.entries.items c.self.inside.order.items c.self.invariant.kept c.self.inside.spare c.args.self.now c.self.view_is c.args.c c.index_mut.result.now c.unwrap-old.result
-    c.requires.class c.index_mut.ensures.value (sym c.take.ensures.value ∙ c.unwrap-old.ensures)
-
-pub take_below-requires-clause-there : goal.take_below-requires-clause-there
-take_below-requires-clause-there c = is_there c.self.inside.entries.items c.self.inside.subclasses.items c.self.invariant.indexed c.args.c c.unwrap-old.result (old_at (goal.at.take_below-requires-clause-there c).After-unwrap-old)
+pub remove-requires-clause-alone : goal.remove-requires-clause-alone
+remove-requires-clause-alone c = λ name other row named is.
+    c.requires.alone name other row (subst (λ (t : Table). IsNumberOf t.names c.args.c name) c.self.view_is named) (subst (λ (t : Table). map.get t.classes other ≡ Some row) c.self.view_is is)
 
 pub invariant_of-self : goal.invariant_of-self
 invariant_of-self c =
-    let es = c.self.inside.entries.items in
-    let order = c.self.inside.order.items in
-    let kept = c.self.invariant.kept in
-    let spare = c.self.inside.spare in
-    let table = c.args.self.now in
-    let place = rw (c.deref.ensures.value, c.deref-2.ensures.value, c.name_in.ensures, c.deref-3.ensures.value) at c.place-at.ensures in
+    let tree = c.self.inside.tree in
+    let old = c.remove.result in
+    let named : IsNumberOf tree.names c.args.c old.class_name = c.remove.ensures.old.named in
+    let alone : (q : Name) (row : ClassRow) → map.get tree.classes q ≡ Some row → row.superclass ≢ Some old.class_name = λ q row is.
+    c.requires.alone old.class_name q row (subst (λ (t : Table). IsNumberOf t.names c.args.c old.class_name) c.self.view_is named) (subst (λ (t : Table). map.get t.classes q ≡ Some row) c.self.view_is is) in
     record {
-      kept = removed_kept es order kept spare table c.self.view_is c.args.c c.unwrap-old.result (old_at (goal.at.invariant_of-self c).After-unwrap-old) c.requires.alone (set es c.args.c c.take.new.self) (ap (set es c.args.c) c.take.ensures.after)
-          c.remove.new.self.items c.place-at.result c.remove.ensures.items (place_named es order kept spare table c.self.view_is c.args.c c.unwrap-old.result (old_at (goal.at.invariant_of-self c).After-unwrap-old) c.place-at.result place);
-      indexed = subst (λ o. IsIndexed (set es c.args.c o) c.take_below.new.pairs.items) (sym c.take.ensures.after)
-          (indexed_less es c.self.inside.subclasses.items c.self.invariant.indexed c.args.c c.unwrap-old.result (old_at (goal.at.invariant_of-self c).After-unwrap-old) c.take_below.new.pairs.items c.take_below.ensures.without);
-      room = c.self.invariant.room;
-      order_room = omega (arith, c.self.invariant.order_room);
-      below_room = omega (arith, c.self.invariant.below_room);
-      numbers = c.self.invariant.numbers;
+      known = c.remove.ensures.known;
+      totals = totals_removed tree c.self.invariant.known c.self.inside.totals.items c.self.invariant.totals c.args.c old.class_name named alone c.remove.new.self c.remove.ensures.classes c.remove.ensures.names;
+      none_found = c.self.invariant.none_found;
+      room = omega (arith, c.self.invariant.room, c.remove.ensures.spare);
+      found_room = omega (arith, c.self.invariant.found_room, ap map.len c.remove.ensures.classes, not_more tree.classes old.class_name, c.remove.ensures.spare);
     }
-
-pub returns-clause-old : goal.returns-clause-old
-returns-clause-old c =
-    entry_shown c.self.inside.entries.items c.self.inside.order.items c.self.invariant.kept c.self.inside.spare c.args.self.now c.self.view_is c.args.c c.unwrap-old.result (old_at (goal.at.returns-clause-old c).After-unwrap-old)
-
-pub returns-clause-classes : goal.returns-clause-classes
-returns-clause-classes c =
-    let es = c.self.inside.entries.items in
-    removed_classes es c.self.inside.order.items c.self.invariant.kept c.self.inside.spare c.args.self.now c.self.view_is c.args.c c.unwrap-old.result (old_at (goal.at.returns-clause-classes c).After-unwrap-old) c.requires.alone
-    (set es c.args.c c.take.new.self) (ap (set es c.args.c) c.take.ensures.after)
-
-pub returns-clause-names : goal.returns-clause-names
-returns-clause-names c =
-    let es = c.self.inside.entries.items in
-    removed_names es c.self.inside.order.items c.self.invariant.kept c.self.inside.spare c.args.self.now c.self.view_is c.args.c c.unwrap-old.result (old_at (goal.at.returns-clause-names c).After-unwrap-old) c.requires.alone
-    (set es c.args.c c.take.new.self) (ap (set es c.args.c) c.take.ensures.after)

@@ -1,56 +1,56 @@
-use Rattle.std.proofs.Common.{◌∙◌, ap, sym, subst, set, arith}
-use Rattle.s80_class.proofs.Rows.{IsAt}
-use Rattle.s80_class.proofs.Calls.{entry_at, entry_shown, replaced_kept, replaced_classes, replaced_names, replaced_valid}
-use Rattle.s80_class.specs.Below.{IsIndexed}
-use Rattle.s80_class.proofs.Indexed.{is_there, one_superclass, indexed_other}
-use Rattle.s80_class.proofs.table.ClassTable.replace.Goals.{After-unwrap-old}
+use Rattle.std.proofs.Common.{◌∙◌, List, Some, sym, ap, subst, length, slice_get, arith}
+use Rattle.std.specs.FinMap as map
+use Rattle.std.proofs.lemmas.List.{with_items_is}
+use Rattle.std.proofs.lemmas.Option.{slice_get_within}
+use Rattle.s80_class.specs.Table.{Table, IsNumberOf, IsAbove, row_of}
+use Rattle.s80_class.specs.Family.{Found, IsFamily}
+use Rattle.s80_class.specs.Totalled.{AreTotals, IsSettled}
+use Rattle.s80_class.proofs.Settled.{IsTop, top_other, valid_other, totals_replaced, as_many}
+use Rattle.s80_class.proofs.table.ClassTable.replace.Goals.{After-family}
 use Rattle.s80_class.proofs.table.ClassTable.replace.Goals as goal
 
--- the entry that was there
-old_at : (c : After-unwrap-old) → IsAt c.self.inside.entries.items c.args.c c.unwrap-old.result
-old_at c =
-    entry_at c.self.inside.entries.items c.self.inside.order.items c.self.invariant.kept c.self.inside.spare c.args.self.now c.self.view_is c.args.c c.index_mut.result.now c.unwrap-old.result
-    (c.args.entry.class_name, c.requires.named) c.index_mut.ensures.value (sym c.replace.ensures.value ∙ c.unwrap-old.ensures)
+module _ (c : After-family) where
+  named : IsNumberOf c.self.inside.tree.names c.args.c c.args.entry.class_name
+  named = subst (λ (t : Table). IsNumberOf t.names c.args.c c.args.entry.class_name) (sym c.self.view_is) c.requires.named
 
-pub move_below-requires-clause-there : goal.move_below-requires-clause-there
-move_below-requires-clause-there c = is_there c.self.inside.entries.items c.self.inside.subclasses.items c.self.invariant.indexed c.args.c c.unwrap-old.result (old_at (goal.at.move_below-requires-clause-there c).After-unwrap-old)
+  above : IsAbove c.self.inside.tree c.args.entry.superclass c.args.entry.class_name
+  above = subst (λ t. IsAbove t c.args.entry.superclass c.args.entry.class_name) (sym c.self.view_is) c.requires.superclass
 
-pub move_below-requires-clause-one : goal.move_below-requires-clause-one
-move_below-requires-clause-one c = one_superclass c.self.inside.entries.items c.self.inside.subclasses.items c.self.invariant.indexed c.args.c c.unwrap-old.result (old_at (goal.at.move_below-requires-clause-one c).After-unwrap-old)
+  -- the class and its descendants were found
+  family : IsFamily c.self.inside.tree.names (map.insert c.self.inside.tree.classes c.args.entry.class_name (row_of c.self.inside.tree.names c.args.entry)) c.args.entry.class_name c.family.new.found.items
+  family =
+      let tree = c.self.inside.tree in
+      let e = c.args.entry in
+      c.family.ensures.family e.class_name (row_of tree.names e) named (valid_other tree c.self.invariant.known e above) (top_other tree c.self.invariant.known e c.totals_with-top.result (subst (λ t. IsTop t e c.totals_with-top.result) (sym c.self.view_is) c.totals_with-top.ensures) above)
+
+pub settle-requires : goal.settle-requires
+settle-requires c = λ k p at.
+    let tree = c.self.inside.tree in
+    let f = (family (goal.at.settle-requires c).After-family).each k p (ap (λ (xs : List Found). slice_get xs k) (sym c.deref.ensures.value) ∙ at) in
+    omega (arith, slice_get_within tree.names p.0 (Some f.0) f.1, c.self.invariant.totals.size, ap length c.deref_mut.ensures.value)
 
 pub invariant_of-self : goal.invariant_of-self
 invariant_of-self c =
-    let es = c.self.inside.entries.items in
-    let order = c.self.inside.order.items in
+    let tree = c.self.inside.tree in
+    let e = c.args.entry in
+    let o = (goal.at.invariant_of-self c).After-family in
+    let row = c.self.invariant.known.known c.args.c e.class_name (named o) in
+    let settles : IsSettled c.family.new.found.items c.self.inside.totals.items c.settle.new.totals =
+    subst (λ xs. IsSettled xs c.self.inside.totals.items c.settle.new.totals) c.deref.ensures.value
+    (subst (λ ys. IsSettled c.deref.result.now ys c.settle.new.totals) c.deref_mut.ensures.value c.settle.ensures) in
     record {
-      kept = replaced_kept es order c.self.invariant.kept c.self.inside.spare c.args.self.now c.self.view_is c.args.c c.unwrap-old.result c.args.entry (old_at (goal.at.invariant_of-self c).After-unwrap-old) c.requires.named
-          (set es c.args.c c.replace.new.self) (ap (set es c.args.c) c.replace.ensures.after) c.requires.superclass;
-      indexed = subst (λ o. IsIndexed (set es c.args.c o) c.move_below.new.pairs.items) (sym c.replace.ensures.after)
-          (indexed_other es c.self.inside.subclasses.items c.self.invariant.indexed c.args.c c.unwrap-old.result (old_at (goal.at.invariant_of-self c).After-unwrap-old) c.args.entry c.move_below.new.pairs.items c.move_below.ensures.moved);
-      room = c.self.invariant.room;
-      order_room = c.self.invariant.order_room;
-      below_room = omega (arith, c.self.invariant.below_room);
-      numbers = c.self.invariant.numbers;
+      known = c.replace.ensures.known;
+      totals = subst (AreTotals c.replace.new.self) (sym (with_items_is c.self.inside.totals c.settle.new.totals (settles.size ∙ sym c.self.inside.totals.ok.0)))
+          (totals_replaced tree c.self.invariant.known c.self.inside.totals.items c.self.invariant.totals e c.family.new.found.items (family o) c.settle.new.totals settles
+          c.replace.new.self c.replace.ensures.known c.replace.ensures.classes c.replace.ensures.names);
+      none_found = c.clear.ensures.items;
+      room = omega (arith, c.self.invariant.room, c.replace.ensures.spare);
+      found_room = omega (
+        arith,
+        c.self.invariant.found_room,
+        c.clear.ensures.capacity,
+        c.family.ensures.capacity,
+        c.replace.ensures.spare,
+        ap map.len c.replace.ensures.classes ∙ as_many tree.classes e.class_name row.0 (row_of tree.names e) row.1,
+      );
     }
-
-pub returns-clause-old : goal.returns-clause-old
-returns-clause-old c =
-    entry_shown c.self.inside.entries.items c.self.inside.order.items c.self.invariant.kept c.self.inside.spare c.args.self.now c.self.view_is c.args.c c.unwrap-old.result (old_at (goal.at.returns-clause-old c).After-unwrap-old)
-
-pub returns-clause-classes : goal.returns-clause-classes
-returns-clause-classes c =
-    let es = c.self.inside.entries.items in
-    replaced_classes es c.self.inside.order.items c.self.invariant.kept c.self.inside.spare c.args.self.now c.self.view_is c.args.c c.unwrap-old.result c.args.entry (old_at (goal.at.returns-clause-classes c).After-unwrap-old) c.requires.named
-    (set es c.args.c c.replace.new.self) (ap (set es c.args.c) c.replace.ensures.after)
-
-pub returns-clause-names : goal.returns-clause-names
-returns-clause-names c =
-    let es = c.self.inside.entries.items in
-    replaced_names es c.self.inside.order.items c.self.invariant.kept c.self.inside.spare c.args.self.now c.self.view_is c.args.c c.unwrap-old.result c.args.entry (old_at (goal.at.returns-clause-names c).After-unwrap-old) c.requires.named
-    (set es c.args.c c.replace.new.self) (ap (set es c.args.c) c.replace.ensures.after)
-
-pub returns-clause-valid : goal.returns-clause-valid
-returns-clause-valid c =
-    let es = c.self.inside.entries.items in
-    replaced_valid es c.self.inside.order.items c.self.invariant.kept c.self.inside.spare c.args.self.now c.self.view_is c.args.c c.unwrap-old.result c.args.entry (old_at (goal.at.returns-clause-valid c).After-unwrap-old) c.requires.named
-    (set es c.args.c c.replace.new.self) (ap (set es c.args.c) c.replace.ensures.after) c.requires.superclass

@@ -2,7 +2,7 @@ use Rattle.std.proofs.Common.{rules}
 use Rattle.std.proofs.lemmas.List.Sorted.{IsPartitionPoint-from_clause}
 use Rattle.s80_class.specs.Kept.{names_of}
 use Rattle.s80_class.proofs.Keeping.{placed, parted, sought}
-use Rattle.s80_class.proofs.table.place.Goals as goal
+use Rattle.s80_class.proofs.tree.place.Goals as goal
 
 pub returns : goal.returns
 returns c =

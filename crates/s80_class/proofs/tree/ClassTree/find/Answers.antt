@@ -3,7 +3,7 @@ use Rattle.std.specs.FinMap as map
 use Rattle.s80_class.specs.Table.{Table, IsNumberOf}
 use Rattle.s80_class.proofs.Keeping.{names_rise, found_there, past_there, other_there}
 use Rattle.s80_class.proofs.Calls.{found_one, found_none}
-use Rattle.s80_class.proofs.table.ClassTable.find.Goals as goal
+use Rattle.s80_class.proofs.tree.ClassTree.find.Goals as goal
 
 pub place-at-requires : goal.place-at-requires
 place-at-requires c = rw (c.deref.ensures.value, c.deref-2.ensures.value) (names_rise c.self.inside.entries.items c.self.inside.order.items c.self.invariant.kept)

@@ -3,7 +3,7 @@ use Rattle.s80_class.specs.Classes.{descends}
 use Rattle.s80_class.specs.Table.{IsNumberOf, IsSuperclass}
 use Rattle.s80_class.proofs.Lines.{passes}
 use Rattle.s80_class.proofs.Walks.{IsWalked, left}
-use Rattle.s80_class.proofs.table.ClassTable.is_descendant.Given as goal
+use Rattle.s80_class.proofs.tree.ClassTree.is_descendant.Given as goal
 
 abbrev pub invariant-loop : goal.invariant-loop
 invariant-loop l = record {

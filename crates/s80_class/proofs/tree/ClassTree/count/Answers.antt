@@ -2,7 +2,7 @@ use Rattle.std.proofs.Common.{◌≡◌, ◌∙◌, ap, length, vec_len, arith}
 use Rattle.std.specs.FinMap as map
 use Rattle.s80_class.specs.Table.{Table}
 use Rattle.s80_class.proofs.Keeping.{ordered_length}
-use Rattle.s80_class.proofs.table.ClassTable.count.Goals as goal
+use Rattle.s80_class.proofs.tree.ClassTree.count.Goals as goal
 
 pub returns : goal.returns
 returns c =

@@ -3,7 +3,7 @@ use Rattle.std.specs.Option.{option_copied}
 use Rattle.std.proofs.lemmas.Option.{slice_get_read}
 use Rattle.s80_class.specs.Table.{Table, IsClass, IsEntryOf}
 use Rattle.s80_class.proofs.Keeping.{is_entry, class_within}
-use Rattle.s80_class.proofs.table.ClassTable.at.Goals as goal
+use Rattle.s80_class.proofs.tree.ClassTree.at.Goals as goal
 
 pub returns : goal.returns
 returns c =
