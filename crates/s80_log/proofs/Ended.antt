@@ -1,12 +1,12 @@
 -- The block that bytes begin with, where they begin with a spelled text.
-use Rattle.std.proofs.Common.{◌≡◌, ◌≢◌, ℕ, ◌-◌, ◌<◌, ◌≤◌, List, [], ◌∷◌, ◌++◌, length, get_or, take, drop, sym, ap, ◌∙◌, subst, arith, append_assoc, append-nil, length-append, length-drop, length-take}
+use Rattle.std.proofs.Common.{◌≡◌, ◌≢◌, inl, inr, ℕ, ◌-◌, ◌<◌, ◌≤◌, List, [], ◌∷◌, ◌++◌, length, get_or, take, drop, sym, ap, ◌∙◌, subst, arith, append_assoc, append-nil, length-append, length-drop, length-take}
 use Rattle.s80_change.specs.declared.change.Change.{Change}
 use Rattle.s80_change.specs.Block.{block, text_of, IsLawful, HasNoChange}
 use Rattle.s80_chunk.specs.Chunks.{mark, spell, chunk, IsNoMark}
 use Rattle.s80_chunk.proofs.Spelling.{chunk_unique, not_ended}
 use Rattle.s80_log.specs.declared.block.FirstBlock.{FirstBlock}
 use Rattle.s80_log.specs.declared.block.FirstBlock.TheVariants.{Found, Absent, Unended}
-use Rattle.s80_log.specs.Blocks.{BeginsWith, BeginsWithNone, IsFirstBlock, IsEndedBlock}
+use Rattle.s80_log.specs.Blocks.{BeginsWith, BeginsWithNone, AreUnended, IsFirstBlock, IsEndedBlock}
 
 -- a text as a block and what follows it, as its spelled text and then the mark
 regrouped : (t after : List ℕ) → (chunk t ++ 10 ∷ []) ++ after ≡ spell t ++ mark ∷ 10 ∷ after
@@ -55,14 +55,18 @@ none_at_mark text x no_mark no_feed change begins =
     no_feed begins.after (chunk_unique text (text_of change) x (10 ∷ begins.after) no_mark line_feed_is_no_mark (begins.begins ∙ regrouped (text_of change) begins.after)).1
 
 -- the bytes end with the spelled text
-pub ends_there : (bytes text rest : List ℕ) → bytes ≡ spell text ++ rest → length rest < 1 → BeginsWithNone bytes
-ends_there bytes text [] e short = subst BeginsWithNone (sym (e ∙ append-nil (spell text))) (none_at_end text)
+pub ends_there : (bytes text rest : List ℕ) → bytes ≡ spell text ++ rest → length rest < 1 → AreUnended bytes
+ends_there bytes text [] e short =
+    let whole = e ∙ append-nil (spell text) in
+    record { text = text; ends = inl whole; none = subst BeginsWithNone (sym whole) (none_at_end text) }
 ends_there bytes text (a ∷ rest) e short = absurd (omega arith)
 
 -- or with a mark behind it
-pub ends_at_mark : (bytes text rest : List ℕ) → bytes ≡ spell text ++ rest → length rest ≡ 1 → get_or rest 0 0 ≡ mark → BeginsWithNone bytes
+pub ends_at_mark : (bytes text rest : List ℕ) → bytes ≡ spell text ++ rest → length rest ≡ 1 → get_or rest 0 0 ≡ mark → AreUnended bytes
 ends_at_mark bytes text [] e one first = absurd (omega arith)
-ends_at_mark bytes text (a ∷ []) e one first = subst BeginsWithNone (sym (e ∙ ap (λ b. spell text ++ b ∷ []) first)) (none_at_mark text [] tt (λ y f. cc))
+ends_at_mark bytes text (a ∷ []) e one first =
+    let whole = e ∙ ap (λ b. spell text ++ b ∷ []) first in
+    record { text = text; ends = inr whole; none = subst BeginsWithNone (sym whole) (none_at_mark text [] tt (λ y f. cc)) }
 ends_at_mark bytes text (a ∷ b ∷ rest) e one first = absurd (omega arith)
 
 -- a mark stands behind it, and then a byte that is neither a mark nor a line feed

@@ -13,7 +13,7 @@ pub enum FirstBlock {
     Found(Change, usize),
     /// No block, whatever follows.
     Absent,
-    /// Bytes that may be the front of a block: they end before it does.
+    /// Bytes that end before a block does: the mark and the line feed at its end may follow.
     Unended,
 }
 

@@ -1,10 +1,10 @@
-use Rattle.std.proofs.Common.{◌<◌, ℕ, IsTrue, List, length, take, drop, arith, rules, ap, subst, ◌∙◌}
+use Rattle.std.proofs.Common.{◌<◌, ℕ, IsTrue, List, length, take, drop, arith, rules, refl, ap, subst, ◌∙◌}
 use Rattle.std.proofs.lemmas.Result.{err_from_is_err_and}
 use Rattle.s80_log.specs.Log.{log_file, held_in}
 use Rattle.s80_log.specs.Blocks.{BeginsWith, BeginsWithNone}
 use Rattle.s80_log.specs.Faults.{IfBad}
 use Rattle.s80_keeper.proofs.OneList.{block_length}
-use Rattle.s80_keeper.proofs.Replayed.{replayed_more, replayed_refused, replayed_bad, held_length}
+use Rattle.s80_keeper.proofs.Replayed.{replayed_more, replayed_refused, replayed_bad, replayed_all, held_length}
 use Rattle.s80_keeper.proofs.start.replay.Goals as goal
 use Rattle.s80_keeper.proofs.start.replay.Goals.{In_ok-change}
 
@@ -34,6 +34,13 @@ returns-in_err-accept-clause-answer g c = λ told long.
     let fault = c.in_err-accept.field-0.0 in
     let p = err_from_is_err_and c.from_residual-in_err-accept.result c.from_residual-in_err-accept.ensures.1 in
     rw (p.1, p.2) (replayed_refused _ c.loop-at.at c.loop-at.count c.loop-at.system.classes (c.loop-at.invariant.replayed told long) c.in_ok-change.change found (Unit {0}) c.accept.new.system.classes fault c.in_err-accept.ensures)
+
+pub returns-clause-answer : goal.returns-clause-answer
+returns-clause-answer g c = λ told long.
+    let log = c.args.log.now in
+    let reads = g.D.Disk.reads c.args.disk.now in
+    replayed_all (held_in reads log) c.loop-at.at c.loop-at.count c.loop-at.system.classes (c.loop-at.invariant.replayed told long) c.loop-at.system refl
+    (omega (arith, held_length reads log long, c.loop-at-test.false, c.length.ensures))
 
 pub loop-at-preserved : goal.loop-at-preserved
 loop-at-preserved g c =

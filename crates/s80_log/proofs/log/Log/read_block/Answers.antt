@@ -1,5 +1,6 @@
 use Rattle.std.proofs.Common.{◌≡◌, take, drop, IsTrue, arith, ap, ◌∙◌}
 use Rattle.s80_log.specs.Log.{held_in, log_file}
+use Rattle.s80_log.specs.Blocks.{AreUnended}
 use Rattle.s80_log.proofs.Reading.{piece_of, begins_whole, none_after, none_whole, held_length}
 use Rattle.s80_log.proofs.log.Log.read_block.Goals as goal
 use Rattle.s80_log.proofs.log.Log.read_block.Goals.{In_ok-change}
@@ -22,6 +23,7 @@ returns-in-Absent-clause-none g c = λ told.
 
 pub returns-then-size-within-clause-none : goal.returns-then-size-within-clause-none
 returns-then-size-within-clause-none g c = λ told.
+    let unended : AreUnended c.deref.result.now = rw c.in-Unended.is at c.in_ok-change.ensures in
     none_whole c.min.result c.deref.result.now _ (piece g (goal.at.returns-then-size-within-clause-none g c).In_ok-change told)
     (omega (arith, held_length c.args.at c.args.self.now.end (g.D.Disk.reads c.args.disk.now (log_file c.args.self.now.number)), c.length.ensures, c.saturating_sub-within.ensures, c.min.ensures, c.if-size-within.true))
-    (rw c.in-Unended.is at c.in_ok-change.ensures)
+    unended.none
