@@ -2,8 +2,10 @@
 #![tactic(auto)]
 
 mod rows;
+mod text;
 
 pub use rows::{KernelClass, class_rows, is_kernel_class};
+pub use text::kernel_text;
 
 #[cfg(test)]
 mod tests;
