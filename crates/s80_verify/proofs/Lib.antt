@@ -1,0 +1,9 @@
+pub mod BlockLemmas
+pub mod FoundLemmas
+pub mod HeaderLemmas
+pub mod JumpLemmas
+pub mod LawLemmas
+pub mod ListLemmas
+pub mod PlaceLemmas
+pub mod PlacesLemmas
+pub mod SelectorLemmas

@@ -1,0 +1,8 @@
+pub mod Effect
+pub mod Fault
+pub mod Found
+pub mod Header
+pub mod Operands
+pub mod Reach
+pub mod Record
+pub mod Selector
