@@ -1,0 +1,10 @@
+pub mod Shape
+pub mod Names
+pub mod Inlined
+pub mod FitLiterals
+pub mod FitStack
+pub mod FitWeight
+pub mod Fit
+pub mod Key
+pub mod Scope
+pub mod Walk

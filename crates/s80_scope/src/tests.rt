@@ -1,0 +1,3 @@
+// What names mean, and what fits, by module.
+mod fit;
+mod names;
