@@ -4,8 +4,7 @@
 usage: bench/defining.py [CLASSES]
 
 The shapes: each class under Object; each under the one before; a tree in which a class has ten subclasses; and each file a second time,
-in which every class is defined again (not for the chain, where each definition is checked against all descendants). What a class inherits is
-read by walking up, so the chain's time grows with its depth: it is shown, and no ratio is wanted of it.
+in which every class is defined again (not for the chain, where each definition is checked against all descendants).
 """
 import os
 import resource
@@ -65,9 +64,8 @@ def main():
                     print(f"{shape}, {turn}: {count} classes, {seconds:.2f} s, floor {least:.2f} s, "
                           f"ratio {seconds / least:.2f}, user {user:.2f} s", flush=True)
             for turn in rounds:
-                wanted = "" if "before" in shape else " (at most 2.3 is wanted)"
                 print(f"{shape}, {turn}: user time of {classes} against {classes // 2}: "
-                      f"{taken[turn, classes] / taken[turn, classes // 2]:.2f}{wanted}", flush=True)
+                      f"{taken[turn, classes] / taken[turn, classes // 2]:.2f} (at most 2.3 is wanted)", flush=True)
 
 
 main()
