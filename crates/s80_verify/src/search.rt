@@ -66,9 +66,7 @@ impl Found {
         }
         Ok(())
     }
-}
 
-impl Found {
     /// Adds a point, if there is one.
     fn reach_if(&mut self, code: &Code, point: Option<Point>) -> Result<(), VerifyFault>
         requires short { length code.now.bytes < 1024 }

@@ -43,7 +43,8 @@ impl Verified {
     }
 }
 
-/// The code as one that can be run, or what is wrong with it. The time is linear in the code.
+/// The code as one that can be run, or what is wrong with it (Blue Book, part four). Each place is looked at once for each
+/// of its two stacks; a selector is read at each send of it. Takes no memory.
 pub fn verify(code: Code) -> Result<Verified, VerifyFault>
     ensures same { IfOk result (λ verified. verified ≡ code) }
     ensures verified { IfOk result (λ verified. IsVerified verified) }
