@@ -1,0 +1,15 @@
+pub mod OpenCores
+pub mod ElaborateLists
+pub mod Cover
+pub mod CoverParts
+pub mod CoverTree
+pub mod CoverKeys
+pub mod Declared
+pub mod FitFinishes
+pub mod FitRange
+pub mod FitFew
+pub mod FitNeeds
+pub mod FitSize
+pub mod FitAll
+pub mod CoverEnds
+pub mod ElaborateWalk

@@ -1,0 +1,5 @@
+pub mod Core
+pub mod Elaborate
+pub mod Measures
+pub mod Arms
+pub mod Walk
