@@ -1,0 +1,17 @@
+pub mod Firsts
+pub mod Fitting
+pub mod Going
+pub mod GoingMore
+pub mod Instructions
+pub mod Literals
+pub mod Made
+pub mod MadeArms
+pub mod Moves
+pub mod Numbers
+pub mod OpenArms
+pub mod OpenCore
+pub mod Parts
+pub mod Sameness
+pub mod Singles
+pub mod Headed
+pub mod Supers
