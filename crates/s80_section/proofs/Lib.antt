@@ -1,0 +1,5 @@
+pub mod Trees
+pub mod Forms
+pub mod Heads
+pub mod Finding
+pub mod Beginning
