@@ -1,0 +1,5 @@
+pub mod Words
+pub mod Kept
+pub mod Left
+pub mod Building
+pub mod Homes

@@ -1,0 +1,5 @@
+pub mod Body
+pub mod Objects
+pub mod Literal
+pub mod Seen
+pub mod Steps
