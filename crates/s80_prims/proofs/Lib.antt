@@ -1,0 +1,6 @@
+mod ApplyLemmas
+mod ArithmeticLemmas
+mod ClassesNumbered
+mod ClassesBodies
+mod PrintFront
+mod PrintBodies

@@ -1,0 +1,2 @@
+// Tests of the primitives, and of the printed form.
+mod numbers;
