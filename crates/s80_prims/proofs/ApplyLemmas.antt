@@ -1,24 +1,23 @@
 -- Lemmas on the rows of the table.
-use Rattle.std.proofs.Common.{◌≡◌, ◌≤◌, ◌<◌, ◌^◌, ℕ, zero, suc, pos, negsuc, ◌+◌, List, [], ◌∷◌, Bool, true, false, codes, get_or, length, map, slice_get, Option, Some, None, option_and_then, refl, sym, ap, subst, ◌∙◌, arith, rules}
+use Rattle.std.proofs.Common.{◌≡◌, ◌≤◌, ◌<◌, ℕ, zero, suc, pos, List, [], ◌∷◌, Bool, true, false, codes, get_or, length, map, Option, Some, None, option_and_then, refl, sym, ap, subst, ◌∙◌, arith}
 use Rattle.std.proofs.lemmas.Grind.{common_steps}
 use Rattle.std.proofs.lemmas.Option.{slice_get-map}
 use Rattle.std.specs.Option.{option_map, option_map_or}
 use Rattle.s80_base.specs.declared.names.Side.TheVariants as side
 use Rattle.s80_change.specs.declared.definition.Kind.TheVariants as kind
-use Rattle.s80_class.specs.Counted.{counted}
 use Rattle.s80_class.specs.Table.{Table, IsClass}
 use Rattle.s80_object.specs.Body.{BodyTree, pointers, bytes, words, home, block, blank, kind_of}
 use Rattle.s80_object.specs.Objects.{State, body_at, text_of}
 use Rattle.s80_object.specs.declared.value.BodyKind.{BodyKind}
 use Rattle.s80_object.specs.declared.value.BodyKind.TheVariants as body
 use Rattle.s80_object.specs.declared.value.Value.{Value}
-use Rattle.s80_object.specs.declared.value.Value.TheVariants.{Small, Character, True, False, Nil, Symbol, Number, ClassRef, Object, Context, Transcript, Smalltalk}
+use Rattle.s80_object.specs.declared.value.Value.TheVariants.{Small, Symbol, ClassRef, Object}
 use Rattle.s80_prims.specs.declared.applied.Applied.{Applied}
 use Rattle.s80_prims.specs.Classes.{can_be_new, kind_of_class, number_of}
-use Rattle.s80_prims.specs.Known.{AreKnown, BodyIsKnown, IsKnown}
-use Rattle.s80_prims.specs.Primitives.{Effect, World, at_place, fails, makes, new_with, of_class, prints, readable, readable_bytes, primitive, string_of}
+use Rattle.s80_prims.specs.Known.{AreKnown, BodyIsKnown}
+use Rattle.s80_prims.specs.Primitives.{Effect, World, at_place, makes, new_with, of_class, prints, readable, readable_bytes, primitive, string_of}
 use Rattle.s80_prims.specs.Printed.{printed}
-use Rattle.s80_prims.specs.Rows.{Applies, class_to_make, place_of, world_of}
+use Rattle.s80_prims.specs.Rows.{Applies, class_to_make, world_of}
 
 -- ---- items
 

@@ -1,11 +1,11 @@
 -- Lemmas on the primitives of two SmallIntegers.
-use Rattle.std.proofs.Common.{◌≡◌, ◌≢◌, ◌≤◌, ◌<◌, ◌^◌, ◌≤ℤ◌, ◌<ℤ◌, ◌+ℤ◌, ◌-ℤ◌, ◌*ℤ◌, ◌⊎◌, inl, inr, ⊎_elim, neg_ℤ, ℤ, pos, negsuc, ℕ, zero, suc, ◌+◌, ◌-◌, ◌*◌, ◌/◌, Bool, true, false, Option, Some, None, FitsSigned, to_z, of_z, w32, w64, min, refl, sym, ap, subst, ◌∙◌, arith, rules, unsigned_abs}
-use Rattle.std.proofs.Math.Nat.{div-eq_of_lt, mul-le-mul, pow-le-pow_right, one-le-pow}
+use Rattle.std.proofs.Common.{◌≡◌, ◌≢◌, ◌≤◌, ◌<◌, ◌^◌, ◌≤ℤ◌, ◌<ℤ◌, ◌-ℤ◌, ◌*ℤ◌, ⊎_elim, neg_ℤ, ℤ, pos, negsuc, ℕ, zero, suc, ◌+◌, ◌-◌, ◌*◌, ◌/◌, true, false, None, FitsSigned, to_z, of_z, w32, w64, min, refl, sym, ap, subst, ◌∙◌, arith, unsigned_abs}
+use Rattle.std.proofs.Math.Nat.{div-eq_of_lt, mul-le-mul, pow-le-pow_right}
 use Rattle.std.proofs.lemmas.Int.{ints, to_z-of_z}
 use Rattle.std.proofs.lemmas.Bool.{cases_lt}
 use Rattle.std.specs.Int.{int_shr}
 use lib.Signed.{mag, mag_shr, lt_z, shr_z}
-use Rattle.s80_prims.specs.Arithmetic.{divided, exact, floor_quotient, floor_rest, is_less, is_zero, ranged, shifted}
+use Rattle.s80_prims.specs.Arithmetic.{divided, exact, floor_quotient, floor_rest, is_zero, ranged, shifted}
 
 small_product : (a b m n : ℕ) → a ≤ m → b ≤ n → a * b ≤ m * n
 small_product a b m n p q = mul-le-mul p q

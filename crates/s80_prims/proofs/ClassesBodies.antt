@@ -1,15 +1,12 @@
 -- Bodies that are there, and their classes.
-use Rattle.std.proofs.Common.{◌≡◌, ◌∙◌, ◌<◌, ℕ, Bool, true, false, refl, sym, ap, subst, List, length, Option, Some, None, is_some, option_and_then, slice_get, true≢false}
-use Rattle.std.specs.Option.{IsSome, option_map_or}
+use Rattle.std.proofs.Common.{◌≡◌, ◌∙◌, ◌<◌, ℕ, ap, subst, length, is_some}
+use Rattle.std.specs.Option.{IsSome}
 use Rattle.std.proofs.lemmas.Option.{slice_get-get_or}
-use Rattle.s80_base.specs.declared.names.Side.TheVariants as side
 use Rattle.s80_class.specs.Table.{Table}
-use Rattle.s80_object.specs.Body.{BodyTree, pointers, bytes, words, home, block, kind_of}
+use Rattle.s80_object.specs.Body.{block}
 use Rattle.s80_object.specs.Objects.{State, body_at}
-use Rattle.s80_object.specs.declared.value.BodyKind.{BodyKind}
 use Rattle.s80_object.specs.declared.value.Value.{Value}
 use Rattle.s80_object.specs.declared.value.Value.TheVariants as value
-use Rattle.s80_prims.specs.Classes.{body_class, kernel_class}
 use Rattle.s80_prims.specs.Known.{IsKnown}
 
 pub there : (t : Table) (s : State) (v : Value) (n : ℕ) → v ≡ value.Object n → IsKnown t s v → IsSome (body_at s v)

@@ -1,6 +1,5 @@
 -- The number of a class by its name, and what a class descends from.
-use Rattle.std.proofs.Common.{drop, ◌≡◌, ◌≢◌, ◌∙◌, ◌||◌, ℕ, suc, zero, Bool, cond, true, false, refl, sym, ap, subst, List, [], ◌∷◌, Option, Some, None, is_some, unwrap_or, option_and_then, slice_get, true≢false}
-use Rattle.std.specs.List.{list_any}
+use Rattle.std.proofs.Common.{drop, ◌≡◌, ◌≢◌, ◌∙◌, ◌||◌, ℕ, suc, zero, Bool, cond, true, false, refl, sym, ap, subst, List, [], ◌∷◌, Option, Some, None, is_some, unwrap_or, option_and_then, true≢false}
 use Rattle.std.specs.Option.{IsSome, option_map}
 use Rattle.std.specs.Str.{bytes_eq}
 use Rattle.std.specs.Cmp.Lexicographic.{bytes_decides}
@@ -8,8 +7,8 @@ use Rattle.std.proofs.lemmas.Bool.{or_right}
 use Rattle.std.specs.FinMap as map
 use Rattle.s80_kernel.specs.Rows.{is_kernel_class}
 use Rattle.s80_class.specs.Classes.{Name, ClassRow, Classes, IsLine, IsValid, lineage, is_under, descends}
-use Rattle.s80_class.specs.Table.{Table, IsClass, IsNumberOf, name_of}
-use Rattle.s80_class.proofs.Lines.{Entry, passes, apart_passed, bytes_eq-self, eq_not, lineage_line}
+use Rattle.s80_class.specs.Table.{Table, IsClass, IsNumberOf}
+use Rattle.s80_class.proofs.Lines.{Entry, passes, apart_passed, eq_not, lineage_line}
 use Rattle.s80_prims.specs.Classes.{class_name, is_kind_of, number_of}
 use Rattle.s80_prims.specs.Known.{HasKernel}
 
@@ -19,7 +18,7 @@ none_is_some e = true≢false (sym (ap is_some e))
 -- ---- numbers
 
 -- the first number of a class's name
-first_number : (names : List (Option Name)) (name : Name) (c : ℕ) → IsNumberOf names c name → (k : ℕ) × (number_of names name ≡ Some k) × IsNumberOf names k name
+pub first_number : (names : List (Option Name)) (name : Name) (c : ℕ) → IsNumberOf names c name → (k : ℕ) × (number_of names name ≡ Some k) × IsNumberOf names k name
 first_number [] name c h = absurd (none_is_some h)
 first_number (None ∷ names) name zero h = absurd (none_is_some (ap (λ o. unwrap_or o None) h))
 first_number (None ∷ names) name (suc c) h = let r = first_number names name c h in (suc r.0, ap (option_map suc) r.1, r.2)

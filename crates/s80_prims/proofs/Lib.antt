@@ -4,3 +4,5 @@ mod ClassesNumbered
 mod ClassesBodies
 mod PrintFront
 mod PrintBodies
+mod KeptKnown
+mod SeenKnown

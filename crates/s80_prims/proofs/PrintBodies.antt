@@ -1,5 +1,5 @@
 -- What is printed of each body.
-use Rattle.std.proofs.Common.{◌≡◌, ◌∙◌, ◌+◌, ◌<◌, ◌≤◌, ℕ, suc, zero, Bool, cond, true, false, refl, sym, ap, subst, List, [], ◌∷◌, ◌++◌, All, codes, length, take, map, flat_map, Option, Some, None, Result, Ok, Err, OnOk, is_some, unwrap_or, option_and_then, slice_get, pos, true≢false, arith, append_assoc}
+use Rattle.std.proofs.Common.{◌≡◌, ◌∙◌, ◌+◌, ◌<◌, ◌≤◌, ℕ, suc, zero, cond, true, refl, sym, ap, subst, List, [], ◌∷◌, ◌++◌, All, codes, length, take, map, flat_map, Option, Some, None, Result, Ok, Err, OnOk, unwrap_or, option_and_then, slice_get, pos, arith, append_assoc}
 use Rattle.std.specs.Result.{IsOk}
 use Rattle.std.specs.Option.{IsSome, option_map, option_map_or}
 use Rattle.std.proofs.lemmas.List.{append-nil, take_all}

@@ -1,12 +1,10 @@
 -- What is kept of a text that is written.
-use Rattle.std.proofs.Common.{◌≡◌, ◌≤◌, ◌<◌, ◌∙◌, ◌+◌, ◌-◌, ℕ, suc, zero, Bool, cond, true, false, refl, sym, ap, subst, List, [], ◌∷◌, ◌++◌, codes, length, take, drop, min, nat_le, nat_lt, flat_map, true≢false, arith, length-append, append_assoc}
+use Rattle.std.proofs.Common.{◌≡◌, ◌≤◌, ◌<◌, ◌∙◌, ◌+◌, ◌-◌, ℕ, suc, zero, Bool, cond, true, false, refl, sym, ap, subst, List, [], ◌∷◌, ◌++◌, codes, length, take, drop, min, nat_le, nat_lt, flat_map, arith, length-append, append_assoc}
 use Rattle.std.proofs.lemmas.Bool.Decides.{nat_tests}
 use Rattle.std.proofs.lemmas.List.{length-take, take-append-drop, take-append-le, take_all, take_min}
 use Rattle.std.proofs.lemmas.Grind.{flat_map-append}
-use Rattle.s80_lex.specs.Spelling.{doubled, quoted, unended}
 use Rattle.s80_prims.specs.declared.front.Front.{Front}
 use Rattle.s80_prims.specs.Front.{Holds, Writes}
-use Rattle.s80_prims.specs.Printed.{shortened}
 
 -- ---- more bytes
 

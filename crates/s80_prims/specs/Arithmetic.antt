@@ -1,7 +1,6 @@
 -- The primitives of two SmallIntegers (Blue Book, part four).
 use Rattle.std.specs.Prelude.{ℕ, suc, ◌^◌, ℤ, pos, negsuc, ◌+ℤ◌, ◌-ℤ◌, ◌*ℤ◌, neg_ℤ, ◌==◌, List, [], ◌∷◌, Bool, true, false, not, ◌&&◌, Option, Some, None, find, option_and_then, if◌then◌else◌}
 use Rattle.std.specs.Int.{w32, int_div_euclid, int_bit_and, int_bit_or, int_bit_xor, int_shr, is_negative}
-use Rattle.std.specs.Option.{option_map, option_map_or}
 use Rattle.s80_object.specs.declared.value.Value.{Value}
 use Rattle.s80_object.specs.declared.value.Value.TheVariants.{Small, True, False}
 

@@ -1,5 +1,5 @@
 -- What primitives may be applied to: values of a table of classes and of objects.
-use Rattle.std.specs.Prelude.{◌≡◌, ℕ, ◌<◌, List, length, slice_get, All, true, Some, IsSome}
+use Rattle.std.specs.Prelude.{◌≡◌, ℕ, ◌<◌, length, slice_get, All, true, Some, IsSome}
 use Rattle.std.specs.FinMap as map
 use Rattle.s80_kernel.specs.Rows.{is_kernel_class}
 use Rattle.s80_class.specs.Classes.{Name}

@@ -5,3 +5,4 @@ pub mod Primitives
 pub mod Known
 pub mod Rows
 pub mod Front
+pub mod Kept

@@ -1,7 +1,6 @@
 -- The table of primitives.
-use Rattle.std.specs.Prelude.{◌≡◌, ℕ, zero, suc, ◌+◌, ◌^◌, ◌==◌, ℤ, pos, negsuc, List, [], ◌∷◌, ◌++◌, Bool, true, false, ◌&&◌, ◌||◌, codes, length, map, slice_get, nat_le, replicate, Option, Some, None, Result, Ok, Err, find, option_and_then, if◌then◌else◌}
+use Rattle.std.specs.Prelude.{ℕ, suc, ◌+◌, ◌==◌, ℤ, pos, negsuc, List, [], ◌∷◌, ◌++◌, Bool, true, false, ◌&&◌, codes, length, map, slice_get, nat_le, replicate, Option, Some, None, Result, Ok, Err, find, option_and_then, if◌then◌else◌}
 use Rattle.std.specs.Option.{option_map, option_map_or, option_or}
-use Rattle.std.specs.Str.{bytes_eq}
 use Rattle.s80_base.specs.declared.names.Side.{Side}
 use Rattle.s80_base.specs.declared.names.Side.TheVariants as side
 use Rattle.s80_change.specs.declared.definition.Kind.{Kind}
@@ -20,7 +19,7 @@ use Rattle.s80_prims.specs.declared.applied.Applied.TheVariants.{Done, Fails, St
 use Rattle.s80_prims.specs.declared.stop.Stop.{Stop}
 use Rattle.s80_prims.specs.declared.stop.Stop.TheVariants.{Error, ObjectsFull, TranscriptFull}
 use Rattle.s80_prims.specs.Arithmetic.{arithmetic, ranged, truth}
-use Rattle.s80_prims.specs.Classes.{can_be_new, class_number, class_of, is_kind_of, kernel_class, kind_of_class, number_of, variables_of}
+use Rattle.s80_prims.specs.Classes.{can_be_new, class_of, is_kind_of, kind_of_class, number_of, variables_of}
 use Rattle.s80_prims.specs.Printed.{printed}
 
 -- objects, and what was written

@@ -5,10 +5,12 @@ mod applied;
 mod arithmetic;
 mod classes;
 mod front;
+mod laws;
 mod print;
 mod stop;
 
 pub use applied::{Applied, apply};
+pub use laws::primitives_keep_known;
 pub use print::print_value;
 pub use stop::{End, Outcome, Stop};
 
