@@ -1,0 +1,2 @@
+mod MethodTests
+mod MethodFacts
