@@ -22,7 +22,7 @@ pub struct MethodEntry<C> {
 
 /// The methods of a class by their selectors. Contracts see the map of the methods, and beside it the selectors that have
 /// room: a method is put there with no memory. A selector of the map has room, and none loses it.
-#[derive(Drop)]
+#[derive(Debug, Drop)]
 pub struct MethodDict<C> {
     // A selector with room is a key whose slot may be empty.
     slots: IndexMap<Vec<u8>, Option<MethodEntry<C>>>,
