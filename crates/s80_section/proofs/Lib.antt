@@ -3,3 +3,4 @@ pub mod Forms
 pub mod Heads
 pub mod Finding
 pub mod Beginning
+pub mod Checking

@@ -1,3 +1,4 @@
+pub mod Check
 pub mod Form
 pub mod Head
 pub mod Parts
