@@ -1,0 +1,84 @@
+-- Where a block ends.
+use Rattle.std.proofs.Common.{◌≡◌, ℕ, List, [], ◌∷◌, ◌++◌, codes, true, refl, sym, ap, subst, ◌∙◌}
+use Rattle.std.specs.Char.{is_ascii_alphabetic, is_ascii_alphanumeric}
+use Rattle.std.specs.List.{list_all}
+use Rattle.std.proofs.lemmas.Bool.{and_parts, false≢true}
+use Rattle.s80_lex.specs.Spelling.{quoted}
+use Rattle.s80_block.specs.declared.change.Change.{Change}
+use Rattle.s80_block.specs.declared.change.Change.TheVariants.{Define, Method, DoIt}
+use Rattle.s80_block.specs.declared.change.Method.{Method as MethodChange}
+use Rattle.s80_change.specs.Definition.{IsDefinitionOf}
+use Rattle.s80_change.specs.Name.{is_identifier, IsName}
+use Rattle.s80_change.proofs.Cuts.{text_same}
+use Rattle.s80_change.proofs.Defining.{text_defines}
+use Rattle.s80_change.proofs.Splits.{identifier_of}
+use Rattle.s80_section.specs.declared.head.SectionHead.{SectionHead}
+use Rattle.s80_section.specs.Head.{head_text, side_text}
+use Rattle.s80_section.specs.Check.{IsCheckOf}
+use Rattle.s80_section.proofs.Beginning.{head_text_same}
+use Rattle.s80_section.proofs.Checking.{check_same}
+use Rattle.s80_block.specs.declared.frame.Frame.TheVariants.{Plain, Section}
+use Rattle.s80_block.specs.Block.{frame_of, head_of, block, IsLawful, IsLawfulMethod}
+use Rattle.s80_block.proofs.Frames.{IsInner, IsSolid, frames_part}
+
+-- a lawful head begins with a letter
+letter_is_inner : (b : ℕ) → is_ascii_alphabetic b ≡ true → IsInner b
+letter_is_inner b e = record {
+  no_mark = λ i. false≢true (subst (λ n. is_ascii_alphabetic n ≡ true) i e);
+  no_feed = λ i. false≢true (subst (λ n. is_ascii_alphabetic n ≡ true) i e);
+}
+
+begins_inside : (name more : List ℕ) → is_identifier name ≡ true → (b : ℕ) × (rest : List ℕ) × (name ++ more ≡ b ∷ rest) × IsInner b
+begins_inside [] more e = absurd (false≢true e)
+begins_inside (b ∷ name) more e = (b, name ++ more, refl, letter_is_inner b (and_parts (is_ascii_alphabetic b) (list_all is_ascii_alphanumeric name) e).0)
+
+pub head_is_solid : (head : SectionHead) → IsName head.class_name → (b : ℕ) × (rest : List ℕ) × (head_text head ≡ b ∷ rest) × IsInner b
+head_is_solid head name = begins_inside head.class_name (side_text head.side ++ (codes " methodsFor: " ++ quoted 39 head.category)) (identifier_of head.class_name name)
+
+-- so has each lawful change a frame that parts from others
+pub lawful_is_solid : (change : Change) → IsLawful change → IsSolid (frame_of change)
+lawful_is_solid (Define d) lawful = tt
+lawful_is_solid (Method m) lawful = head_is_solid (head_of m) lawful.class_name
+lawful_is_solid (DoIt text) lawful = tt
+
+-- a frame is that of one lawful change
+pub plains_same : (t u : List ℕ) → Plain t ≡ Plain u → t ≡ u
+plains_same t u e = cc
+
+pub heads_same : (h k s t : List ℕ) → Section h s ≡ Section k t → h ≡ k
+heads_same h k s t e = cc
+
+pub sources_same : (h k s t : List ℕ) → Section h s ≡ Section k t → s ≡ t
+sources_same h k s t e = cc
+
+pub no_plain : (t h s : List ℕ) → Plain t ≡ Section h s → ⊥
+no_plain t h s e = cc
+
+method_same : (m n : MethodChange) → head_of m ≡ head_of n → m.source ≡ n.source → m.check ≡ n.check → m ≡ n
+method_same m n head source check =
+    ap (λ (h : SectionHead). record { class_name = h.class_name; side = h.side; category = h.category; source = m.source; check = m.check }) head
+    ∙ ap (λ s. record { class_name = n.class_name; side = n.side; category = n.category; source = s; check = m.check }) source
+    ∙ ap (λ k. record { class_name = n.class_name; side = n.side; category = n.category; source = n.source; check = k }) check
+
+one_method : (m n : MethodChange) → IsLawfulMethod m → IsLawfulMethod n → head_text (head_of m) ≡ head_text (head_of n) → m.source ≡ n.source → m ≡ n
+one_method m n one two head source =
+    method_same m n (head_text_same (head_of m) (head_of n) one.class_name two.class_name head) source
+    (check_same n.source m.check n.check (subst (λ s. IsCheckOf s m.check) source one.check) two.check)
+
+pub one_change : (c d : Change) → IsLawful c → IsLawful d → frame_of c ≡ frame_of d → c ≡ d
+one_change (Define c) (Define d) one two e = ap Define (text_same c d one two (plains_same _ _ e))
+one_change (Define c) (Method m) one two e = absurd (no_plain _ _ _ e)
+one_change (Define c) (DoIt u) one two e = absurd (two.1 c (subst (λ t. IsDefinitionOf t c) (plains_same _ _ e) (text_defines c one)))
+one_change (Method m) (Define d) one two e = absurd (no_plain _ _ _ (sym e))
+one_change (Method m) (Method n) one two e = ap Method (one_method m n one two (heads_same _ _ _ _ e) (sources_same _ _ _ _ e))
+one_change (Method m) (DoIt u) one two e = absurd (no_plain _ _ _ (sym e))
+one_change (DoIt t) (Define d) one two e = absurd (one.1 d (subst (λ u. IsDefinitionOf u d) (sym (plains_same _ _ e)) (text_defines d two)))
+one_change (DoIt t) (Method m) one two e = absurd (no_plain _ _ _ e)
+one_change (DoIt t) (DoIt u) one two e = ap DoIt (plains_same _ _ e)
+
+-- what follows a block is its own, and its frame
+pub block_parts : (c d : Change) (after other : List ℕ) → IsLawful c → IsLawful d → block c ++ after ≡ block d ++ other → (frame_of c ≡ frame_of d) × (after ≡ other)
+block_parts c d after other one two e = frames_part (frame_of c) (frame_of d) after other (lawful_is_solid c one) (lawful_is_solid d two) e
+
+pub block_unique : (c d : Change) (after other : List ℕ) → IsLawful c → IsLawful d → block c ++ after ≡ block d ++ other → (c ≡ d) × (after ≡ other)
+block_unique c d after other one two e = let parts = block_parts c d after other one two e in (one_change c d one two parts.0, parts.1)
