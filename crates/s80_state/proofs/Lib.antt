@@ -1,0 +1,15 @@
+pub mod Defined
+pub mod Extents
+pub mod Found
+pub mod Seen
+pub mod Looked
+pub mod Refusing
+pub mod Booted
+pub mod Names
+pub mod Lawful
+pub mod Stands
+pub mod Preparing
+pub mod Lists
+pub mod Sources
+pub mod Booting
+pub mod Own

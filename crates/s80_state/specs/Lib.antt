@@ -1,0 +1,13 @@
+pub mod Kernel
+pub mod State
+pub mod Source
+pub mod Coded
+pub mod Boot
+pub mod Accept
+pub mod List
+pub mod Limits
+pub mod Named
+pub mod System
+pub mod Entry
+pub mod Method
+pub mod Extent

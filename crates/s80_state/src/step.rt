@@ -1,0 +1,31 @@
+// What is needed to install a change.
+use s80_base::{Side, Text};
+use s80_class::ClassEntry;
+use s80_dict::MethodEntry;
+
+/// An entry that is to be put among the classes.
+#[derive(Debug, Drop)]
+pub struct Placed {
+    /// The class whose entry it replaces; a new class where there is none.
+    pub(crate) number: Option<u32>,
+    pub(crate) entry: ClassEntry,
+}
+
+/// A method that is to be put into a dictionary in which its selector has room.
+#[derive(Debug, Drop)]
+pub struct PlacedMethod {
+    pub(crate) number: u32,
+    pub(crate) side: Side,
+    pub(crate) selector: Text,
+    /// The position of a source in the log is counted from the beginning of its block.
+    pub(crate) entry: MethodEntry<()>,
+}
+
+/// What is needed to install a change. Installing takes no memory.
+#[derive(Debug, Drop)]
+pub enum Step {
+    /// Nothing is changed.
+    Nothing,
+    Class(Placed),
+    Method(PlacedMethod),
+}
