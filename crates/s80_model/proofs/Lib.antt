@@ -1,0 +1,3 @@
+pub mod Asking
+mod Opening
+mod Naming

@@ -1,0 +1,4 @@
+pub mod Asked
+pub mod Section
+pub mod Told
+pub mod Replies

@@ -1,0 +1,122 @@
+-- The model keeper: what each thing asked changes, and what it is answered.
+use Rattle.std.specs.Prelude.{ℕ, Bool, true, false, ◌||◌, List, [], ◌∷◌, ◌++◌, length, codes, Option, Some, None, Result, Ok, Err}
+use Rattle.std.specs.FinMap as map
+use Rattle.s80_block.specs.declared.change.Change.{Change}
+use Rattle.s80_block.specs.declared.change.Change.TheVariants as changes
+use Rattle.s80_section.specs.declared.source_check.SourceCheck.{SourceCheck}
+use Rattle.s80_change.specs.declared.refusal.Refusal.{Refusal}
+use Rattle.s80_section.specs.declared.head.SectionHead.{SectionHead}
+use Rattle.s80_print.specs.Refusal.{refusal_text}
+use Rattle.s80_state.specs.Accept.{unknown_name}
+use Rattle.s80_state.specs.List.{classes_of, state_of, add}
+use Rattle.s80_model.specs.declared.reply.Reply.{Reply}
+use Rattle.s80_model.specs.declared.reply.Reply.TheVariants.{Silent, Accepted, Refused, Told}
+use Rattle.s80_model.specs.declared.section.Section.{Section}
+use Rattle.s80_model.specs.declared.section.Section.TheVariants as sections
+use Rattle.s80_model.specs.Told.{told}
+use Rattle.s80_model.specs.Asked.{Ask, refuses, adds, opens, refuses_head, adds_source, refuses_source, closes, tells}
+
+-- the list of changes, and the section in which the next item stands
+pub record Work : Type 0 where
+  pub changes : List Change
+  pub section : Section
+
+-- before the first item of an input
+abbrev pub begun : List Change → Work
+begun changes = record { changes = changes; section = sections.Top }
+
+abbrev pub reply_to_adding : Result (List Change) Refusal → Reply
+reply_to_adding (Ok changes) = Accepted
+reply_to_adding (Err refusal) = Refused refusal
+
+abbrev pub list_or : Result (List Change) Refusal → List Change → List Change
+list_or (Ok changes) before = changes
+list_or (Err refusal) before = before
+
+-- ---- sections
+
+-- why a head is refused by the classes: there is no class of its name
+abbrev pub refusal_of_head : List Change → SectionHead → Option Refusal
+refusal_of_head changes head = unknown_name head.class_name (classes_of changes)
+
+abbrev pub reply_to_head : Option Refusal → Reply
+reply_to_head None = Silent
+reply_to_head (Some refusal) = Refused refusal
+
+abbrev pub section_of : SectionHead → Option Refusal → Section
+section_of head None = sections.Open head
+section_of head (Some refusal) = sections.Refused
+
+-- a method of a section
+abbrev pub method_in : SectionHead → List ℕ → SourceCheck → Change
+method_in head source check = changes.Method (record { class_name = head.class_name; side = head.side; category = head.category; source = source; check = check })
+
+-- what a source is answered, and the list after it: outside an open section nothing is answered
+abbrev pub reply_to_source : List Change → Section → List ℕ → SourceCheck → Reply
+reply_to_source changes sections.Top source check = Silent
+reply_to_source changes (sections.Open head) source check = reply_to_adding (add changes (method_in head source check))
+reply_to_source changes sections.Refused source check = Silent
+
+abbrev pub list_after_source : List Change → Section → List ℕ → SourceCheck → List Change
+list_after_source changes sections.Top source check = changes
+list_after_source changes (sections.Open head) source check = list_or (add changes (method_in head source check)) changes
+list_after_source changes sections.Refused source check = changes
+
+abbrev pub reply_in_section : Section → Refusal → Reply
+reply_in_section sections.Top refusal = Silent
+reply_in_section (sections.Open head) refusal = Refused refusal
+reply_in_section sections.Refused refusal = Silent
+
+-- ---- what is asked
+
+-- what is answered
+abbrev pub reply_to : Work → Ask → Reply
+reply_to work (refuses refusal) = Refused refusal
+reply_to work (adds change) = reply_to_adding (add work.changes change)
+reply_to work (opens head) = reply_to_head (refusal_of_head work.changes head)
+reply_to work (refuses_head refusal) = Refused refusal
+reply_to work (adds_source source check) = reply_to_source work.changes work.section source check
+reply_to work (refuses_source refusal) = reply_in_section work.section refusal
+reply_to work closes = Silent
+reply_to work (tells query) = told (state_of work.changes) (length work.changes) query
+
+-- the list and the section afterwards
+abbrev pub work_after : Work → Ask → Work
+work_after work (refuses refusal) = work
+work_after work (adds change) = record work { changes = list_or (add work.changes change) work.changes }
+work_after work (opens head) = record work { section = section_of head (refusal_of_head work.changes head) }
+work_after work (refuses_head refusal) = record work { section = sections.Refused }
+work_after work (adds_source source check) = record work { changes = list_after_source work.changes work.section source check }
+work_after work (refuses_source refusal) = work
+work_after work closes = record work { section = sections.Top }
+work_after work (tells query) = work
+
+-- a reply as it is written: a line, lines, or nothing
+abbrev pub reply_text : Reply → List ℕ
+reply_text Silent = []
+reply_text Accepted = codes "ok" ++ 10 ∷ []
+reply_text (Refused refusal) = refusal_text refusal ++ 10 ∷ []
+reply_text (Told text) = text
+
+abbrev pub is_refused : Reply → Bool
+is_refused Silent = false
+is_refused Accepted = false
+is_refused (Refused refusal) = true
+is_refused (Told text) = false
+
+-- the replies to what is asked one after another, and the list and section after all of it
+abbrev pub replies : Work → List Ask → List ℕ
+replies work [] = []
+replies work (ask ∷ asks) = reply_text (reply_to work ask) ++ replies (work_after work ask) asks
+
+abbrev pub work_after_all : Work → List Ask → Work
+work_after_all work [] = work
+work_after_all work (ask ∷ asks) = work_after_all (work_after work ask) asks
+
+abbrev pub list_after_all : Work → List Ask → List Change
+list_after_all work asks = (work_after_all work asks).changes
+
+-- whether something is refused
+abbrev pub any_refused : Work → List Ask → Bool
+any_refused work [] = false
+any_refused work (ask ∷ asks) = is_refused (reply_to work ask) || any_refused (work_after work ask) asks

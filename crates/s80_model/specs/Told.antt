@@ -1,0 +1,62 @@
+-- What queries are told of the state and the list.
+use Rattle.std.specs.Prelude.{ℕ, ◌-◌, Bool, ◌&&◌, List, [], ◌∷◌, ◌++◌, Option, Some, None, length, codes, take, option_map, if◌then◌else◌}
+use Rattle.std.specs.FinMap as map
+use Rattle.std.specs.Str.{bytes_eq}
+use Rattle.s80_base.specs.declared.names.Side.{Side}
+use Rattle.s80_base.specs.declared.names.Side.TheVariants.{Instance, Class}
+use Rattle.s80_change.specs.declared.refusal.Refusal.TheVariants.{UnknownClass, BadName, NoSelector}
+use Rattle.s80_change.specs.Name.{is_name}
+use Rattle.s80_class.specs.Classes.{Name, ClassRow}
+use Rattle.s80_state.specs.State.{State}
+use Rattle.s80_told.specs.Told.{recovered_text, classes_text, browsed}
+use Rattle.s80_model.specs.declared.item.Query.{Query}
+use Rattle.s80_model.specs.declared.item.Query.TheVariants.{Recover, Classes as AllClasses, Browse, Source}
+use Rattle.s80_model.specs.declared.reply.Reply.{Reply}
+use Rattle.s80_model.specs.declared.reply.Reply.TheVariants.{Refused, Told}
+
+-- ---- the lines of a class
+
+abbrev pub browse_reply : Name → Option (List ℕ) → Reply
+browse_reply name None = Refused (UnknownClass name)
+browse_reply name (Some lines) = Told lines
+
+-- ---- the source of a method
+
+abbrev pub class_word : List ℕ
+class_word = codes " class"
+
+-- the name in front of the word for the class side
+abbrev pub class_side_name : List ℕ → List ℕ
+class_side_name spec = take (length spec - length class_word) spec
+
+abbrev pub is_class_side : List ℕ → Bool
+is_class_side spec = bytes_eq spec (class_side_name spec ++ class_word) && is_name (class_side_name spec)
+
+-- the class and the side that a word names
+abbrev pub side_named : List ℕ → Option (Name × Side)
+side_named spec = if is_name spec then Some (spec, Instance) else (if is_class_side spec then Some (class_side_name spec, Class) else None)
+
+-- the source that the state has for a selector on one side of a class, if it has one
+abbrev pub source_in : State → Name → Side → List ℕ → Option (List ℕ)
+source_in state name side selector = option_map (λ row. row.source) (map.get (state.methods name side) selector)
+
+abbrev pub source_told : Name → Side → List ℕ → Option (List ℕ) → Reply
+source_told name side selector None = Refused (NoSelector name side selector)
+source_told name side selector (Some source) = Told (source ++ 10 ∷ [])
+
+abbrev pub source_of_class : State → Name → Side → List ℕ → Option ClassRow → Reply
+source_of_class state name side selector None = Refused (UnknownClass name)
+source_of_class state name side selector (Some row) = source_told name side selector (source_in state name side selector)
+
+abbrev pub source_reply : State → List ℕ → List ℕ → Option (Name × Side) → Reply
+source_reply state spec selector None = Refused (BadName spec)
+source_reply state spec selector (Some named) = source_of_class state named.0 named.1 selector (map.get state.classes named.0)
+
+-- ---- queries
+
+-- what a query is answered in this state, with so many changes kept
+abbrev pub told : State → ℕ → Query → Reply
+told state count Recover = Told (recovered_text count state)
+told state count AllClasses = Told (classes_text state.classes)
+told state count (Browse name) = if is_name name then browse_reply name (browsed state name) else Refused (BadName name)
+told state count (Source spec selector) = source_reply state spec selector (side_named spec)

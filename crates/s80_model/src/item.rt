@@ -1,0 +1,24 @@
+// The items of an input, and queries.
+use s80_base::Text;
+use s80_chunk::Item;
+
+/// What may be asked of a folder.
+#[derive(Debug, Drop)]
+pub enum Query {
+    /// How much there is in the folder.
+    Recover,
+    /// The names of all classes.
+    Classes,
+    /// The class of this name: its definition, its comment, its class-side variables, and the selectors of its methods by category.
+    Browse(Text),
+    /// The source of a method: its class, with ` class` behind the name for the class side, and its selector.
+    Source(Text, Text),
+}
+
+/// An item of the input, the rest of an input that ends within an item, or a query.
+#[derive(Debug, Drop)]
+pub enum SessionItem {
+    Chunk(Item),
+    Unended,
+    Query(Query),
+}

@@ -1,0 +1,17 @@
+//! The model keeper: what the items of an input ask, and what they are answered, whatever keeps the list of changes.
+#![tactic(auto)]
+
+mod item;
+mod laws;
+mod reply;
+mod section;
+mod side;
+
+pub use item::{Query, SessionItem};
+pub use laws::one_ask;
+pub use reply::{Answer, Reply};
+pub use section::{Section, head_answer, method_of, too_long_answer};
+pub use side::side_named;
+
+#[cfg(test)]
+mod tests;

@@ -1,0 +1,104 @@
+// Sections of an input.
+ghost use Rattle.std.specs.Prelude.{◌≡◌, ◌≤◌, Some, length, IfOk};
+ghost use Rattle.s80_block.specs.declared.change.Change.{Change};
+ghost use Rattle.s80_state.specs.List.{classes_of};
+ghost use Rattle.s80_model.specs.Asked.{AsksHead, ask_of_too_long, opens};
+ghost use Rattle.s80_model.specs.Replies.{Work, method_in, reply_to, work_after};
+ghost use Rattle.s80_model.specs.Section.{section_or};
+
+use crate::reply::{Answer, Reply};
+use s80_base::{OutOfMemory, Text};
+use s80_block::Method;
+use s80_change::{FitWord, Refusal};
+use s80_chunk::{LONGEST, Role};
+use s80_section::{HeadFault, SectionHead, SourceCheck, head_of, syntax_refusal};
+use s80_state::System;
+use std::alloc::Global;
+
+/// Where in a chunk file the next item stands.
+#[derive(Debug, Drop)]
+pub enum Section {
+    /// At top level.
+    Top,
+    /// In a section of this head, whose class is there.
+    Open(SectionHead),
+    /// In a section whose head was refused: it is passed over.
+    Refused,
+}
+
+/// What a head is answered, and the section that it begins. The section of a head that is none, or whose class isn't there, is passed over.
+pub fn head_answer(alloc: Global, system: &System, text: Text) -> Result<Answer, OutOfMemory>
+    ensures { (work : Work) → system.now.table.classes ≡ classes_of work.changes → length text ≤ 65535
+        → IfOk result (λ answer. (ask : _) × AsksHead text ask × (answer.reply ≡ reply_to work ask) × (section_or answer.section work.section ≡ (work_after work ask).section)) }
+{
+    let length = text.bytes().len();
+    if length > LONGEST {
+        let refusal = Refusal::TooLarge(FitWord::Chunk, length as u64);
+        return Ok(refused_head(refusal));
+    }
+    match head_of(alloc, &text) {
+        Ok(head) => known_head(alloc, system, head),
+        Err(HeadFault::Memory) => Err(OutOfMemory),
+        Err(HeadFault::Syntax(fault)) => Ok(refused_head(syntax_refusal(fault)?)),
+        Err(HeadFault::NoSection) => Ok(refused_head(Refusal::NoSection(text))),
+    }
+}
+
+/// The section of a head whose class is there.
+fn known_head(alloc: Global, system: &System, head: SectionHead) -> Result<Answer, OutOfMemory>
+    ensures { (work : Work) → system.now.table.classes ≡ classes_of work.changes
+        → IfOk result (λ answer. (answer.reply ≡ reply_to work (opens head)) × (section_or answer.section work.section ≡ (work_after work (opens head)).section)) }
+{
+    if system.find(&head.class_name).is_none() {
+        let name = head.class_name.copy(alloc)?;
+        return Ok(refused_head(Refusal::UnknownClass(name)));
+    }
+    Ok(Answer {
+        reply: Reply::Silent,
+        section: Some(Section::Open(head)),
+    })
+}
+
+/// A refused head, whose section is passed over.
+fn refused_head(refusal: Refusal) -> Answer
+    ensures { result ≡ record { reply = Reply.Refused refusal; section = Some Section.Refused } }
+{
+    Answer {
+        reply: Reply::Refused(refusal),
+        section: Some(Section::Refused),
+    }
+}
+
+/// What a text is answered that is too long. A head begins a section that is passed over; outside an open section a method is passed over.
+pub fn too_long_answer(section: &Section, role: Role, length: u64) -> Answer
+    ensures { (work : Work) → work.section ≡ section.now
+        → (result.reply ≡ reply_to work (ask_of_too_long role length)) × (section_or result.section work.section ≡ (work_after work (ask_of_too_long role length)).section) }
+{
+    let refusal = Refusal::TooLarge(FitWord::Chunk, length);
+    match role {
+        Role::Plain => Answer::staying(Reply::Refused(refusal)),
+        Role::Head => refused_head(refusal),
+        Role::Method => match section {
+            Section::Open(_) => Answer::staying(Reply::Refused(refusal)),
+            Section::Top | Section::Refused => Answer::staying(Reply::Silent),
+        },
+    }
+}
+
+/// The method of a source in the class of a section.
+pub fn method_of(
+    alloc: Global,
+    head: &SectionHead,
+    source: Text,
+    check: SourceCheck,
+) -> Result<Method, OutOfMemory>
+    ensures { IfOk result (λ method. Change.Method method ≡ method_in head.now source check) }
+{
+    Ok(Method {
+        class_name: head.class_name.copy(alloc)?,
+        side: head.side,
+        category: head.category.copy(alloc)?,
+        source,
+        check,
+    })
+}
