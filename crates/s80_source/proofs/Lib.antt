@@ -1,0 +1,3 @@
+pub mod Spells
+pub mod Pieces
+mod Standing

@@ -1,0 +1,2 @@
+pub mod Unspelled
+pub mod Read
