@@ -1,45 +1,20 @@
 -- Where a block ends.
-use Rattle.std.proofs.Common.{◌≡◌, ℕ, List, [], ◌∷◌, ◌++◌, codes, true, refl, sym, ap, subst, ◌∙◌}
-use Rattle.std.specs.Char.{is_ascii_alphabetic, is_ascii_alphanumeric}
-use Rattle.std.specs.List.{list_all}
-use Rattle.std.proofs.lemmas.Bool.{and_parts, false≢true}
-use Rattle.s80_lex.specs.Spelling.{quoted}
+use Rattle.std.proofs.Common.{◌≡◌, ℕ, List, ◌++◌, sym, ap, subst, ◌∙◌}
 use Rattle.s80_block.specs.declared.change.Change.{Change}
 use Rattle.s80_block.specs.declared.change.Change.TheVariants.{Define, Method, DoIt}
 use Rattle.s80_block.specs.declared.change.Method.{Method as MethodChange}
 use Rattle.s80_change.specs.Definition.{IsDefinitionOf}
-use Rattle.s80_change.specs.Name.{is_identifier, IsName}
 use Rattle.s80_change.proofs.Cuts.{text_same}
 use Rattle.s80_change.proofs.Defining.{text_defines}
-use Rattle.s80_change.proofs.Splits.{identifier_of}
 use Rattle.s80_section.specs.declared.head.SectionHead.{SectionHead}
-use Rattle.s80_section.specs.Head.{head_text, side_text}
+use Rattle.s80_section.specs.Head.{head_text}
 use Rattle.s80_section.specs.Check.{IsCheckOf}
 use Rattle.s80_section.proofs.Beginning.{head_text_same}
 use Rattle.s80_section.proofs.Checking.{check_same}
 use Rattle.s80_block.specs.declared.frame.Frame.TheVariants.{Plain, Section}
 use Rattle.s80_block.specs.Block.{frame_of, head_of, block, IsLawful, IsLawfulMethod}
-use Rattle.s80_block.proofs.Frames.{IsInner, IsSolid, frames_part}
-
--- a lawful head begins with a letter
-letter_is_inner : (b : ℕ) → is_ascii_alphabetic b ≡ true → IsInner b
-letter_is_inner b e = record {
-  no_mark = λ i. false≢true (subst (λ n. is_ascii_alphabetic n ≡ true) i e);
-  no_feed = λ i. false≢true (subst (λ n. is_ascii_alphabetic n ≡ true) i e);
-}
-
-begins_inside : (name more : List ℕ) → is_identifier name ≡ true → (b : ℕ) × (rest : List ℕ) × (name ++ more ≡ b ∷ rest) × IsInner b
-begins_inside [] more e = absurd (false≢true e)
-begins_inside (b ∷ name) more e = (b, name ++ more, refl, letter_is_inner b (and_parts (is_ascii_alphabetic b) (list_all is_ascii_alphanumeric name) e).0)
-
-pub head_is_solid : (head : SectionHead) → IsName head.class_name → (b : ℕ) × (rest : List ℕ) × (head_text head ≡ b ∷ rest) × IsInner b
-head_is_solid head name = begins_inside head.class_name (side_text head.side ++ (codes " methodsFor: " ++ quoted 39 head.category)) (identifier_of head.class_name name)
-
--- so has each lawful change a frame that parts from others
-pub lawful_is_solid : (change : Change) → IsLawful change → IsSolid (frame_of change)
-lawful_is_solid (Define d) lawful = tt
-lawful_is_solid (Method m) lawful = head_is_solid (head_of m) lawful.class_name
-lawful_is_solid (DoIt text) lawful = tt
+use Rattle.s80_block.proofs.FirstFrames.{frame_unique}
+use Rattle.s80_block.proofs.FirstBlocks.{lawful_is_proper}
 
 -- a frame is that of one lawful change
 pub plains_same : (t u : List ℕ) → Plain t ≡ Plain u → t ≡ u
@@ -78,7 +53,7 @@ one_change (DoIt t) (DoIt u) one two e = ap DoIt (plains_same _ _ e)
 
 -- what follows a block is its own, and its frame
 pub block_parts : (c d : Change) (after other : List ℕ) → IsLawful c → IsLawful d → block c ++ after ≡ block d ++ other → (frame_of c ≡ frame_of d) × (after ≡ other)
-block_parts c d after other one two e = frames_part (frame_of c) (frame_of d) after other (lawful_is_solid c one) (lawful_is_solid d two) e
+block_parts c d after other one two e = frame_unique (frame_of c) (frame_of d) after other (lawful_is_proper c one) (lawful_is_proper d two) e
 
 pub block_unique : (c d : Change) (after other : List ℕ) → IsLawful c → IsLawful d → block c ++ after ≡ block d ++ other → (c ≡ d) × (after ≡ other)
 block_unique c d after other one two e = let parts = block_parts c d after other one two e in (one_change c d one two parts.0, parts.1)

@@ -1,4 +1,3 @@
-pub mod Frames
 pub mod BlockLaws
 pub mod TextOf
 pub mod MethodOf

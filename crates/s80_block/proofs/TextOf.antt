@@ -8,21 +8,12 @@ use Rattle.s80_syntax.specs.declared.fault.ParseFault.TheVariants.{Memory}
 use Rattle.s80_syntax.specs.Text.{IsDoItOf, IsFaultOf}
 use Rattle.s80_syntax.proofs.OneReading.{one_doit_of, doit_only_memory}
 use Rattle.s80_block.specs.declared.change.Change.TheVariants.{Define, Method, DoIt}
-use Rattle.s80_change.specs.declared.change.Change.{Change as FormChange}
-use Rattle.s80_change.specs.declared.change.Change.TheVariants as forms
 use Rattle.s80_change.specs.declared.definition.Definition.{Definition}
-use Rattle.s80_change.specs.declared.form.Recognised.TheVariants as recognised
-use Rattle.s80_change.specs.Block.{IsNoDefinition, IsSomeDefinition}
-use Rattle.s80_change.specs.Definition.{IsFormOf, IsSomeForm, IsNoForm, IsDefinitionOf}
-use Rattle.s80_change.specs.Form.{IsReadAs, Recognises}
+use Rattle.s80_change.specs.Definition.{IsFormOf, IsSomeForm, IsNoForm, IsDefinitionOf, IsNoDefinition, IsSomeDefinition}
+use Rattle.s80_change.specs.Form.{IsReadAs}
 use Rattle.s80_block.specs.declared.frame.Frame.TheVariants.{Plain}
 use Rattle.s80_block.specs.Block.{IsLawful, HasNoChange}
 use Rattle.s80_block.proofs.BlockLaws.{plains_same, no_plain}
-
--- a tree that is recognised as a change is the form of a definition
-pub some_form : (tree : DoItParts) (change : FormChange) → Recognises tree (recognised.Change change) → IsSomeForm tree
-some_form tree (forms.Define d) h = (d, h)
-some_form tree (forms.DoIt t) h = absurd h
 
 -- a text with a tree is a definition where the tree is the form of one
 pub form_of_text : (text : List ℕ) (tree : DoItParts) → IsDoItOf text tree → (is : Bool) → MatchBool is (IsSomeForm tree) (IsNoForm tree) → MatchBool is (IsSomeDefinition text) (IsNoDefinition text)

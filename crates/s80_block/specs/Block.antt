@@ -5,8 +5,7 @@ use Rattle.s80_chunk.specs.Chunks.{mark, chunk, longest, IsChunkText, IsPlainTex
 use Rattle.s80_block.specs.declared.change.Change.{Change}
 use Rattle.s80_block.specs.declared.change.Change.TheVariants.{Define, Method, DoIt}
 use Rattle.s80_block.specs.declared.change.Method.{Method as MethodChange}
-use Rattle.s80_change.specs.Block.{IsNoDefinition}
-use Rattle.s80_change.specs.Definition.{definition_text, IsLawfulDefinition}
+use Rattle.s80_change.specs.Definition.{definition_text, IsLawfulDefinition, IsNoDefinition}
 use Rattle.s80_change.specs.Name.{IsName}
 use Rattle.s80_section.specs.declared.head.SectionHead.{SectionHead}
 use Rattle.s80_section.specs.Head.{head_text}

@@ -2,8 +2,7 @@
 ghost use Rattle.std.specs.Prelude.{◌≡◌, ◌≤◌, ◌↔◌, ◌++◌, ℕ, List, length, IsTrue, IfOk, MatchOption, MatchBool};
 ghost use Rattle.s80_chunk.specs.Chunks.{IsChunkText, IsPlainText};
 ghost use Rattle.s80_block.specs.declared.change.Change.{Change};
-ghost use Rattle.s80_change.specs.Block.{IsNoDefinition, IsSomeDefinition};
-ghost use Rattle.s80_change.specs.Definition.{IsNoForm, IsSomeForm};
+ghost use Rattle.s80_change.specs.Definition.{IsNoDefinition, IsNoForm, IsSomeDefinition, IsSomeForm};
 ghost use Rattle.s80_tree.specs.Tree.{doit_of};
 ghost use Rattle.s80_block.specs.Block.{block, frame_of, IsLawful, HasNoChange};
 ghost use Rattle.s80_block.specs.declared.frame.Frame.{Frame};
@@ -122,7 +121,7 @@ fn is_form(alloc: Global, tree: &DoItTree) -> Result<bool, OutOfMemory>
     ensures { IfOk result (λ is. MatchBool is (IsSomeForm (doit_of tree.now)) (IsNoForm (doit_of tree.now))) }
 {
     match recognise(alloc, tree)? {
-        Recognised::Change(_) => Ok(true),
+        Recognised::Define(_) => Ok(true),
         Recognised::Evaluate => Ok(false),
     }
 }

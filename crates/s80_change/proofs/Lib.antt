@@ -1,4 +1,3 @@
-pub mod BlockLaws
 pub mod Splits
 pub mod Spelled
 pub mod Trees
@@ -8,4 +7,3 @@ pub mod Reading
 pub mod Longest
 pub mod Building
 pub mod Defining
-pub mod TextOf

@@ -113,3 +113,10 @@ pub record IsDefinitionOf (text : List ℕ) (d : Definition) : Type 0 where
   pub tree : DoItParts
   pub tree_is : IsDoItOf text tree
   pub form : IsFormOf tree d
+
+-- the text is a doIt whose tree is the form of a definition, or it isn't
+abbrev pub IsSomeDefinition : List ℕ → Type 0
+IsSomeDefinition text = (d : Definition) × IsDefinitionOf text d
+
+abbrev pub IsNoDefinition : List ℕ → Type 0
+IsNoDefinition text = (d : Definition) → IsDefinitionOf text d → ⊥

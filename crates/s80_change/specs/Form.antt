@@ -4,7 +4,6 @@ use Rattle.s80_base.specs.Literal.{symbol, str}
 use Rattle.s80_tree.specs.declared.name.NameAt.{NameAt}
 use Rattle.s80_tree.specs.Tree.{DoItParts, ExprTree, ExprTrees, MessageTree, expr, name, exprs_from, messages, no_messages, stmts, no_stmts}
 use Rattle.s80_grammar.specs.Word.{is_reserved}
-use Rattle.s80_change.specs.declared.change.Change.TheVariants.{Define, DoIt}
 use Rattle.s80_change.specs.declared.definition.Definition.{Definition}
 use Rattle.s80_change.specs.declared.form.Recognised.{Recognised}
 use Rattle.s80_change.specs.declared.form.Recognised.TheVariants as recognised
@@ -17,10 +16,9 @@ abbrev pub IsRecognised : DoItParts → Option Definition → Type 0
 IsRecognised tree (Some d) = IsFormOf tree d
 IsRecognised tree None = IsNoForm tree
 
--- a change whose form the tree is; or it is no form
+-- the definition whose form the tree is; or it is no form
 abbrev pub Recognises : DoItParts → Recognised → Type 0
-Recognises tree (recognised.Change (Define d)) = IsFormOf tree d
-Recognises tree (recognised.Change (DoIt text)) = ⊥
+Recognises tree (recognised.Define d) = IsFormOf tree d
 Recognises tree recognised.Evaluate = IsNoForm tree
 
 -- the lawful definition that has this text, or none where no such definition has it

@@ -1,4 +1,3 @@
-pub mod Block
 pub mod Refusal
 pub mod Name
 pub mod Definition

@@ -7,7 +7,6 @@ ghost use Rattle.s80_change.specs.Definition.{definition_text, defining_word, de
 ghost use Rattle.s80_change.specs.Name.{AreNames};
 ghost use Rattle.s80_change.specs.Form.{IsRecognised, Recognises, Finds, alone, sent, are_arguments, texts_of, ShowsForm};
 
-use crate::change::Change;
 use crate::definition::{Definition, Kind};
 use crate::names::split_names;
 use s80_base::{Literal, OutOfMemory, Text};
@@ -35,17 +34,18 @@ struct Arguments<'t> {
 /// What a doIt is by its tree.
 #[derive(Debug, Drop)]
 pub enum Recognised {
-    Change(Change),
+    /// The form of the definition of a class.
+    Define(Definition),
     /// No form: it is evaluated.
     Evaluate,
 }
 
-/// What a doIt is by its tree alone: a change where the tree is one of the forms.
+/// What a doIt is by its tree alone: a definition where the tree is the form of one.
 pub fn recognise(alloc: Global, tree: &DoItTree) -> Result<Recognised, OutOfMemory>
     ensures { IfOk result (Recognises (doit_of tree.now)) }
 {
     Ok(match recognise_definition(alloc, tree)? {
-        Some(definition) => Recognised::Change(Change::Define(definition)),
+        Some(definition) => Recognised::Define(definition),
         None => Recognised::Evaluate,
     })
 }

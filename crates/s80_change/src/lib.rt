@@ -1,8 +1,6 @@
-//! Changes, the blocks that keep them in a log, and why a change is refused.
+//! Definitions of classes, the forms by which doIts are recognised as such, names, and why a change is refused.
 #![tactic(auto)]
 
-mod block;
-mod change;
 mod definition;
 mod form;
 mod name;
@@ -10,8 +8,6 @@ mod names;
 mod read;
 mod refusal;
 
-pub use block::{block_text, blocks_part_in_one_way, read_change};
-pub use change::{Change, Changes};
 pub use definition::{Definition, Kind, add_quoted, definition_text};
 pub use form::{
     Recognised, a_definition_is_a_form, joined_names_are_split, one_definition, one_form, recognise,

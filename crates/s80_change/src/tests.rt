@@ -1,8 +1,8 @@
-// Blocks of changes, and definitions of classes, with ample memory.
+// Definitions of classes, names and refusals, with ample memory.
 use crate::form::recognise_definition;
 use crate::{
-    Change, Changes, Definition, FitWord, Kind, ManyKind, Refusal, SyntaxKind, block_text,
-    definition_text, is_class_name, is_name, read_change, read_definition,
+    Definition, FitWord, Kind, ManyKind, Refusal, SyntaxKind, definition_text, is_class_name,
+    is_name, read_definition,
 };
 use s80_base::{Names, OutOfMemory, Text};
 use s80_syntax::parse_doit;
@@ -48,31 +48,6 @@ fn recognised(rt: &impl Abort, alloc: Global, bytes: &[u8]) -> Result<Option<Def
         return Err(Fail::new("a doIt"));
     };
     Ok(recognise_definition(alloc, &tree)?)
-}
-
-#[test]
-fn a_doit_is_its_chunk_and_a_line_feed(rt: HostRuntime) -> Result<(), Fail> {
-    let rows: [(&[u8], &[u8]); 2] = [(b"3 + 4", b"3 + 4!\n"), (b"'It''s!'", b"'It''s!!'!\n")];
-    for (text, block) in rows {
-        let change = Change::DoIt {
-            text: Text::from_bytes(rt.alloc(), text)?,
-        };
-        assert_eq!(rt; block_text(rt.alloc(), &change)?.bytes(), block);
-    }
-    Ok(())
-}
-
-#[test]
-fn changes_stand_in_order(rt: HostRuntime) -> Result<(), Fail> {
-    let mut changes = Changes::empty(rt.alloc());
-    for text in [b"1".as_slice(), b"2".as_slice()] {
-        changes.push(Change::DoIt {
-            text: Text::from_bytes(rt.alloc(), text)?,
-        })?;
-    }
-    assert_eq!(rt; changes.count(), 2);
-    assert!(rt; matches!(changes.at(1), Change::DoIt { text } if text.bytes() == b"2".as_slice()));
-    Ok(())
 }
 
 #[test]
@@ -288,34 +263,6 @@ fn names_are_told_apart(rt: HostRuntime) -> Result<(), Fail> {
     for (i, (word, name, class_name)) in rows.iter().enumerate() {
         assert!(rt; is_name(word) == *name, "row {i}");
         assert!(rt; is_class_name(word) == *class_name, "row {i}");
-    }
-    Ok(())
-}
-
-#[test]
-fn a_text_is_read_as_its_change(rt: HostRuntime) -> Result<(), Fail> {
-    let rows: [(&[u8], &[u8]); 6] = [
-        (
-            b"Object subclass: #A\n\tinstanceVariableNames: 'x'\n\tclassVariableNames: ''\n\tpoolDictionaries: ''\n\tcategory: 'c'",
-            b"define",
-        ),
-        (
-            b"Object subclass: #A instanceVariableNames: 'x' classVariableNames: '' poolDictionaries: '' category: 'c'",
-            b"none",
-        ),
-        (b"3 + 4", b"doit"),
-        (b"3 +", b"doit"),
-        (b" 3", b"none"),
-        (b"", b"none"),
-    ];
-    for (text, kind) in rows {
-        let text = Text::from_bytes(rt.alloc(), text)?;
-        let found = match read_change(rt.alloc(), text)? {
-            Some(Change::Define(_)) => b"define".as_slice(),
-            Some(Change::DoIt { .. }) => b"doit".as_slice(),
-            None => b"none".as_slice(),
-        };
-        assert_eq!(rt; found, kind);
     }
     Ok(())
 }
