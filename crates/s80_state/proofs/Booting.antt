@@ -4,7 +4,6 @@ use Rattle.std.specs.List.{All, slice_get}
 use Rattle.std.specs.Str.{bytes_eq}
 use Rattle.std.specs.Cmp.Lexicographic.{bytes_decides}
 use Rattle.std.specs.FinMap as map
-use Rattle.std.proofs.lemmas.Bool.Decides.{nat_tests}
 use Rattle.std.proofs.lemmas.List.{take_more, take_all, length-map}
 use Rattle.std.proofs.lemmas.List.Elements.{All-head, All-tail}
 use Rattle.std.proofs.lemmas.Option.{slice_get_within, get_or_from_slice_get}
@@ -24,7 +23,7 @@ use Rattle.s80_state.specs.State.{MethodRow, State, side_of, kernel_method, put_
 use Rattle.s80_state.specs.System.{AreEntriesOf, Entry, IsSystemOf, SystemState, entry_of}
 use Rattle.s80_state.specs.Boot.{HasClassesAlone, TakesMethod, entry_held}
 use Rattle.s80_state.proofs.Booted.{IsBooted, built_has, booted_none, booted_all}
-use Rattle.s80_state.proofs.Stands.{entries_put, entries_empty}
+use Rattle.s80_state.proofs.Stands.{entries_put, entries_empty, entries_where, same_place}
 
 -- ---- the classes, without methods
 
@@ -98,27 +97,6 @@ put_more (first ∷ ks) k state = put_more ks k (put_method first.class (side_of
 
 -- ---- a method more in a system
 
--- a number is that of a name where the name is that of the class
-at_place : (names : List (Option Name)) (n number : ℕ) (name class : Name) → IsNumberOf names n name → IsNumberOf names number class → ((c : ℕ) → IsNumberOf names c class → c ≡ number) → nat_eq n number ≡ bytes_eq name class
-at_place names n number name class named of only = go (nat_eq n number) (bytes_eq name class) refl refl
-  where
-    go : (a b : Bool) → nat_eq n number ≡ a → bytes_eq name class ≡ b → a ≡ b
-    go true true p q = refl
-    go false false p q = refl
-    go true false p q =
-        let here : n ≡ number = grind (arith, nat_tests) in
-        let both : Some (Some name) ≡ Some (Some class) = sym named ∙ ap (slice_get names) here ∙ of in
-        let same : name ≡ class = cc in
-        sym ((bytes_decides name class).1 same) ∙ q
-    go false true p q =
-        let same : name ≡ class = (bytes_decides name class).0 q in
-        let here : n ≡ number = only n (subst (λ (x : Name). IsNumberOf names n x) same named) in
-        grind (arith, nat_tests)
-
-where_put : (b : Bool) (x y : Methods Entry) (z w : Methods MethodRow) → AreEntriesOf x z → AreEntriesOf y w → AreEntriesOf (cond b x y) (cond b z w)
-where_put true x y z w put kept = put
-where_put false x y z w put kept = kept
-
 abbrev system_of : Table → MethodsValue Entry → SystemState
 system_of table methods = record { table = table; methods = methods }
 
@@ -143,11 +121,11 @@ module _ (table : Table) (m : KernelMethod) (k : KernelMethodRow) (before now : 
       let kept : AreEntriesOf old rows = is.methods n name s named in
       let here : IsNumberOf table.names takes.number k.class = subst (λ (x : Name). IsNumberOf table.names takes.number x) class_is takes.named in
       let only : (c : ℕ) → IsNumberOf table.names c k.class → c ≡ takes.number = λ c at. takes.only c (subst (λ (x : Name). IsNumberOf table.names c x) (sym class_is) at) in
-      let place : nat_eq n takes.number ≡ bytes_eq name k.class = at_place table.names n takes.number name k.class named here only in
+      let place : nat_eq n takes.number ≡ bytes_eq name k.class = same_place table.names n takes.number name k.class named here only in
       let same : methods_at now n s ≡ cond (bytes_eq name k.class && same_side s (side_of k.on_class_side)) (map.insert old k.selector (entry_of (kernel_method k))) old =
       takes.methods n s ∙ (λ i. cond (place i && same_side s (side_of (held i).on_class_side)) (map.insert old (held i).selector (entry_is i)) old) in
       subst (λ e. AreEntriesOf e (cond (bytes_eq name k.class && same_side s (side_of k.on_class_side)) (map.insert rows k.selector (kernel_method k)) rows)) (sym same)
-      (where_put (bytes_eq name k.class && same_side s (side_of k.on_class_side)) (map.insert old k.selector (entry_of (kernel_method k))) old (map.insert rows k.selector (kernel_method k)) rows
+      (entries_where (bytes_eq name k.class && same_side s (side_of k.on_class_side)) (map.insert old k.selector (entry_of (kernel_method k))) old (map.insert rows k.selector (kernel_method k)) rows
       (entries_put old rows k.selector (entry_of (kernel_method k)) (kernel_method k) refl kept) kept)
 
   other : (name : Name) → map.get state.classes name ≡ None → (b : Bool) → bytes_eq name k.class ≡ b → b ≡ false

@@ -1,9 +1,9 @@
 -- The kernel's method that a method is.
-use Rattle.std.proofs.Common.{◌≡◌, ◌≤◌, ◌+◌, ◌^◌, ◌∙◌, ◌&&◌, ◌↔◌, ℕ, Bool, cond, true, false, refl, sym, ap, List, length, Option, Some, None, option_map, codes, slice_range, arith}
+use Rattle.std.proofs.Common.{◌≡◌, ◌≤◌, ◌+◌, ◌∙◌, ◌&&◌, ◌↔◌, ℕ, Bool, cond, true, false, refl, sym, ap, List, length, Option, Some, None, option_map, codes, slice_range, arith}
 use Rattle.std.specs.List.{All, Contains}
 use Rattle.std.specs.Str.{bytes_eq}
 use Rattle.std.specs.Cmp.Lexicographic.{bytes_decides}
-use Rattle.std.proofs.lemmas.Bool.{and_parts, leb-true}
+use Rattle.std.proofs.lemmas.Bool.{and_parts}
 use Rattle.std.proofs.lemmas.List.Elements.{All-contains}
 use Rattle.std.proofs.lemmas.Option.{slice_get_within}
 use Rattle.s80_kernel_methods.specs.declared.methods.KernelMethod.{KernelMethod}
@@ -61,15 +61,6 @@ module _ (m : MethodChange) (selector : List ℕ) (own : KernelMethod) (side sam
       go : (o : Option KernelMethodRow) → looked ≡ o → Some (held_place own) ≡ option_map place_of o → kernel_row m selector ≡ None
       go None is none = absurd (cc)
       go (Some row) is some = row_is row is (some_same (held_place own) (place_of row) some) ∙ ap (λ b. cond b (Some row) None) differs
-
--- ---- bounds
-
-text_short : length kernel_text ≤ 2 ^ 30
-unfolding kernel_text
-text_short = leb-true (length kernel_text) (2 ^ 30) refl
-
-pub near_text : (place count : ℕ) → place ≤ length kernel_text → place ≤ count + 2 ^ 30
-near_text place count within = let short : length kernel_text ≤ 2 ^ 30 = text_short in omega (arith, within, short)
 
 -- a class has dictionaries
 pub number_there : (system : SystemState) (number : ℕ) (name : Name) → IsSoundSystem system → IsNumberOf system.table.names number name → number + 1 ≤ length system.methods.sides

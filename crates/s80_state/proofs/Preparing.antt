@@ -1,5 +1,5 @@
 -- What is answered where a change is prepared: a step, or why it is refused.
-use Rattle.std.proofs.Common.{◌≡◌, ◌∙◌, ℕ, cond, true, refl, sym, ap, subst, List, [], ◌∷◌, Option, Some, None, is_some, MatchOption, Ok, Err, arith}
+use Rattle.std.proofs.Common.{◌≡◌, ◌∙◌, ℕ, cond, true, refl, sym, ap, subst, List, [], ◌∷◌, Option, Some, None, is_some, MatchOption, Ok, Err}
 use Rattle.std.specs.FinMap as map
 use Rattle.s80_dict.specs.Table.{methods_at}
 use Rattle.s80_block.specs.declared.change.Change.TheVariants as changes
@@ -19,7 +19,7 @@ use Rattle.s80_state.specs.declared.step.PlacedMethod.{PlacedMethod}
 use Rattle.s80_state.specs.declared.step.Step.TheVariants as steps
 use Rattle.s80_state.specs.State.{State}
 use Rattle.s80_state.specs.Accept.{above, accept_checked, accepted, define, first_some, len_with, put_source, refusal_of, too_many_methods, unknown_name}
-use Rattle.s80_state.specs.System.{AreEntriesOf, CanPutMethod, IsSoundSystem, IsSystemOf, Places, PlacesMethod, Prepares, SystemState, with_class}
+use Rattle.s80_state.specs.System.{AreEntriesOf, IsSoundSystem, IsSystemOf, Places, PlacesMethod, Prepares, SystemState, with_class}
 use Rattle.s80_state.specs.Method.{IsRefusedAt, PlacesIn, TakesPlace, refusal_at}
 use Rattle.s80_state.proofs.Stands.{class_put, method_put, same_count}
 
@@ -34,8 +34,8 @@ same_many : (system : SystemState) (state : State) (m : MethodChange) (selector 
 same_many system state m selector number is are = ap (above 16384 ManyMethods) (sym (same_count (methods_at system.methods number m.side) (state.methods m.class_name m.side) selector are))
 
 pub method_prepared : (old now : SystemState) (state : State) (m : MethodChange) (selector : List ℕ) (placed : PlacedMethod) → m.check ≡ checks.Fits selector → IsSystemOf old state → IsSystemOf now state → now.table ≡ old.table
-    → TakesPlace old m selector placed → CanPutMethod now placed → PlacesMethod state m now (Ok placed)
-method_prepared old now state m selector placed check was is table takes can = (can, takes.near, λ at. (put_source m selector at state, accepts at, λ after has. method_put old now after state m selector placed at table takes is has))
+    → TakesPlace old m selector placed → PlacesMethod state m now (Ok placed)
+method_prepared old now state m selector placed check was is table takes = λ at. (put_source m selector at state, accepts at, λ after has. method_put old now after state m selector placed at table takes is has)
   where
     few : too_many_methods m selector state ≡ None
     few = same_many old state m selector placed.number was (was.methods placed.number m.class_name m.side takes.number) ∙ takes.few
@@ -77,7 +77,7 @@ fits_where old m placed places = go m.check refl places
 
 pub class_prepared : (now : SystemState) (classes : Classes) (state : State) (d : Definition) (placed : Placed) → IsSoundSystem now → classes ≡ state.classes → IsSystemOf now state → Places classes d now (Ok placed)
     → Prepares state (changes.Define d) now (Ok (steps.Class placed))
-class_prepared now classes state d placed sound same is places = (places.1, omega arith, λ at. (record state { classes = define d state.classes }, accepts, stands))
+class_prepared now classes state d placed sound same is places = λ at. (record state { classes = define d state.classes }, accepts, stands)
   where
     accepts : accepted (refusal_of d state.classes) (record state { classes = define d state.classes }) ≡ Ok (record state { classes = define d state.classes })
     accepts = ap (λ o. accepted o (record state { classes = define d state.classes })) (ap (refusal_of d) (sym same) ∙ places.0)
@@ -94,4 +94,4 @@ class_refused now classes state d (refused.Refusal refusal) same places = λ at.
 -- ---- a doIt
 
 pub nothing_prepared : (now : SystemState) (state : State) (text : List ℕ) → IsSystemOf now state → Prepares state (changes.DoIt text) now (Ok steps.Nothing)
-nothing_prepared now state text is = (tt, omega arith, λ at. (state, refl, λ after same. subst (λ s. IsSystemOf s state) (sym same) is))
+nothing_prepared now state text is = λ at. (state, refl, λ after same. subst (λ s. IsSystemOf s state) (sym same) is)

@@ -123,7 +123,7 @@ stays old now state classes names methods is = record {
 -- ---- a method that is put
 
 -- the class of a number has this name where the number is that of the name
-same_place : (names : List (Option Name)) (n number : ℕ) (name class : Name) → IsNumberOf names n name → IsNumberOf names number class → ((c : ℕ) → IsNumberOf names c class → c ≡ number) → nat_eq n number ≡ bytes_eq name class
+pub same_place : (names : List (Option Name)) (n number : ℕ) (name class : Name) → IsNumberOf names n name → IsNumberOf names number class → ((c : ℕ) → IsNumberOf names c class → c ≡ number) → nat_eq n number ≡ bytes_eq name class
 same_place names n number name class named of only = go (nat_eq n number) (bytes_eq name class) refl refl
   where
     go : (a b : Bool) → nat_eq n number ≡ a → bytes_eq name class ≡ b → a ≡ b
@@ -145,7 +145,7 @@ moved_entry m at None =
     ap (λ p. entry_of (record { category = m.category; source = m.source; from_kernel = false; position = at + p; length = length (spell m.source) })) same
 moved_entry m at (Some k) = refl
 
-entries_where : (b : Bool) (x y : Methods Entry) (z w : Methods MethodRow) → AreEntriesOf x z → AreEntriesOf y w → AreEntriesOf (cond b x y) (cond b z w)
+pub entries_where : (b : Bool) (x y : Methods Entry) (z w : Methods MethodRow) → AreEntriesOf x z → AreEntriesOf y w → AreEntriesOf (cond b x y) (cond b z w)
 entries_where true x y z w put kept = put
 entries_where false x y z w put kept = kept
 

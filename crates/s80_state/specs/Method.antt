@@ -1,5 +1,5 @@
 -- The place that a method takes among classes and dictionaries, or why it is refused.
-use Rattle.std.specs.Prelude.{◌≡◌, ◌≤◌, ◌+◌, ◌^◌, ℕ, List, true, length, codes, Option, Some, None, MatchOption, Result, Ok, Err, ⊤}
+use Rattle.std.specs.Prelude.{◌≡◌, ◌≤◌, ℕ, List, true, length, codes, Option, Some, None, MatchOption, Result, Ok, Err, ⊤}
 use Rattle.std.specs.FinMap as map
 use Rattle.s80_dict.specs.Table.{methods_at}
 use Rattle.s80_kernel_methods.specs.declared.methods.KernelMethod.{KernelMethod}
@@ -17,7 +17,7 @@ use Rattle.s80_block.specs.Block.{block}
 use Rattle.s80_class.specs.Table.{IsNumberOf}
 use Rattle.s80_state.specs.declared.step.PlacedMethod.{PlacedMethod}
 use Rattle.s80_state.specs.Accept.{above, kernel_row, len_with, method_row}
-use Rattle.s80_state.specs.System.{Entry, SystemState, entry_of}
+use Rattle.s80_state.specs.System.{Entry, SystemState, entry_of, offset_in_block}
 
 -- the row of the kernel that a method is
 pub record IsKernelMethod (m : MethodChange) (selector : List ℕ) (own : KernelMethod) : Type 0 where
@@ -40,7 +40,7 @@ pub record TakesPlace (system : SystemState) (m : MethodChange) (selector : List
   pub there : map.contains_key system.table.classes m.class_name ≡ true
   pub few : above 16384 ManyMethods (len_with selector (methods_at system.methods placed.number m.side)) ≡ None
   pub entry : placed.entry ≡ entry_for m selector
-  pub near : placed.entry.position ≤ length (block (changes.Method m)) + 2 ^ 30
+  pub near : offset_in_block placed.entry ≤ length (block (changes.Method m))
 
 -- why a method of this selector is refused in the class of this number, if it is
 abbrev pub refusal_at : SystemState → MethodChange → List ℕ → Option ℕ → Option Refusal

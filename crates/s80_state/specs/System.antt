@@ -1,5 +1,5 @@
 -- A system at work: what a step does to it.
-use Rattle.std.specs.Prelude.{◌≡◌, ◌<◌, ◌≤◌, ◌-◌, ◌+◌, ◌++◌, ◌^◌, ℕ, List, [], ◌∷◌, length, cond, Option, Some, None, option_map, Result, Ok, Err, ⊤}
+use Rattle.std.specs.Prelude.{◌≡◌, ◌<◌, ◌-◌, ◌+◌, ◌++◌, ℕ, List, [], ◌∷◌, length, cond, Option, Some, None, option_map, Result, Ok, Err, ⊤}
 use Rattle.std.specs.FinMap as map
 use Rattle.s80_base.specs.declared.names.Side.{Side}
 use Rattle.s80_dict.specs.Dict.{Methods, HasRoom}
@@ -11,7 +11,6 @@ use Rattle.s80_block.specs.declared.change.Method.{Method as MethodChange}
 use Rattle.s80_change.specs.declared.definition.Definition.{Definition}
 use Rattle.s80_change.specs.declared.refusal.Refused.{Refused}
 use Rattle.s80_change.specs.declared.refusal.Refused.TheVariants as refused
-use Rattle.s80_block.specs.Block.{block}
 use Rattle.s80_class.specs.declared.entry.ClassEntry.{ClassEntry}
 use Rattle.s80_class.specs.Classes.{Name, ClassRow, Classes}
 use Rattle.s80_class.specs.Table.{Table, IsNumberOf, IsSuperclass, IsAbove, row_of}
@@ -110,6 +109,10 @@ pub record CanPutMethod (system : SystemState) (placed : PlacedMethod) : Type 0 
   pub number : placed.number < length system.methods.sides
   pub room : HasRoom (room_at system.methods placed.number placed.side) placed.selector
 
+-- so many bytes of its block stand before the source; the kernel's text has a source of the kernel's
+abbrev pub offset_in_block : Entry → ℕ
+offset_in_block entry = cond entry.from_kernel 0 entry.position
+
 -- a source in the log stands behind the beginning of its block
 abbrev pub moved : ℕ → Entry → Entry
 moved at entry = record entry { position = cond entry.from_kernel entry.position (at + entry.position) }
@@ -132,7 +135,7 @@ IsReady system (steps.Method placed) = CanPutMethod system placed
 abbrev pub offset_of : Step → ℕ
 offset_of steps.Nothing = 0
 offset_of (steps.Class placed) = 0
-offset_of (steps.Method placed) = placed.entry.position
+offset_of (steps.Method placed) = offset_in_block placed.entry
 
 -- this is the system after a step whose block begins at this place
 abbrev pub IsInstalled : SystemState → Step → ℕ → SystemState → Type 0
@@ -146,7 +149,7 @@ Makes system step change state at = (after : State) × (accept change at state �
 
 -- what preparing a change answers in this state: a step that makes what accepting it makes, or the first reason to refuse it
 abbrev pub Prepares : State → Change → SystemState → Result Step Refused → Type 0
-Prepares state change now (Ok step) = IsReady now step × (offset_of step ≤ length (block change) + 2 ^ 30) × ((at : ℕ) → Makes now step change state at)
+Prepares state change now (Ok step) = (at : ℕ) → Makes now step change state at
 Prepares state change now (Err (refused.Refusal refusal)) = (at : ℕ) → accept change at state ≡ Err refusal
 Prepares state change now (Err refused.Memory) = ⊤
 

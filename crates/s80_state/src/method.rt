@@ -1,5 +1,5 @@
 // The place that a method takes.
-ghost use Rattle.std.specs.Prelude.{◌≡◌, ◌≤◌, ◌<◌, ◌+◌, ◌^◌, ◌&&◌, None, ⊤, IfOk, MatchOption, codes, length, slice_range};
+ghost use Rattle.std.specs.Prelude.{◌≡◌, ◌≤◌, ◌<◌, ◌+◌, ◌^◌, ◌&&◌, None, IfOk, MatchOption, codes, length, slice_range};
 ghost use Rattle.std.specs.Str.{bytes_eq};
 ghost use Rattle.s80_block.specs.declared.change.Change.TheVariants as changes;
 ghost use Rattle.s80_block.specs.Block.{block};
@@ -7,6 +7,7 @@ ghost use Rattle.s80_chunk.specs.Chunks.{spell};
 ghost use Rattle.s80_kernel.specs.Text.{kernel_text};
 ghost use Rattle.s80_state.specs.Accept.{kernel_row, len_with, on_class_side, source_offset};
 ghost use Rattle.s80_state.specs.Method.{IsKernelMethod, PlacesAt, PlacesIn, entry_for};
+ghost use Rattle.s80_state.specs.System.{offset_in_block};
 
 use crate::checks::above;
 use crate::entry::class_named;
@@ -86,7 +87,7 @@ fn count_with(dict: &MethodDict<()>, selector: &Text) -> Result<usize, OutOfMemo
 /// The entry of a method. The position of a source in the log is counted from the beginning of its block.
 fn entry(alloc: Global, method: &Method, selector: &Text) -> Result<MethodEntry<()>, OutOfMemory>
     ensures entry { IfOk result (λ entry. entry ≡ entry_for method.now selector.now) }
-    ensures near { IfOk result (λ entry. entry.position ≤ length (block (changes.Method method.now)) + 2 ^ 30) }
+    ensures near { IfOk result (λ entry. offset_in_block entry ≤ length (block (changes.Method method.now))) }
 {
     match kernel_method(method, selector) {
         Some(own) => Ok(MethodEntry {
@@ -108,8 +109,7 @@ fn entry(alloc: Global, method: &Method, selector: &Text) -> Result<MethodEntry<
 
 /// The kernel's method that a method is, where it has that one's category and source.
 fn kernel_method(method: &Method, selector: &Text) -> Option<&'static KernelMethod>
-    ensures row { MatchOption result (kernel_row method.now selector.now ≡ None) (λ own. IsKernelMethod method.now selector.now own.now) }
-    ensures near { MatchOption result ⊤ (λ own. own.now.position ≤ length kernel_text) }
+    ensures { MatchOption result (kernel_row method.now selector.now ≡ None) (λ own. IsKernelMethod method.now selector.now own.now) }
 {
     kernel_sources_stand_in_the_text();
     found_methods_are_those_named();

@@ -5,7 +5,7 @@ ghost use Rattle.s80_block.specs.Block.{block};
 ghost use Rattle.s80_block.specs.declared.change.Change.TheVariants as changes;
 ghost use Rattle.s80_state.specs.Accept.{refusal_of};
 ghost use Rattle.s80_state.specs.State.{State};
-ghost use Rattle.s80_state.specs.System.{CanPut, CanPutMethod, HasMethod, HasNumber, IsInstalled, IsReady, IsSoundSystem, IsSystemOf, Places, PlacesMethod, Prepares, offset_of, with_class};
+ghost use Rattle.s80_state.specs.System.{CanPut, CanPutMethod, HasMethod, HasNumber, IsInstalled, IsReady, IsSoundSystem, IsSystemOf, Places, PlacesMethod, Prepares, offset_in_block, offset_of, with_class};
 
 use crate::checks::{bad_name, cycle, duplicate, kernel_class, too_many, unknown_class};
 use crate::entry::{class_named, defined_entry};
@@ -68,7 +68,7 @@ impl System {
     /// Prepares a change to be installed, or says why it is refused. Classes and methods stay.
     pub fn prepare(&mut self, alloc: Global, change: &Change) -> Result<Step, Refused>
         ensures answer { (state : State) → IsSystemOf self.old state → Prepares state change.now self.new result }
-        ensures ready { IfOk result (λ step. IsReady self.new step × (offset_of step ≤ length (block change.now) + 2 ^ 30)) }
+        ensures ready { IfOk result (λ step. IsReady self.new step × (offset_of step ≤ length (block change.now))) }
         ensures same { (state : State) → IsSystemOf self.old state → IsSystemOf self.new state }
         ensures names { self.new.table.names ≡ self.old.table.names }
     {
@@ -125,7 +125,7 @@ impl System {
     /// The place that a method takes, with room for its selector; or why it is refused.
     fn place_method(&mut self, alloc: Global, method: &Method) -> Result<PlacedMethod, Refused>
         ensures answer { (state : State) → IsSystemOf self.old state → PlacesMethod state method.now self.new result }
-        ensures ready { IfOk result (λ placed. CanPutMethod self.new placed × (placed.entry.position ≤ length (block (changes.Method method.now)) + 2 ^ 30)) }
+        ensures ready { IfOk result (λ placed. CanPutMethod self.new placed × (offset_in_block placed.entry ≤ length (block (changes.Method method.now)))) }
         ensures same { (state : State) → IsSystemOf self.old state → IsSystemOf self.new state }
         ensures names { self.new.table.names ≡ self.old.table.names }
     {
@@ -167,7 +167,7 @@ impl System {
     /// Puts a method whose block begins at this place of the log.
     fn put_method(&mut self, placed: PlacedMethod, at: u64)
         requires ready { CanPutMethod self.old placed }
-        requires place { at + placed.entry.position < 2 ^ 64 }
+        requires place { at + offset_in_block placed.entry < 2 ^ 64 }
         ensures { HasMethod self.old placed at self.new }
     {
         let mut entry = placed.entry;

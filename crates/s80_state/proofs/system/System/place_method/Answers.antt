@@ -2,7 +2,7 @@ use Rattle.std.proofs.Common.{sym, subst, arith, refl}
 use Rattle.std.proofs.lemmas.Result.{err_from_is_err_and}
 use Rattle.s80_dict.specs.Dict.{HasRoom}
 use Rattle.s80_dict.specs.Table.{room_at}
-use Rattle.s80_state.specs.System.{CanPutMethod, IsSystemOf, SystemState}
+use Rattle.s80_state.specs.System.{IsSystemOf, SystemState}
 use Rattle.s80_state.proofs.Own.{number_there}
 use Rattle.s80_state.proofs.Preparing.{fits_where, method_prepared, method_refused}
 use Rattle.s80_state.proofs.Stands.{still}
@@ -34,12 +34,7 @@ returns-clause-answer c = λ state is.
     let now : SystemState = record { table = c.self.inside.classes; methods = c.make_room.new.self } in
     let was : IsSystemOf here state = subst (λ s. IsSystemOf s state) (sym c.self.view_is) is in
     let f = fits_where here c.args.method.now c.in_ok-placed.placed c.in_ok-placed.ensures in
-    let there = number_there here c.in_ok-placed.placed.number c.args.method.now.class_name c.self.invariant f.2.number in
-    let can : CanPutMethod now c.in_ok-placed.placed = record {
-      number = omega (arith, there, c.in_ok-make_room.ensures.count);
-      room = subst (λ k. HasRoom (room_at c.make_room.new.self c.in_ok-placed.placed.number c.in_ok-placed.placed.side) k) c.in_ok-copy.ensures c.in_ok-make_room.ensures.ok;
-    } in
-    method_prepared here now state c.args.method.now f.0 c.in_ok-placed.placed f.1 was (still here now state refl c.in_ok-make_room.ensures.methods was) refl f.2 can
+    method_prepared here now state c.args.method.now f.0 c.in_ok-placed.placed f.1 was (still here now state refl c.in_ok-make_room.ensures.methods was) refl f.2
 
 pub returns-clause-same : goal.returns-clause-same
 returns-clause-same c = λ state is.
