@@ -1,9 +1,6 @@
 -- What items ask, one by one.
-use Rattle.std.proofs.Common.{◌≡◌, ◌⊎◌, inl, inr, ℕ, List, [], ◌∷◌, ◌++◌, refl, sym, ap, subst, ◌∙◌, Option, Some}
-use Rattle.std.specs.Prelude.{None, false}
-use Rattle.s80_chunk.specs.declared.item.Item.{Item}
+use Rattle.std.proofs.Common.{◌≡◌, ◌⊎◌, inl, inr, ℕ, List, [], ◌∷◌, refl, sym, ap, ◌∙◌}
 use Rattle.s80_chunk.specs.declared.item.Item.TheVariants as items
-use Rattle.s80_chunk.specs.Chunks.{IsPlainText}
 use Rattle.s80_tree.specs.Tree.{DoItParts}
 use Rattle.s80_grammar.specs.Faults.{IsDoItText}
 use Rattle.s80_syntax.specs.Text.{IsDoItOf}
@@ -11,8 +8,7 @@ use Rattle.s80_syntax.proofs.OneReading.{one_doit_of, doit_only_memory}
 use Rattle.s80_block.specs.declared.change.Change.{Change}
 use Rattle.s80_block.specs.declared.change.Change.TheVariants.{Define, Method, DoIt}
 use Rattle.s80_section.specs.declared.source_check.SourceCheck.{SourceCheck}
-use Rattle.s80_change.specs.Block.{IsNoDefinition}
-use Rattle.s80_block.proofs.TextOf.{form_of_text, one_definition_of}
+use Rattle.s80_block.proofs.TextOf.{one_definition_of}
 use Rattle.s80_change.specs.declared.refusal.Refusal.{Refusal}
 use Rattle.s80_change.specs.declared.refusal.Refusal.TheVariants as refusals
 use Rattle.s80_section.specs.declared.head.SectionHead.{SectionHead}

@@ -1,5 +1,5 @@
 -- Heads that are refused, and texts that are too long.
-use Rattle.std.proofs.Common.{◌≡◌, ℕ, List, refl, ap, Option, Some}
+use Rattle.std.proofs.Common.{◌≡◌, ℕ, List, refl, ap, Some}
 use Rattle.s80_chunk.specs.declared.item.Role.{Role}
 use Rattle.s80_chunk.specs.declared.item.Role.TheVariants as roles
 use Rattle.s80_tree.specs.Tree.{DoItParts}
@@ -14,7 +14,7 @@ use Rattle.s80_model.specs.declared.reply.Answer.{Answer}
 use Rattle.s80_model.specs.declared.reply.Reply.TheVariants.{Refused}
 use Rattle.s80_model.specs.declared.section.Section.TheVariants as sections
 use Rattle.s80_model.specs.Asked.{Ask, refuses_head, AsksHead, IsRefusedHead, ask_of_too_long}
-use Rattle.s80_model.specs.Replies.{Work, reply_to, work_after}
+use Rattle.s80_model.specs.Replies.{IsAnswer, Work, work_after}
 use Rattle.s80_model.specs.Section.{section_or}
 
 -- ---- heads that are refused by themselves
@@ -36,15 +36,15 @@ syntax_refused text (refusals.LogFull _) h = h
 
 -- what a refused head is answered
 refused_so : (work : Work) (text : List ℕ) (refusal : Refusal) (answer : Answer) → IsRefusedHead text refusal → answer ≡ record { reply = Refused refusal; section = Some sections.Refused }
-    → (ask : Ask) × AsksHead text ask × (answer.reply ≡ reply_to work ask) × (section_or answer.section work.section ≡ (work_after work ask).section)
-refused_so work text refusal answer refused is = (refuses_head refusal, refused, ap (λ (a : Answer). a.reply) is, ap (λ (a : Answer). section_or a.section work.section) is)
+    → (ask : Ask) × AsksHead text ask × IsAnswer work ask answer
+refused_so work text refusal answer refused is = (refuses_head refusal, refused, (ap (λ (a : Answer). a.reply) is, ap (λ (a : Answer). section_or a.section work.section) is))
 
 pub no_doit : (work : Work) (text : List ℕ) (refusal : Refusal) (answer : Answer) → IsSyntaxRefusal IsDoItText text refusal → answer ≡ record { reply = Refused refusal; section = Some sections.Refused }
-    → (ask : Ask) × AsksHead text ask × (answer.reply ≡ reply_to work ask) × (section_or answer.section work.section ≡ (work_after work ask).section)
+    → (ask : Ask) × AsksHead text ask × IsAnswer work ask answer
 no_doit work text refusal answer h is = refused_so work text refusal answer (syntax_refused text refusal h) is
 
 pub no_head : (work : Work) (text : List ℕ) (answer : Answer) → ((tree : DoItParts) × IsDoItOf text tree) × ((head : SectionHead) → IsHeadOf text head → ⊥) → answer ≡ record { reply = Refused (refusals.NoSection text); section = Some sections.Refused }
-    → (ask : Ask) × AsksHead text ask × (answer.reply ≡ reply_to work ask) × (section_or answer.section work.section ≡ (work_after work ask).section)
+    → (ask : Ask) × AsksHead text ask × IsAnswer work ask answer
 no_head work text answer h is = refused_so work text (refusals.NoSection text) answer (refl, h.0, h.1) is
 
 -- ---- texts that are too long

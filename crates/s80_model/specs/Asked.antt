@@ -1,5 +1,5 @@
 -- What an item asks, whatever the list and the section in which it stands.
-use Rattle.std.specs.Prelude.{◌≡◌, ◌≢◌, ◌⊎◌, ℕ, List, [], ◌∷◌, Some, None}
+use Rattle.std.specs.Prelude.{◌≡◌, ◌⊎◌, ℕ, List, [], ◌∷◌, Some, None}
 use Rattle.s80_chunk.specs.declared.item.Role.{Role}
 use Rattle.s80_chunk.specs.declared.item.Role.TheVariants as roles
 use Rattle.s80_chunk.specs.declared.item.Item.TheVariants as items
@@ -9,8 +9,7 @@ use Rattle.s80_syntax.specs.Text.{IsDoItOf}
 use Rattle.s80_block.specs.declared.change.Change.{Change}
 use Rattle.s80_block.specs.declared.change.Change.TheVariants.{Define, Method, DoIt}
 use Rattle.s80_section.specs.declared.source_check.SourceCheck.{SourceCheck}
-use Rattle.s80_change.specs.Definition.{IsDefinitionOf}
-use Rattle.s80_change.specs.Block.{IsNoDefinition}
+use Rattle.s80_change.specs.Definition.{IsDefinitionOf, IsNoDefinition}
 use Rattle.s80_change.specs.declared.refusal.FitWord.TheVariants as fits
 use Rattle.s80_change.specs.declared.refusal.Refusal.{Refusal}
 use Rattle.s80_change.specs.declared.refusal.Refusal.TheVariants as refusals

@@ -1,6 +1,5 @@
 -- The model keeper: what each thing asked changes, and what it is answered.
-use Rattle.std.specs.Prelude.{ℕ, Bool, true, false, ◌||◌, List, [], ◌∷◌, ◌++◌, length, codes, Option, Some, None, Result, Ok, Err}
-use Rattle.std.specs.FinMap as map
+use Rattle.std.specs.Prelude.{◌≡◌, ℕ, Bool, true, false, ◌||◌, List, [], ◌∷◌, ◌++◌, length, codes, Option, Some, None, Result, Ok, Err}
 use Rattle.s80_block.specs.declared.change.Change.{Change}
 use Rattle.s80_block.specs.declared.change.Change.TheVariants as changes
 use Rattle.s80_section.specs.declared.source_check.SourceCheck.{SourceCheck}
@@ -9,10 +8,12 @@ use Rattle.s80_section.specs.declared.head.SectionHead.{SectionHead}
 use Rattle.s80_print.specs.Refusal.{refusal_text}
 use Rattle.s80_state.specs.Accept.{unknown_name}
 use Rattle.s80_state.specs.List.{classes_of, state_of, add}
+use Rattle.s80_model.specs.declared.reply.Answer.{Answer}
 use Rattle.s80_model.specs.declared.reply.Reply.{Reply}
 use Rattle.s80_model.specs.declared.reply.Reply.TheVariants.{Silent, Accepted, Refused, Told}
 use Rattle.s80_model.specs.declared.section.Section.{Section}
 use Rattle.s80_model.specs.declared.section.Section.TheVariants as sections
+use Rattle.s80_model.specs.Section.{section_or}
 use Rattle.s80_model.specs.Told.{told}
 use Rattle.s80_model.specs.Asked.{Ask, refuses, adds, opens, refuses_head, adds_source, refuses_source, closes, tells}
 
@@ -90,6 +91,10 @@ work_after work (adds_source source check) = record work { changes = list_after_
 work_after work (refuses_source refusal) = work
 work_after work closes = record work { section = sections.Top }
 work_after work (tells query) = work
+
+-- it is what is answered, and names the section behind what was asked
+abbrev pub IsAnswer : Work → Ask → Answer → Type 0
+IsAnswer work ask answer = (answer.reply ≡ reply_to work ask) × (section_or answer.section work.section ≡ (work_after work ask).section)
 
 -- a reply as it is written: a line, lines, or nothing
 abbrev pub reply_text : Reply → List ℕ

@@ -1,10 +1,9 @@
 // Sections of an input.
-ghost use Rattle.std.specs.Prelude.{◌≡◌, ◌≤◌, Some, length, IfOk};
+ghost use Rattle.std.specs.Prelude.{◌≡◌, ◌≤◌, ◌<◌, Some, length, IfOk};
 ghost use Rattle.s80_block.specs.declared.change.Change.{Change};
 ghost use Rattle.s80_state.specs.List.{classes_of};
 ghost use Rattle.s80_model.specs.Asked.{AsksHead, ask_of_too_long, opens};
-ghost use Rattle.s80_model.specs.Replies.{Work, method_in, reply_to, work_after};
-ghost use Rattle.s80_model.specs.Section.{section_or};
+ghost use Rattle.s80_model.specs.Replies.{IsAnswer, Work, method_in};
 
 use crate::reply::{Answer, Reply};
 use s80_base::{OutOfMemory, Text};
@@ -28,8 +27,9 @@ pub enum Section {
 
 /// What a head is answered, and the section that it begins. The section of a head that is none, or whose class isn't there, is passed over.
 pub fn head_answer(alloc: Global, system: &System, text: Text) -> Result<Answer, OutOfMemory>
-    ensures { (work : Work) → system.now.table.classes ≡ classes_of work.changes → length text ≤ 65535
-        → IfOk result (λ answer. (ask : _) × AsksHead text ask × (answer.reply ≡ reply_to work ask) × (section_or answer.section work.section ≡ (work_after work ask).section)) }
+    ensures answer { (work : Work) → system.now.table.classes ≡ classes_of work.changes → length text ≤ 65535
+        → IfOk result (λ answer. (ask : _) × AsksHead text ask × IsAnswer work ask answer) }
+    ensures long { (work : Work) → 65535 < length text → IfOk result (IsAnswer work (ask_of_too_long Role.Head (length text))) }
 {
     let length = text.bytes().len();
     if length > LONGEST {
@@ -47,7 +47,7 @@ pub fn head_answer(alloc: Global, system: &System, text: Text) -> Result<Answer,
 /// The section of a head whose class is there.
 fn known_head(alloc: Global, system: &System, head: SectionHead) -> Result<Answer, OutOfMemory>
     ensures { (work : Work) → system.now.table.classes ≡ classes_of work.changes
-        → IfOk result (λ answer. (answer.reply ≡ reply_to work (opens head)) × (section_or answer.section work.section ≡ (work_after work (opens head)).section)) }
+        → IfOk result (IsAnswer work (opens head)) }
 {
     if system.find(&head.class_name).is_none() {
         let name = head.class_name.copy(alloc)?;
@@ -71,8 +71,7 @@ fn refused_head(refusal: Refusal) -> Answer
 
 /// What a text is answered that is too long. A head begins a section that is passed over; outside an open section a method is passed over.
 pub fn too_long_answer(section: &Section, role: Role, length: u64) -> Answer
-    ensures { (work : Work) → work.section ≡ section.now
-        → (result.reply ≡ reply_to work (ask_of_too_long role length)) × (section_or result.section work.section ≡ (work_after work (ask_of_too_long role length)).section) }
+    ensures { (work : Work) → work.section ≡ section.now → IsAnswer work (ask_of_too_long role length) result }
 {
     let refusal = Refusal::TooLarge(FitWord::Chunk, length);
     match role {
