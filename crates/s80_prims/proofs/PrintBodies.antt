@@ -223,12 +223,12 @@ one_more f [] i x h = absurd (none_is_some h)
 one_more f (y ∷ ys) zero x h = sym (ap f (ap (λ o. unwrap_or o y) h)) ∙ sym (append-nil (f y))
 one_more f (y ∷ ys) (suc i) x h = append_assoc (f y) (flat_map f (take i ys)) (f x) ∙ ap (λ r. f y ++ r) (one_more f ys i x h)
 
-pub element_written : (t : Table) (s : State) (a b c d : Front) (items : List Value) (i : ℕ) (x : Value) → Writes a b (40 ∷ flat_map (element t s) (take i items)) → slice_get items i ≡ Some x
-    → Writes b c (plain t s x) → Writes c d (32 ∷ []) → Writes a d (40 ∷ flat_map (element t s) (take (i + 1) items))
-element_written t s a b c d items i x before is element_of space =
+pub element_written : (t : Table) (s : State) (a b c : Front) (items : List Value) (i : ℕ) (x : Value) → Writes a b (40 ∷ flat_map (element t s) (take i items)) → slice_get items i ≡ Some x
+    → Writes b c (element t s x) → Writes a c (40 ∷ flat_map (element t s) (take (i + 1) items))
+element_written t s a b c items i x before is next_element =
     let next : suc i ≡ i + 1 = omega arith in
-    subst (Writes a d) (ap (λ r. 40 ∷ r) (one_more (element t s) items i x is ∙ ap (λ n. flat_map (element t s) (take n items)) next))
-    (writes_both a b d (40 ∷ flat_map (element t s) (take i items)) (element t s x) before (writes_both b c d (plain t s x) (32 ∷ []) element_of space))
+    subst (Writes a c) (ap (λ r. 40 ∷ r) (one_more (element t s) items i x is ∙ ap (λ n. flat_map (element t s) (take n items)) next))
+    (writes_both a b c (40 ∷ flat_map (element t s) (take i items)) (element t s x) before next_element)
 
 pub array_ended : (t : Table) (s : State) {T E : Type 0} (r : Result T E) (a b c : Front) (items : List Value) (i count : ℕ) → count ≡ length items → count ≤ i
     → Writes a b (40 ∷ flat_map (element t s) (take i items)) → OnOk r (Writes b c (41 ∷ [])) → OnOk r (Writes a c (array_text t s items))

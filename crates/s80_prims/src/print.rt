@@ -7,7 +7,7 @@ ghost use Rattle.s80_object.specs.Objects.{body_at, items_at, text_of};
 ghost use Rattle.s80_prims.specs.Classes.{class_name};
 ghost use Rattle.s80_prims.specs.Front.{Holds, Writes};
 ghost use Rattle.s80_prims.specs.Known.{AreKnown, HasKernel, IsKnown};
-ghost use Rattle.s80_prims.specs.Printed.{array_text, begins_with_vowel, bytes_text, class_text, plain, printed, whole, with_article};
+ghost use Rattle.s80_prims.specs.Printed.{array_text, begins_with_vowel, bytes_text, class_text, element, plain, printed, whole, with_article};
 
 use crate::classes::is_kind_of;
 use crate::front::Front;
@@ -94,10 +94,26 @@ fn write_array(
             return Ok(());
         }
         let element = item_at(objects, v, i);
-        write_plain(alloc, classes, objects, element, front)?;
-        front.write(b" ")?;
+        write_element(alloc, classes, objects, element, front)?;
     }
     front.write(b")")
+}
+
+// An element, an array among them by its class's name, and the space behind it.
+fn write_element(
+    alloc: Global,
+    classes: &ClassTable,
+    objects: &Objects,
+    v: Value,
+    front: &mut Front,
+) -> Result<(), OutOfMemory>
+    requires kernel { HasKernel classes.now }
+    requires value { IsKnown classes.now objects.now v }
+    requires objects { AreKnown classes.now objects.now }
+    ensures { OnOk result (Writes front.old front.new (element classes.now objects.now v)) }
+{
+    write_plain(alloc, classes, objects, v, front)?;
+    front.write(b" ")
 }
 
 // How many items an object has.

@@ -9,66 +9,56 @@ use std::alloc::Global;
 use std::process::Abort;
 use std::test::Fail;
 
-struct Printed {
-    value: Value,
-    text: &'static str,
-}
-
-macro_rules! printed {
-    ($value:expr, $text:literal) => {
-        Printed {
-            value: $value,
-            text: $text,
-        }
-    };
-}
+// A value, and what it is printed as.
+type Printed = (Value, &'static str);
 
 const VALUES: [Printed; 29] = [
-    printed!(Value::Small(0), "0"),
-    printed!(Value::Small(1073741823), "1073741823"),
-    printed!(Value::Small(-1_073_741_824), "-1073741824"),
-    printed!(Value::Character(b'a'), "$a"),
-    printed!(Value::Character(b'\''), "$'"),
-    printed!(Value::Nil, "nil"),
-    printed!(Value::True, "true"),
-    printed!(Value::False, "false"),
-    printed!(SYMBOL, "#at:put:"),
-    printed!(FLOAT, "1.5"),
-    printed!(POSITIVE, "1073741824"),
-    printed!(NEGATIVE, "-1073741825"),
-    printed!(Value::ClassRef(23, Side::Instance), "Array"),
-    printed!(Value::ClassRef(23, Side::Class), "Array class"),
-    printed!(STRING, "'it''s'"),
-    printed!(TITLE, "'it'''"),
-    printed!(BYTES, "a ByteArray"),
-    printed!(WORDS, "a WordArray"),
-    printed!(ROPE, "a Rope"),
-    printed!(WIDE, "a Wide"),
-    printed!(ARRAY, "(7 $a an Array )"),
-    printed!(EMPTY, "()"),
-    printed!(ROW, "(nil a Row )"),
-    printed!(APPLE, "an Apple"),
-    printed!(HOME, "a MethodContext"),
-    printed!(BLOCK, "a BlockContext"),
-    printed!(Value::Context, "a MethodContext"),
-    printed!(Value::Transcript, "a TextCollector"),
-    printed!(Value::Smalltalk, "a SystemDictionary"),
+    (Value::Small(0), "0"),
+    (Value::Small(1073741823), "1073741823"),
+    (Value::Small(-1_073_741_824), "-1073741824"),
+    (Value::Character(b'a'), "$a"),
+    (Value::Character(b'\''), "$'"),
+    (Value::Nil, "nil"),
+    (Value::True, "true"),
+    (Value::False, "false"),
+    (SYMBOL, "#at:put:"),
+    (FLOAT, "1.5"),
+    (POSITIVE, "1073741824"),
+    (NEGATIVE, "-1073741825"),
+    (Value::ClassRef(23, Side::Instance), "Array"),
+    (Value::ClassRef(23, Side::Class), "Array class"),
+    (STRING, "'it''s'"),
+    (TITLE, "'it'''"),
+    (BYTES, "a ByteArray"),
+    (WORDS, "a WordArray"),
+    (ROPE, "a Rope"),
+    (WIDE, "a Wide"),
+    (ARRAY, "(7 $a an Array )"),
+    (EMPTY, "()"),
+    (ROW, "(nil a Row )"),
+    (APPLE, "an Apple"),
+    (HOME, "a MethodContext"),
+    (BLOCK, "a BlockContext"),
+    (Value::Context, "a MethodContext"),
+    (Value::Transcript, "a TextCollector"),
+    (Value::Smalltalk, "a SystemDictionary"),
 ];
 
 fn expect_printed(
     rt: &impl Abort,
     alloc: Global,
     world: &World,
-    row: &Printed,
+    value: Value,
+    text: &str,
 ) -> Result<(), Fail> {
-    let text = world.printed(alloc, row.value)?;
-    assert!(rt; text.bytes() == row.text.as_bytes(), "{}", row.text);
+    let printed = world.printed(alloc, value)?;
+    assert!(rt; printed.bytes() == text.as_bytes(), "{text}");
     Ok(())
 }
 
 fn expect_all(rt: &impl Abort, alloc: Global, world: &World, rows: &[Printed]) -> Result<(), Fail> {
-    for row in rows {
-        expect_printed(rt, alloc, world, row)?;
+    for (value, text) in rows {
+        expect_printed(rt, alloc, world, *value, text)?;
     }
     Ok(())
 }

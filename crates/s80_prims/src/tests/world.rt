@@ -2,7 +2,7 @@
 use super::classes::classes;
 use super::known::expect_known;
 use crate::{Applied, Stop, apply, print_value};
-use s80_base::{Literal, NumberKind, OutOfMemory, Text};
+use s80_base::{Literal, NumberKind, OutOfMemory, Side, Text};
 use s80_class::ClassTable;
 use s80_object::{BodyKind, ObjectFault, Objects, Value};
 use std::alloc::Global;
@@ -75,6 +75,9 @@ pub(crate) const POSITIVE: Value = Value::Number(1);
 
 /// `-1073741825`
 pub(crate) const NEGATIVE: Value = Value::Number(2);
+
+/// The class String.
+pub(crate) const STRING_CLASS: Value = Value::ClassRef(24, Side::Instance);
 
 fn given(made: Result<Value, ObjectFault>) -> Result<Value, Fail> {
     match made {

@@ -10,15 +10,14 @@ returns-then-is_past c =
     parts_past c.args.front.now c.loop-i.front 40 (element c.args.classes.now c.args.objects.now) (unwrap_or (items_at c.args.objects.now c.args.v) []) c.loop-i.i (41 ∷ [])
     c.loop-i.invariant (sym c.is_past.ensures ∙ c.if-is_past.true)
 
-pub write_plain-requires-clause-value : goal.write_plain-requires-clause-value
-write_plain-requires-clause-value c =
+pub write_element-requires-clause-value : goal.write_element-requires-clause-value
+write_element-requires-clause-value c =
     item_known c.args.classes.now c.args.objects.now c.args.v c.loop-i.i c.item_at-element.result c.requires.objects c.item_at-element.ensures
 
 pub loop-i-preserved : goal.loop-i-preserved
 loop-i-preserved c =
-    element_written c.args.classes.now c.args.objects.now c.args.front.now c.loop-i.front c.write_plain.new.front c.write-in-loop-i.new.self
-    (unwrap_or (items_at c.args.objects.now c.args.v) []) c.loop-i.i c.item_at-element.result c.loop-i.invariant c.item_at-element.ensures c.in_ok-write_plain.ensures
-    c.in_ok-write-2.ensures
+    element_written c.args.classes.now c.args.objects.now c.args.front.now c.loop-i.front c.write_element.new.front (unwrap_or (items_at c.args.objects.now c.args.v) []) c.loop-i.i
+    c.item_at-element.result c.loop-i.invariant c.item_at-element.ensures c.in_ok-write_element.ensures
 
 pub returns : goal.returns
 returns c =
