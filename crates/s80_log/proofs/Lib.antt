@@ -1,5 +1,4 @@
 mod OneList
-mod Ended
 mod Files
 mod Appending
 mod Committing

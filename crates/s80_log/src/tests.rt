@@ -1,7 +1,7 @@
 // A commit that is stopped at each of its calls, a full log, and blocks that are read, with ample memory.
-use crate::{BlockFault, FirstBlock, Log, LogFault, first_block};
+use crate::{BlockFault, Log, LogFault};
 use s80_base::{Call, Failed, Text};
-use s80_change::{Change, definition_text};
+use s80_block::block_text;
 use s80_disk::{Disk, FaultPlan, FileId, MemDisk};
 use s80_mark::{Found, MarkState, NO_IMAGE, init_mark, read_mark};
 use std::alloc::Global;
@@ -125,7 +125,7 @@ fn a_log_is_full_at_its_limit(rt: HostRuntime) -> Result<(), Fail> {
     Ok(())
 }
 
-/// The text of the change that a log with these bytes has at a place, and the place behind it.
+/// The block that a log with these bytes has at a place, written again, and the place behind it.
 fn read_at(
     alloc: Global,
     bytes: &[u8],
@@ -136,28 +136,26 @@ fn read_at(
     disk.write_at(FileId::Log0, 0, bytes)?;
     let log = Log::resume(0, length);
     match log.read_block(alloc, &mut disk, at) {
-        Ok((change, next)) => {
-            let text = match change {
-                Change::DoIt { text } => text,
-                Change::Define(definition) => definition_text(alloc, &definition)?,
-            };
-            Ok(Ok((text, next)))
-        }
+        Ok((change, next)) => Ok(Ok((block_text(alloc, &change)?, next))),
         Err(fault) => Ok(Err(fault)),
     }
 }
 
 #[test]
 fn a_definition_is_read(rt: HostRuntime) -> Result<(), Fail> {
-    let text =
-        b"Object subclass: #A\n\tinstanceVariableNames: 'a b'\n\tclassVariableNames: ''\n\tpoolDictionaries: ''\n\tcategory: 'c'".as_slice();
-    let mut bytes = text.to_vec(rt.alloc())?;
-    bytes.extend_from_slice(b"!\n")?;
+    let bytes =
+        b"Object subclass: #A\n\tinstanceVariableNames: 'a b'\n\tclassVariableNames: ''\n\tpoolDictionaries: ''\n\tcategory: 'c'!\n".as_slice();
     let length = bytes.len() as u64;
-    match read_at(rt.alloc(), &bytes, length, 0)? {
-        Ok((found, next)) => assert_eq!(rt; (found.bytes(), next), (text, length)),
-        Err(_) => assert!(rt; false),
-    }
+    let (found, next) = read_at(rt.alloc(), bytes, length, 0)??;
+    assert_eq!(rt; (found.bytes(), next), (bytes, length));
+    Ok(())
+}
+
+#[test]
+fn a_method_is_read(rt: HostRuntime) -> Result<(), Fail> {
+    let bytes = b"!A class methodsFor: 'c'!\nnew^3 ! !\n".as_slice();
+    let (found, next) = read_at(rt.alloc(), bytes, 36, 0)??;
+    assert_eq!(rt; (found.bytes(), next), (bytes, 36));
     Ok(())
 }
 
@@ -165,14 +163,14 @@ fn a_definition_is_read(rt: HostRuntime) -> Result<(), Fail> {
 fn blocks_are_read_one_after_the_other(rt: HostRuntime) -> Result<(), Fail> {
     let bytes = b"'It''s!!'!\n3 +!\n4!";
     let rows: [(u64, Option<(&[u8], u64)>); 4] = [
-        (0, Some((b"'It''s!'", 11))),
-        (11, Some((b"3 +", 16))),
+        (0, Some((b"'It''s!!'!\n", 11))),
+        (11, Some((b"3 +!\n", 16))),
         (16, None),
         (18, None),
     ];
     for (at, found) in rows {
         match read_at(rt.alloc(), bytes, 18, at)? {
-            Ok((text, next)) => assert_eq!(rt; Some((text.bytes(), next)), found),
+            Ok((block, next)) => assert_eq!(rt; Some((block.bytes(), next)), found),
             Err(fault) => {
                 assert!(rt; found.is_none());
                 assert_eq!(rt; fault, BlockFault::Bad(at));
@@ -184,7 +182,9 @@ fn blocks_are_read_one_after_the_other(rt: HostRuntime) -> Result<(), Fail> {
 
 #[test]
 fn no_block_begins_with_these_bytes(rt: HostRuntime) -> Result<(), Fail> {
-    let rows: [(&[u8], u64); 8] = [
+    let rows: [(&[u8], u64); 10] = [
+        (b"!A methodsFor: 'c'!\nfoo! !", 26),
+        (b"!A methodsFor: 'c'!\nfoo!\n", 25),
         (b"! !\n", 4),
         (b" 3!\n", 4),
         (b"3!", 2),
@@ -197,8 +197,6 @@ fn no_block_begins_with_these_bytes(rt: HostRuntime) -> Result<(), Fail> {
     for (bytes, length) in rows {
         let answer = read_at(rt.alloc(), bytes, length, 0)?;
         assert!(rt; matches!(answer, Err(BlockFault::Bad(0))), "{length}");
-        let first = first_block(rt.alloc(), &bytes[..length as usize])?;
-        assert!(rt; !matches!(first, FirstBlock::Found(..)));
     }
     Ok(())
 }
@@ -214,8 +212,8 @@ fn digit_and_marks(alloc: Global, marks: usize) -> Result<Vec<u8>, Fail> {
 #[test]
 fn a_text_of_65535_bytes_is_read(rt: HostRuntime) -> Result<(), Fail> {
     let bytes = digit_and_marks(rt.alloc(), 131_069)?;
-    let (text, next) = read_at(rt.alloc(), &bytes, 131_073, 0)??;
-    assert_eq!(rt; text.bytes().len(), 65_535);
+    let (block, next) = read_at(rt.alloc(), &bytes, 131_073, 0)??;
+    assert_eq!(rt; block.bytes().len(), 131_071);
     assert_eq!(rt; next, 131_071);
     Ok(())
 }
