@@ -1,21 +1,22 @@
 -- One commit: what the log says of it, by the mark, as the keeper says it.
-use Rattle.std.proofs.Common.{◌≡◌, ◌⊎◌, inl, inr, ⊎_elim, ℕ, Bool, List, [], ◌∷◌, ◌++◌, Ok, sym, ap, ◌∙◌, subst}
-use Rattle.s80_change.specs.declared.change.Change.{Change}
+use Rattle.std.proofs.Common.{◌≡◌, ◌⊎◌, inl, inr, ⊎_elim, ℕ, ◌+◌, ◌-◌, ◌^◌, min, Bool, List, [], ◌∷◌, ◌++◌, length, Ok, refl, sym, ap, ◌∙◌, subst}
+use Rattle.s80_block.specs.declared.change.Change.{Change}
 use Rattle.s80_disk.specs.declared.disk.FileId.{FileId}
 use Rattle.s80_disk.specs.Image.{Image}
 use Rattle.s80_mark.specs.declared.mark.MarkState.{MarkState}
-use Rattle.s80_class.specs.Classes.{Classes}
-use Rattle.s80_apply.specs.Accept.{accept}
-use Rattle.s80_apply.specs.List.{IsBuilt}
-use Rattle.s80_apply.specs.System.{installed}
+use Rattle.s80_block.specs.Block.{block, blocks}
+use Rattle.s80_state.specs.declared.step.Step.{Step}
+use Rattle.s80_state.specs.Accept.{accept}
+use Rattle.s80_state.specs.System.{SystemState, IsSystemOf, IsInstalled}
+use Rattle.s80_state.specs.List.{IsBuilt, state_of}
+use Rattle.s80_state.proofs.Lists.{built_more, state_is_more, is_accepted, is_after}
 use Rattle.s80_log.specs.Log.{LogEnd}
 use Rattle.s80_log.specs.Standing.{StandsFor as StandsByMark}
-use Rattle.s80_log.specs.Commit.{LeavesBeside, StandForEither}
+use Rattle.s80_log.specs.Commit.{LeavesBeside, StandForEither, next_mark}
 use Rattle.s80_keeper.specs.Standing.{NamesNoImage, FilesStandFor, LeavesEither}
 use Rattle.s80_keeper.specs.Keeper.{KeeperState, Keeps}
-use Rattle.s80_keeper.specs.Answers.{PreparedChange, IsFor, after_keeping}
+use Rattle.s80_keeper.specs.Answers.{PreparedChange, IsFor, AfterKeeping, longer}
 use Rattle.s80_keeper.proofs.Counting.{counts_more}
-use Rattle.s80_keeper.proofs.Accepted.{built_more, classes_more, is_accepted, is_after}
 
 -- neither of two marks names an image
 pub either_list : (mark next : MarkState) (changes all : List Change) (c : Image) → NamesNoImage mark → NamesNoImage next → IsBuilt changes → IsBuilt all → StandForEither mark changes next all c → FilesStandFor c changes ⊎ FilesStandFor c all
@@ -25,25 +26,55 @@ pub leaves_either : (before : Image → Type 0) (told_before : ℕ) (file : File
 leaves_either before told_before file mark next changes all none also_none built all_built told c leaves =
     record { told_is = leaves.told_is; files = either_list mark next changes all c none also_none built all_built leaves.here }
 
--- the list with a change that the keeper's classes accept
-pub built_kept : (tells : Bool) (reads : Image) (may_leave : Image → Type 0) (keeper : KeeperState) (changes : List Change) (change : Change) (now : Classes) → Keeps tells reads may_leave keeper changes → accept change keeper.system.classes ≡ Ok now → IsBuilt (changes ++ change ∷ [])
-built_kept tells reads may_leave keeper changes change now keeps is =
-    built_more changes change keeper.system.classes keeps.classes keeps.built (is_accepted (accept change keeper.system.classes) now is)
+-- a list with a change that was prepared in the state that it makes
+module _ (changes : List Change) (system : SystemState) (prepared : PreparedChange) (ready : IsFor (state_of changes) system prepared) where
+  pub built_kept : IsBuilt changes → IsBuilt (changes ++ prepared.change ∷ [])
+  built_kept built =
+      let place = length (blocks changes) in
+      let made = ready.makes place in
+      built_more changes prepared.change (state_of changes) place refl refl built (is_accepted (accept prepared.change place (state_of changes)) made.0 made.1)
+
+  -- the system once its step is installed at the end of their log
+  installed_kept : (end : ℕ) (now : SystemState) → end ≡ length (blocks changes) → IsInstalled system prepared.step end now → IsSystemOf now (state_of (changes ++ prepared.change ∷ []))
+  installed_kept end now here installed =
+      let before = state_of changes in
+      let made = ready.makes end in
+      let after = is_after (accept prepared.change end before) before made.0 made.1 in
+      subst (IsSystemOf now) (state_is_more changes prepared.change before end refl here made.0 after) (made.2 now installed)
+
+-- what is installed behind the code's own log is so behind the keeper's
+pub installed_at : (inside before : KeeperState) (step prepared : Step) (at : ℕ) (now : SystemState) → inside ≡ before → step ≡ prepared → at ≡ inside.log.end → IsInstalled inside.system step at now → IsInstalled before.system prepared before.log.end now
+installed_at inside before step prepared at now same same_step here is =
+    let InSystem : KeeperState → Type 0 = λ k. IsInstalled k.system step at now in
+    let OfStep : Step → Type 0 = λ s. IsInstalled before.system s at now in
+    let AtPlace : ℕ → Type 0 = λ n. IsInstalled before.system prepared n now in
+    subst AtPlace (here ∙ ap (λ (k : KeeperState). k.log.end) same) (subst OfStep same_step (subst InSystem same is))
+
+-- what becomes of the keeper's parts, once a block of this size is committed
+pub after_kept : (inside before : KeeperState) (log : LogEnd) (mark : MarkState) (system : SystemState) (count size : ℕ) (change : Change) → inside ≡ before → size ≡ length (block change) → log ≡ longer inside.log size → mark ≡ next_mark inside.mark log → count ≡ min (inside.count + 1) (2 ^ 64 - 1) → record { log = log; mark = mark; system = system; count = count; fault = inside.fault } ≡ record before {
+  log = longer before.log (length (block change));
+  mark = next_mark before.mark (longer before.log (length (block change)));
+  system = system;
+  count = min (before.count + 1) (2 ^ 64 - 1);
+}
+after_kept inside before log mark system count size change same size_is log_is mark_is count_is =
+    let log_now : log ≡ longer before.log (length (block change)) = log_is ∙ (λ i. longer (same i).log (size_is i)) in
+    let mark_now : mark ≡ next_mark before.mark (longer before.log (length (block change))) = mark_is ∙ (λ i. next_mark (same i).mark (log_now i)) in
+    let count_now : count ≡ min (before.count + 1) (2 ^ 64 - 1) = count_is ∙ ap (λ (k : KeeperState). min (k.count + 1) (2 ^ 64 - 1)) same in
+    λ i. record { log = log_now i; mark = mark_now i; system = system; count = count_now i; fault = (same i).fault }
 
 -- the keeper after one change more is kept
-pub keeps_more : (tells : Bool) (reads : Image) (may_leave : Image → Type 0) (new_tells : Bool) (new_reads : Image) (new_leaves : Image → Type 0) (keeper now : KeeperState) (place : ℕ) (prepared : PreparedChange) (changes : List Change) → Keeps tells reads may_leave keeper changes → IsFor keeper.system prepared → now ≡ after_keeping (Ok place) prepared keeper → StandsByMark new_tells new_reads new_leaves now.mark (changes ++ prepared.change ∷ []) → Keeps new_tells new_reads new_leaves now (changes ++ prepared.change ∷ [])
-keeps_more tells reads may_leave new_tells new_reads new_leaves keeper now place prepared changes keeps ready made stands =
-    let change = prepared.change in
-    let before = keeper.system.classes in
-    let after = (installed keeper.system prepared.step).classes in
+pub keeps_more : (tells : Bool) (reads : Image) (may_leave : Image → Type 0) (new_tells : Bool) (new_reads : Image) (new_leaves : Image → Type 0) (keeper now : KeeperState) (place : ℕ) (prepared : PreparedChange) (changes : List Change) → Keeps tells reads may_leave keeper changes → IsFor (state_of changes) keeper.system prepared → AfterKeeping (Ok place) prepared keeper now → StandsByMark new_tells new_reads new_leaves now.mark (changes ++ prepared.change ∷ []) → Keeps new_tells new_reads new_leaves now (changes ++ prepared.change ∷ [])
+keeps_more tells reads may_leave new_tells new_reads new_leaves keeper now place prepared changes keeps ready after stands =
+    let made = after.1 in
     record {
       stands = stands;
       no_image = ap (λ (k : KeeperState). k.mark.image) made ∙ keeps.no_image;
       named = ap (λ (k : KeeperState). k.mark.log) made ∙ sym (ap (λ (k : KeeperState). k.log.number) made);
       end = ap (λ (k : KeeperState). k.mark.log_length) made ∙ sym (ap (λ (k : KeeperState). k.log.end) made);
-      built = built_kept tells reads may_leave keeper changes change after keeps ready.accepted;
-      classes = ap (λ (k : KeeperState). k.system.classes) made ∙ classes_more changes change before keeps.classes after (is_after (accept change before) before after ready.accepted);
-      count = ap (λ (k : KeeperState). k.count) made ∙ counts_more changes change keeper.count keeps.stands.files.list keeps.count;
+      built = built_kept changes keeper.system prepared ready keeps.built;
+      system = installed_kept changes keeper.system prepared ready keeper.log.end now.system (sym keeps.end ∙ keeps.stands.files.whole) after.0;
+      count = ap (λ (k : KeeperState). k.count) made ∙ counts_more changes prepared.change keeper.count keeps.stands.files.list keeps.count;
       faultless = ap (λ (k : KeeperState). k.fault) made ∙ keeps.faultless;
     }
 

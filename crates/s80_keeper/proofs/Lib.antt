@@ -8,3 +8,5 @@ mod Replayed
 mod Resumed
 pub mod Standing
 mod Starts
+mod Sourced
+mod Preparing

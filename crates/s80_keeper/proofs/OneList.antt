@@ -1,11 +1,13 @@
 -- Files stand for one list at most.
 use Rattle.std.proofs.Common.{◌≡◌, inl, inr, ℕ, zero, suc, ◌<◌, Bool, true, false, List, [], ◌∷◌, ◌++◌, length, take, Some, refl, sym, ap, ◌∙◌, arith, append-nil, length-append, if◌then◌else◌}
 use Rattle.std.proofs.lemmas.Grind.{flat_map-append}
-use Rattle.s80_change.specs.declared.change.Change.{Change}
-use Rattle.s80_change.specs.Block.{block, blocks, IsLawful}
+use Rattle.s80_block.specs.declared.change.Change.{Change}
+use Rattle.s80_block.specs.declared.frame.Frame.{Frame}
+use Rattle.s80_block.specs.declared.frame.Frame.TheVariants.{Plain, Section}
+use Rattle.s80_block.specs.Block.{framed, frame_of, block, blocks, IsLawful}
 use Rattle.std.specs.List.{All}
 use Rattle.std.proofs.lemmas.List.Elements.{All-head, All-tail}
-use Rattle.s80_change.proofs.BlockLaws.{block_unique}
+use Rattle.s80_block.proofs.BlockLaws.{block_unique}
 use Rattle.s80_disk.specs.declared.disk.FileId.TheVariants.{Mark, Log0, Log1}
 use Rattle.s80_disk.specs.Image.{Image}
 use Rattle.s80_mark.specs.declared.mark.MarkState.{MarkState}
@@ -15,14 +17,17 @@ use Rattle.s80_log.specs.Log.{log_file}
 use Rattle.s80_log.specs.Standing.{FilesStandFor as StandByMark, marked_part}
 use Rattle.s80_keeper.specs.Standing.{FilesStandFor}
 
--- a block isn't empty
-some_block : (change : Change) (after : List ℕ) → [] ≡ block change ++ after → ⊥
-some_block change after e =
-    let n = simp length-append at (ap length e) in
-    absurd (omega arith)
+-- a frame isn't empty
+framed_length : (frame : Frame) → 0 < length (framed frame)
+framed_length (Plain text) = simp length-append (omega arith)
+framed_length (Section head source) = omega arith
 
 pub block_length : (change : Change) → 0 < length (block change)
-block_length change = simp length-append (omega arith)
+block_length change = framed_length (frame_of change)
+
+-- nor is a block
+some_block : (change : Change) (after : List ℕ) → [] ≡ block change ++ after → ⊥
+some_block change after e = omega (arith, ap length e ∙ length-append (block change) after, block_length change)
 
 one_list : (changes other : List Change) → All IsLawful changes → All IsLawful other → blocks changes ≡ blocks other → changes ≡ other
 one_list [] [] one two e = refl
@@ -68,10 +73,6 @@ one_standing files changes other (inl one) (inr two) = one.1 ∙ sym (empty_list
 one_standing files changes other (inr one) (inl two) = empty_list files one.0 changes two.0 one.1 ∙ sym two.1
 one_standing files changes other (inr one) (inr two) =
     one_list changes other one.1.list.lawful two.1.list.lawful (sym one.1.bytes ∙ one_part files one.0 two.0 one.1.valid two.1.valid ∙ two.1.bytes)
-
--- one change more
-pub blocks_more : (changes : List Change) (change : Change) → blocks (changes ++ change ∷ []) ≡ blocks changes ++ block change
-blocks_more changes change = flat_map-append block changes (change ∷ []) ∙ ap (λ l. blocks changes ++ l) (append-nil (block change))
 
 -- not both: empty logs, and a longer one
 pub some_log : (files : Image) → AreLogsEmpty files → 0 < longer_log files → ⊥

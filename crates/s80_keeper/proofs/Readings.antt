@@ -3,14 +3,14 @@ use Rattle.std.proofs.Common.{◌≡◌, ◌⊎◌, inl, inr, ⊎_elim, ℕ, ◌
 use Rattle.std.specs.List.{All}
 use Rattle.std.proofs.lemmas.Grind.{flat_map-append}
 use Rattle.std.proofs.lemmas.List.Elements.{All-head, All-tail}
-use Rattle.s80_change.specs.declared.change.Change.{Change}
+use Rattle.s80_block.specs.declared.change.Change.{Change}
 use Rattle.s80_change.specs.declared.refusal.Refusal.{Refusal}
-use Rattle.s80_change.specs.Block.{block, blocks, IsLawful, IsList}
-use Rattle.s80_change.proofs.BlockLaws.{block_unique}
-use Rattle.s80_apply.specs.Kernel.{kernel_classes}
-use Rattle.s80_apply.specs.List.{IsBuilt, add}
-use Rattle.s80_log.specs.Blocks.{BeginsWithNone}
-use Rattle.s80_keeper.proofs.Accepted.{accepted_here, no_refusal}
+use Rattle.s80_block.specs.Block.{block, blocks, IsLawful, IsList}
+use Rattle.s80_block.proofs.BlockLaws.{block_unique}
+use Rattle.s80_state.specs.List.{IsBuilt, add}
+use Rattle.s80_block.specs.Blocks.{BeginsWithNone}
+use Rattle.s80_state.proofs.Lists.{accepted_here}
+use Rattle.s80_keeper.proofs.Accepted.{no_refusal}
 
 -- the one reading goes further than the other, by more changes
 record GoesFurther (list : List Change) (rest : List ℕ) (longer : List Change) (after : List ℕ) : Type 0 where
@@ -56,7 +56,7 @@ stops_last xs r ys s e own lawful none =
 -- no list goes on behind another with a change that this refuses
 goes_on : (xs : List Change) (z : Change) (zs ys : List Change) (refusal : Refusal) → ys ≡ xs ++ z ∷ zs → IsList ys → IsBuilt ys → add xs z ≡ Err refusal → ⊥
 goes_on xs z zs ys refusal is list built e =
-    let accepted = accepted_here kernel_classes xs z zs (subst IsBuilt is built) in
+    let accepted = accepted_here xs z zs (subst IsBuilt is built) in
     let n = blocks_length xs (z ∷ zs) ys is in
     let k = length-append (block z) (blocks zs) in
     no_refusal xs z refusal accepted (omega (arith, n, k, list.within)) e

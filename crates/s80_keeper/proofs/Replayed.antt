@@ -1,81 +1,89 @@
 -- The blocks of a log, replayed one after the other.
-use Rattle.std.proofs.Common.{◌≡◌, ℕ, ◌+◌, ◌<◌, ◌≤◌, List, [], ◌∷◌, ◌++◌, length, drop, Some, Ok, Err, refl, sym, ap, ◌∙◌, arith, append_assoc, append-nil, length-append, length-take}
+use Rattle.std.proofs.Common.{◌≡◌, ℕ, ◌+◌, ◌<◌, ◌≤◌, List, [], ◌∷◌, ◌++◌, length, drop, None, Result, Ok, Err, refl, sym, ap, ◌∙◌, subst, arith, append_assoc, append-nil, length-append, length-take}
 use Rattle.std.proofs.lemmas.List.Elements.{All-nil, All-push}
 use Rattle.std.proofs.Math.ListN.{drop_of_length-le}
 use Rattle.std.proofs.Math.Seq.{drop-append_seam}
-use Rattle.s80_change.specs.declared.change.Change.{Change}
-use Rattle.s80_change.specs.declared.refusal.Refusal.TheVariants.{LogFull}
-use Rattle.s80_change.specs.Block.{block, blocks, log_limit, IsLawful, IsList}
+use Rattle.s80_base.specs.declared.outside.Failed.{Failed}
+use Rattle.s80_block.specs.declared.change.Change.{Change}
+use Rattle.s80_block.specs.Block.{block, blocks, log_limit, IsLawful, IsList}
 use Rattle.s80_disk.specs.Image.{Image}
-use Rattle.s80_class.specs.Classes.{Classes}
-use Rattle.s80_class.specs.Table.{Table}
-use Rattle.s80_apply.specs.Kernel.{kernel_classes}
-use Rattle.s80_apply.specs.Accept.{accept}
-use Rattle.s80_apply.specs.List.{IsBuilt, classes_of, too_full, refused_or, refusal_to}
+use Rattle.s80_state.specs.State.{State, kernel_state}
+use Rattle.s80_state.specs.Accept.{accept}
+use Rattle.s80_state.specs.System.{SystemState, IsSystemOf}
+use Rattle.s80_state.specs.List.{IsBuilt, state_of, state_after, refusal_to}
+use Rattle.s80_state.proofs.Lists.{blocks_more, built_more, state_is_more}
 use Rattle.s80_log.specs.Log.{LogEnd, log_file, held_in}
-use Rattle.s80_log.specs.Blocks.{BeginsWith, BeginsWithNone}
+use Rattle.s80_block.specs.Blocks.{BeginsWith, BeginsWithNone}
 use Rattle.s80_log.specs.Faults.{IfBad}
 use Rattle.s80_log.specs.declared.read.BlockFault.{BlockFault}
 use Rattle.s80_log.specs.declared.read.BlockFault.TheVariants as block_faults
 use Rattle.s80_keeper.specs.declared.start.Damage.TheVariants.{NoMark, BadMark, LogShort, BadBlock, Replay}
 use Rattle.s80_keeper.specs.declared.start.StartFault.{StartFault}
 use Rattle.s80_keeper.specs.declared.start.StartFault.TheVariants as faults
-use Rattle.s80_keeper.specs.Start.{fault_of_block}
+use Rattle.s80_keeper.specs.Start.{fault_of_block, IfStartDisk}
 use Rattle.s80_keeper.specs.Reading.{AreReplayed, Accepts}
-use Rattle.s80_keeper.proofs.OneList.{blocks_more}
-use Rattle.s80_keeper.proofs.Accepted.{built_more, classes_more, full_is, unrefused, refuses}
+use Rattle.s80_keeper.proofs.Accepted.{refuses_none, makes_so, unrefused, refuses}
 
--- why a change is refused that the classes accept, where the log is full
-pub refused_full : (before made : Classes) (at next : ℕ) (change : Change) → accept change before ≡ Ok made → next ≡ at + length (block change) → log_limit < next → refusal_to before at change ≡ Some (LogFull at)
-refused_full before made at next change is ends over =
-    ap (λ r. refused_or r (too_full at (length (block change)))) is ∙ full_is at (length (block change)) (omega (arith, ends, over))
+-- a change is accepted that makes this state, and this is a system of it
+pub accepted_so : (before after : State) (at : ℕ) (change : Change) (now : SystemState) → accept change at before ≡ Ok after → at + length (block change) ≤ log_limit → IsSystemOf now after → (refusal_to before at change ≡ None) × IsSystemOf now (state_after change at before)
+accepted_so before after at change now is within made =
+    (refuses_none before at change after is within, subst (IsSystemOf now) (makes_so before at change after is) made)
 
--- the bytes before a place are the blocks of a list, which makes these classes and has so many changes
-pub record ReplayedTo (bytes : List ℕ) (place count : ℕ) (classes : Classes) : Type 0 where
+-- a call that fails on no disk
+pub no_disk : {T : Type 0} (P : Failed → Type 0) (result : Result T StartFault) → IfStartDisk result (λ failed. ⊥) → IfStartDisk result P
+no_disk P (Ok done) none = tt
+no_disk P (Err faults.Memory) none = tt
+no_disk P (Err (faults.Damaged damage)) none = tt
+no_disk P (Err (faults.Disk failed)) none = absurd none
+
+-- the bytes before a place are the blocks of a list, which makes this system and has so many changes
+pub record ReplayedTo (bytes : List ℕ) (place count : ℕ) (system : SystemState) : Type 0 where
   pub changes : List Change
   pub list : IsList changes
   pub built : IsBuilt changes
   pub read : bytes ≡ blocks changes ++ drop place bytes
   pub here : place ≡ length (blocks changes)
-  pub made : classes ≡ classes_of changes
+  pub made : IsSystemOf system (state_of changes)
   pub counted : count ≡ length changes
 
-pub replayed_none : (bytes : List ℕ) (classes : Classes) → classes ≡ kernel_classes → ReplayedTo bytes 0 0 classes
-replayed_none bytes classes kernel =
+pub replayed_none : (bytes : List ℕ) (system : SystemState) → IsSystemOf system kernel_state → ReplayedTo bytes 0 0 system
+replayed_none bytes system kernel =
     record { changes = []; list = record { lawful = All-nil IsLawful; within = omega arith }; built = tt; read = refl; here = refl; made = kernel; counted = refl }
 
-module _ (bytes : List ℕ) (place count : ℕ) (classes : Classes) (so_far : ReplayedTo bytes place count classes) where
+module _ (bytes : List ℕ) (place count : ℕ) (system : SystemState) (so_far : ReplayedTo bytes place count system) where
   -- what stands behind a block
   module _ (change : Change) (begins : BeginsWith (drop place bytes) change) where
     read_more : bytes ≡ blocks so_far.changes ++ block change ++ begins.after
     read_more = so_far.read ∙ ap (λ l. blocks so_far.changes ++ l) begins.begins ∙ sym (append_assoc (blocks so_far.changes) (block change) begins.after)
 
     -- one block more, whose change isn't refused
-    pub replayed_more : {T : Type 0} (done : T) (next : ℕ) (now : Classes) → next ≡ place + length (block change) → Accepts classes now place change (Ok done) → ReplayedTo bytes next (count + 1) now
-    replayed_more done next now is accepted =
+    pub replayed_more : {T : Type 0} (done : T) (next : ℕ) (now : SystemState) → next ≡ place + length (block change) → ((state : State) → IsSystemOf system state → Accepts state now place change (Ok done)) → ReplayedTo bytes next (count + 1) now
+    replayed_more done next now is accepts =
+        let before = state_of so_far.changes in
+        let accepted = accepts before so_far.made in
         let more = blocks_more so_far.changes change in
-        let both = unrefused (accept change classes) place (length (block change)) accepted.0 in
+        let both = unrefused (accept change place before) place (length (block change)) accepted.0 in
         let here : next ≡ length (blocks so_far.changes ++ block change) = rw (length-append (blocks so_far.changes) (block change)) (omega (arith, so_far.here, is)) in
         let after : drop next bytes ≡ begins.after = ap (λ n. drop n bytes) here ∙ ap (drop (length (blocks so_far.changes ++ block change))) read_more ∙ drop-append_seam (blocks so_far.changes ++ block change) begins.after in
         record {
           changes = so_far.changes ++ change ∷ [];
           list = record { lawful = All-push IsLawful so_far.changes change so_far.list.lawful begins.lawful; within = omega (arith, both.1, is, here, ap length more) };
-          built = built_more so_far.changes change classes so_far.made so_far.built both.0;
+          built = built_more so_far.changes change before place refl so_far.here so_far.built both.0;
           read = read_more ∙ ap (λ l. l ++ begins.after) (sym more) ∙ ap (λ l. blocks (so_far.changes ++ change ∷ []) ++ l) (sym after);
           here = here ∙ sym (ap length more);
-          made = classes_more so_far.changes change classes so_far.made now accepted.1;
+          made = subst (IsSystemOf now) (state_is_more so_far.changes change before place refl so_far.here (state_after change place before) refl) accepted.1;
           counted = simp length-append (omega (arith, so_far.counted));
         }
 
-    -- one whose change is refused
-    pub replayed_refused : (T : Type 0) (now : Classes) (fault : StartFault) → Accepts {T = T} classes now place change (Err fault) → AreReplayed bytes (Err fault)
-    replayed_refused T now faults.Memory is = tt
-    replayed_refused T now (faults.Disk failed) is = absurd is
-    replayed_refused T now (faults.Damaged (NoMark size)) is = absurd is
-    replayed_refused T now (faults.Damaged (BadMark value)) is = absurd is
-    replayed_refused T now (faults.Damaged (LogShort marked found)) is = absurd is
-    replayed_refused T now (faults.Damaged (BadBlock at)) is = absurd is
-    replayed_refused T now (faults.Damaged (Replay at number)) is = (
+    -- one whose change the state so far refuses
+    refused_here : (T : Type 0) (now : SystemState) (fault : StartFault) → Accepts {T = T} (state_of so_far.changes) now place change (Err fault) → AreReplayed bytes (Err fault)
+    refused_here T now faults.Memory is = tt
+    refused_here T now (faults.Disk failed) is = absurd is
+    refused_here T now (faults.Damaged (NoMark size)) is = absurd is
+    refused_here T now (faults.Damaged (BadMark value)) is = absurd is
+    refused_here T now (faults.Damaged (LogShort marked found)) is = absurd is
+    refused_here T now (faults.Damaged (BadBlock at)) is = absurd is
+    refused_here T now (faults.Damaged (Replay at number)) is = (
       so_far.changes,
       change,
       begins.after,
@@ -85,9 +93,12 @@ module _ (bytes : List ℕ) (place count : ℕ) (classes : Classes) (so_far : Re
       read_more,
       is.2 ∙ so_far.here,
       begins.lawful,
-      refuses so_far.changes change classes place is.0 so_far.made so_far.here is.1,
+      refuses so_far.changes change place is.0 so_far.here is.1,
       is.3,
     )
+
+    pub replayed_refused : (T : Type 0) (now : SystemState) (fault : StartFault) → ((state : State) → IsSystemOf system state → Accepts {T = T} state now place change (Err fault)) → AreReplayed bytes (Err fault)
+    replayed_refused T now fault accepts = refused_here T now fault (accepts (state_of so_far.changes) so_far.made)
 
   -- no block where one should begin
   pub replayed_bad : (fault : BlockFault) → place < length bytes → IfBad fault (λ at. BeginsWithNone (drop place bytes)) → IfBad fault (λ at. at ≡ place) → AreReplayed bytes (Err (fault_of_block fault))
@@ -97,13 +108,13 @@ module _ (bytes : List ℕ) (place count : ℕ) (classes : Classes) (so_far : Re
       (so_far.changes, drop place bytes, so_far.list, so_far.built, so_far.read, is ∙ so_far.here, (λ e. omega (arith, e, is, before)), none)
 
   -- all of them
-  pub replayed_all : (system : Table) → system.classes ≡ classes → length bytes ≤ place → AreReplayed bytes (Ok (system, count))
-  replayed_all system same past = (
+  pub replayed_all : length bytes ≤ place → AreReplayed bytes (Ok (system, count))
+  replayed_all past = (
     so_far.changes,
     so_far.list,
     so_far.built,
     so_far.read ∙ ap (λ l. blocks so_far.changes ++ l) (drop_of_length-le bytes past) ∙ append-nil (blocks so_far.changes),
-    same ∙ so_far.made,
+    so_far.made,
     so_far.counted,
   )
 

@@ -1,7 +1,7 @@
 -- A start from a valid mark.
 use Rattle.std.proofs.Common.{◌≡◌, ◌≢◌, inl, inr, ⊎_elim, ℕ, ◌≤◌, Bool, List, [], ◌++◌, length, None, Result, Ok, Err, IfOk, refl, append_assoc, sym, ap, ◌∙◌, subst, append-nil}
-use Rattle.s80_change.specs.declared.change.Change.{Change}
-use Rattle.s80_change.specs.Block.{block, blocks}
+use Rattle.s80_block.specs.declared.change.Change.{Change}
+use Rattle.s80_block.specs.Block.{block, blocks}
 use Rattle.s80_disk.specs.declared.disk.FileId.TheVariants.{Mark}
 use Rattle.s80_disk.specs.Image.{Image, Only}
 use Rattle.s80_mark.specs.declared.mark.MarkState.{MarkState}
@@ -10,9 +10,9 @@ use Rattle.s80_mark.specs.declared.read.Found.TheVariants.{Fresh, Mark as Marked
 use Rattle.s80_mark.specs.declared.read.MarkFault.{MarkFault}
 use Rattle.s80_mark.specs.declared.read.MarkFault.TheVariants as mark_faults
 use Rattle.s80_mark.specs.Found.{IsAnswer}
-use Rattle.s80_class.specs.Table.{Table}
-use Rattle.s80_apply.specs.List.{IsBuilt, classes_of}
-use Rattle.s80_log.specs.Log.{LogEnd}
+use Rattle.s80_state.specs.System.{SystemState, IsSystemOf}
+use Rattle.s80_state.specs.List.{IsBuilt, state_of}
+use Rattle.s80_log.specs.Log.{LogEnd, held_in}
 use Rattle.s80_log.specs.Standing.{marked_part, StandsFor as StandsByMark}
 use Rattle.s80_keeper.specs.declared.start.Damage.TheVariants.{NoMark, BadMark, LogShort, BadBlock, Replay}
 use Rattle.s80_keeper.specs.declared.start.StartFault.{StartFault}
@@ -40,8 +40,8 @@ module _ (files : Image) (mark : MarkState) (has : HasMark files mark) (no_image
   log_of = record { number = mark.log; end = mark.log_length }
 
   -- all changes are accepted
-  pub replayed_start : (found : Table × ℕ) (keeper : KeeperState) → keeper.system ≡ found.0 → keeper.count ≡ found.1 → AreReplayed (marked_part mark files) (Ok found) → IsStart files (Ok keeper)
-  replayed_start found keeper same_system same is = (
+  pub replayed_start : (found : SystemState × ℕ) (keeper : KeeperState) → keeper.log ≡ log_of → keeper.system ≡ found.0 → keeper.count ≡ found.1 → AreReplayed (marked_part mark files) (Ok found) → IsStart files (Ok keeper)
+  replayed_start found keeper same_log same_system same is = (
     is.0,
     inr (
       mark,
@@ -55,8 +55,11 @@ module _ (files : Image) (mark : MarkState) (has : HasMark files mark) (no_image
       no_image,
       is.2,
     ),
-    ap (λ (t : Table). t.classes) same_system ∙ is.4,
-    same ∙ is.5,
+    record {
+      log = ap (held_in files) same_log ∙ is.3;
+      system = subst (λ system. IsSystemOf system (state_of is.0)) (sym same_system) is.4;
+      count = same ∙ is.5;
+    },
   )
 
   -- or one is bad
@@ -130,7 +133,7 @@ module _ (tells : Bool) (reads : Image) (before now : Image → Type 0) (mark : 
         named = refl;
         end = refl;
         built = stands_by.2;
-        classes = is.2 ∙ ap classes_of same;
-        count = is.3 ∙ ap length same;
+        system = subst (λ list. IsSystemOf keeper.system (state_of list)) same is.2.system;
+        count = is.2.count ∙ ap length same;
         faultless = refl;
       }

@@ -1,17 +1,15 @@
 -- What the calls of a keeper answer, and what they leave.
 use Rattle.std.specs.Prelude.{◌≡◌, ◌⊎◌, ◌≤◌, ◌+◌, ◌-◌, ◌^◌, min, ℕ, Bool, List, [], ◌∷◌, ◌++◌, length, Some, Result, Ok, Err, ⊤}
 use Rattle.s80_base.specs.declared.outside.Failed.{Failed}
-use Rattle.s80_change.specs.declared.change.Change.{Change}
+use Rattle.s80_block.specs.declared.change.Change.{Change}
 use Rattle.s80_change.specs.declared.refusal.Refused.{Refused}
 use Rattle.s80_change.specs.declared.refusal.Refused.TheVariants as refused
-use Rattle.s80_change.specs.Block.{block, log_limit}
+use Rattle.s80_block.specs.Block.{block, log_limit}
 use Rattle.s80_disk.specs.Image.{Image}
-use Rattle.s80_class.specs.Classes.{Classes}
-use Rattle.s80_class.specs.Table.{Table}
-use Rattle.s80_apply.specs.declared.system.Step.{Step}
-use Rattle.s80_apply.specs.Accept.{accept}
-use Rattle.s80_apply.specs.List.{refusal_to}
-use Rattle.s80_apply.specs.System.{IsReady, installed}
+use Rattle.s80_state.specs.declared.step.Step.{Step}
+use Rattle.s80_state.specs.State.{State}
+use Rattle.s80_state.specs.List.{refusal_to}
+use Rattle.s80_state.specs.System.{SystemState, IsReady, IsInstalled, Makes}
 use Rattle.s80_log.specs.Log.{LogEnd}
 use Rattle.s80_log.specs.Commit.{next_mark}
 use Rattle.s80_keeper.specs.declared.keep.KeepFault.{KeepFault}
@@ -24,31 +22,33 @@ pub record PreparedChange : Type 0 where
   pub change : Change
   pub step : Step
 
--- it was prepared for these classes: the step makes of them what accepting the change makes
-pub record IsFor (system : Table) (prepared : PreparedChange) : Type 0 where
+-- it was prepared in this state: the step makes of the system what accepting the change makes of the state
+pub record IsFor (state : State) (system : SystemState) (prepared : PreparedChange) : Type 0 where
   pub ready : IsReady system prepared.step
-  pub accepted : accept prepared.change system.classes ≡ Ok (installed system prepared.step).classes
+  pub makes : (at : ℕ) → Makes system prepared.step prepared.change state at
 
--- what preparing a change answers, with these classes and a log of this length
-abbrev pub Prepares : Classes → ℕ → Change → Table → Result PreparedChange Refused → Type 0
-Prepares classes end change now (Ok prepared) = (prepared.change ≡ change) × IsFor now prepared × (end + length (block change) ≤ log_limit)
-Prepares classes end change now (Err refused.Memory) = ⊤
-Prepares classes end change now (Err (refused.Refusal refusal)) = refusal_to classes end change ≡ Some refusal
+-- what preparing a change answers, in this state and with a log of this length
+abbrev pub Prepares : State → ℕ → Change → SystemState → Result PreparedChange Refused → Type 0
+Prepares state end change now (Ok prepared) = (prepared.change ≡ change) × IsFor state now prepared × (end + length (block change) ≤ log_limit)
+Prepares state end change now (Err refused.Memory) = ⊤
+Prepares state end change now (Err (refused.Refusal refusal)) = refusal_to state end change ≡ Some refusal
 
 abbrev pub longer : LogEnd → ℕ → LogEnd
 longer log size = record log { end = log.end + size }
 
--- the keeper after a change was to be kept
-abbrev pub after_keeping : Result ℕ KeepFault → PreparedChange → KeeperState → KeeperState
-after_keeping (Ok place) prepared keeper = record keeper {
-  log = longer keeper.log (length (block prepared.change));
-  mark = next_mark keeper.mark (longer keeper.log (length (block prepared.change)));
-  system = installed keeper.system prepared.step;
-  count = min (keeper.count + 1) (2 ^ 64 - 1);
-}
-after_keeping (Err (faults.Disk failed)) prepared keeper = record keeper { fault = Some failed }
-after_keeping (Err (faults.Closed failed)) prepared keeper = keeper
-after_keeping (Err (faults.Full count)) prepared keeper = keeper
+-- the keeper before and after a change was to be kept
+abbrev pub AfterKeeping : Result ℕ KeepFault → PreparedChange → KeeperState → KeeperState → Type 0
+AfterKeeping (Ok place) prepared before now = IsInstalled before.system prepared.step before.log.end now.system × (now ≡ record before {
+  log = longer before.log (length (block prepared.change));
+  mark = next_mark before.mark (longer before.log (length (block prepared.change)));
+  system = now.system;
+  count = min (before.count + 1) (2 ^ 64 - 1);
+})
+AfterKeeping (Err (faults.Disk failed)) prepared before now = now ≡ record before { fault = Some failed }
+AfterKeeping (Err (faults.Closed failed)) prepared before now = now ≡ before
+AfterKeeping (Err (faults.Full count)) prepared before now = now ≡ before
+AfterKeeping (Err faults.Memory) prepared before now = ⊥
+AfterKeeping (Err (faults.Damaged damage)) prepared before now = ⊥
 
 -- After a change was to be kept behind a list: it is kept; or its log is full, and the list is kept as before; or the disk failed, and a
 -- crash now leaves the one list or the other.
@@ -57,6 +57,8 @@ Kept (Ok place) tells reads may_leave keeper changes change = Keeps tells reads 
 Kept (Err (faults.Disk failed)) tells reads may_leave keeper changes change = (c : Image) → may_leave c → FilesStandFor c changes ⊎ FilesStandFor c (changes ++ change ∷ [])
 Kept (Err (faults.Closed failed)) tells reads may_leave keeper changes change = ⊥
 Kept (Err (faults.Full count)) tells reads may_leave keeper changes change = Keeps tells reads may_leave keeper changes
+Kept (Err faults.Memory) tells reads may_leave keeper changes change = ⊥
+Kept (Err (faults.Damaged damage)) tells reads may_leave keeper changes change = ⊥
 
 -- this holds of a failed call on the disk
 abbrev pub IfKeepDisk : {T : Type 0} → Result T KeepFault → (Failed → Type 0) → Type 0
@@ -64,3 +66,5 @@ IfKeepDisk (Ok value) P = ⊤
 IfKeepDisk (Err (faults.Disk failed)) P = P failed
 IfKeepDisk (Err (faults.Closed failed)) P = ⊤
 IfKeepDisk (Err (faults.Full count)) P = ⊤
+IfKeepDisk (Err faults.Memory) P = ⊤
+IfKeepDisk (Err (faults.Damaged damage)) P = ⊤

@@ -4,3 +4,4 @@ pub mod Start
 pub mod Reading
 pub mod Untouched
 pub mod Answers
+pub mod Source

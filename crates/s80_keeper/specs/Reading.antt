@@ -1,18 +1,18 @@
 -- How the start reads a log.
 use Rattle.std.specs.Prelude.{◌≡◌, ◌≢◌, ◌<◌, ◌≤◌, ℕ, List, ◌++◌, length, Some, None, Result, Ok, Err, ⊤}
-use Rattle.s80_change.specs.declared.change.Change.{Change}
+use Rattle.s80_block.specs.declared.change.Change.{Change}
 use Rattle.s80_change.specs.declared.refusal.Refusal.{Refusal}
-use Rattle.s80_change.specs.Block.{block, blocks, IsLawful, IsList}
+use Rattle.s80_block.specs.Block.{block, blocks, IsLawful, IsList}
 use Rattle.s80_change.specs.Refusal.{refusal_number}
 use Rattle.s80_disk.specs.Image.{Image}
 use Rattle.s80_mark.specs.declared.read.Found.{Found}
 use Rattle.s80_mark.specs.declared.read.Found.TheVariants.{Fresh, Mark as Marked}
 use Rattle.s80_mark.specs.Found.{AreLogsEmpty}
-use Rattle.s80_class.specs.Classes.{Classes}
-use Rattle.s80_class.specs.Table.{Table}
-use Rattle.s80_apply.specs.List.{IsBuilt, classes_of, classes_after, refusal_to, add}
+use Rattle.s80_state.specs.State.{State}
+use Rattle.s80_state.specs.System.{SystemState, IsSystemOf}
+use Rattle.s80_state.specs.List.{IsBuilt, state_of, state_after, refusal_to, add}
 use Rattle.s80_log.specs.Log.{LogEnd, log_file}
-use Rattle.s80_log.specs.Blocks.{BeginsWithNone}
+use Rattle.s80_block.specs.Blocks.{BeginsWithNone}
 use Rattle.s80_keeper.specs.declared.start.Damage.TheVariants.{LogShort, BadBlock, Replay}
 use Rattle.s80_keeper.specs.declared.start.StartFault.{StartFault}
 use Rattle.s80_keeper.specs.declared.start.StartFault.TheVariants as faults
@@ -34,10 +34,10 @@ IsLengthChecked files log (Err (faults.Damaged _)) = ⊥
 IsLengthChecked files log (Err faults.Memory) = ⊥
 IsLengthChecked files log (Err (faults.Disk failed)) = ⊤
 
--- the list whose blocks bytes are, by its length and the classes that it makes, or what is wrong with them
-abbrev pub AreReplayed : List ℕ → Result (Table × ℕ) StartFault → Type 0
+-- the list whose blocks bytes are, by its length and the state that it makes, or what is wrong with them
+abbrev pub AreReplayed : List ℕ → Result (SystemState × ℕ) StartFault → Type 0
 AreReplayed bytes (Ok found) =
-    (changes : List Change) × IsList changes × IsBuilt changes × (bytes ≡ blocks changes) × (found.0.classes ≡ classes_of changes) × (found.1 ≡ length changes)
+    (changes : List Change) × IsList changes × IsBuilt changes × (bytes ≡ blocks changes) × IsSystemOf found.0 (state_of changes) × (found.1 ≡ length changes)
 AreReplayed bytes (Err (faults.Damaged (BadBlock place))) =
     (changes : List Change) × (rest : List ℕ) × IsList changes × IsBuilt changes × (bytes ≡ blocks changes ++ rest) × (place ≡ length (blocks changes)) × (place ≢ length bytes) × BeginsWithNone rest
 AreReplayed bytes (Err (faults.Damaged (Replay place number))) =
@@ -47,9 +47,9 @@ AreReplayed bytes (Err (faults.Damaged _)) = ⊥
 AreReplayed bytes (Err faults.Memory) = ⊤
 AreReplayed bytes (Err (faults.Disk failed)) = ⊤
 
--- after the change of a block that begins at this place was to be accepted
-abbrev pub Accepts : {T : Type 0} → Classes → Classes → ℕ → Change → Result T StartFault → Type 0
-Accepts before now at change (Ok done) = (refusal_to before at change ≡ None) × (now ≡ classes_after change before)
+-- after the change of a block that begins at this place was to be accepted in this state
+abbrev pub Accepts : {T : Type 0} → State → SystemState → ℕ → Change → Result T StartFault → Type 0
+Accepts before now at change (Ok done) = (refusal_to before at change ≡ None) × IsSystemOf now (state_after change at before)
 Accepts before now at change (Err (faults.Damaged (Replay place number))) = (refusal : Refusal) × (refusal_to before at change ≡ Some refusal) × (place ≡ at) × (number ≡ refusal_number refusal)
 Accepts before now at change (Err (faults.Damaged _)) = ⊥
 Accepts before now at change (Err faults.Memory) = ⊤

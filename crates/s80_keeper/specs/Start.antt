@@ -1,9 +1,9 @@
 -- What is found at the start: the list that the files stand for, or the first thing that is wrong with them.
 use Rattle.std.specs.Prelude.{◌≡◌, ◌≢◌, ◌⊎◌, ◌<◌, ◌≤◌, ℕ, Bool, List, [], ◌++◌, length, Some, Result, Ok, Err, ⊤}
 use Rattle.s80_base.specs.declared.outside.Failed.{Failed}
-use Rattle.s80_change.specs.declared.change.Change.{Change}
+use Rattle.s80_block.specs.declared.change.Change.{Change}
 use Rattle.s80_change.specs.declared.refusal.Refusal.{Refusal}
-use Rattle.s80_change.specs.Block.{block, blocks, IsLawful, IsList}
+use Rattle.s80_block.specs.Block.{block, blocks, IsLawful, IsList}
 use Rattle.s80_change.specs.Refusal.{refusal_number}
 use Rattle.s80_disk.specs.declared.disk.FileId.TheVariants.{Mark}
 use Rattle.s80_disk.specs.Image.{Image}
@@ -12,17 +12,17 @@ use Rattle.s80_mark.specs.declared.read.MarkFault.{MarkFault}
 use Rattle.s80_mark.specs.declared.read.MarkFault.TheVariants as mark_faults
 use Rattle.s80_mark.specs.Mark.{valid_mark}
 use Rattle.s80_mark.specs.Found.{AreLogsEmpty, HasLawfulNumbers, IsAnswer, longer_log}
-use Rattle.s80_apply.specs.List.{IsBuilt, classes_of, add}
+use Rattle.s80_state.specs.List.{IsBuilt, add}
 use Rattle.s80_log.specs.Log.{log_file}
 use Rattle.s80_log.specs.Standing.{marked_part}
-use Rattle.s80_log.specs.Blocks.{BeginsWithNone}
+use Rattle.s80_block.specs.Blocks.{BeginsWithNone}
 use Rattle.s80_log.specs.declared.read.BlockFault.{BlockFault}
 use Rattle.s80_log.specs.declared.read.BlockFault.TheVariants as block_faults
 use Rattle.s80_keeper.specs.declared.start.Damage.{Damage}
 use Rattle.s80_keeper.specs.declared.start.Damage.TheVariants.{NoMark, BadMark, LogShort, BadBlock, Replay}
 use Rattle.s80_keeper.specs.declared.start.StartFault.{StartFault}
 use Rattle.s80_keeper.specs.declared.start.StartFault.TheVariants as faults
-use Rattle.s80_keeper.specs.Keeper.{KeeperState, Keeps}
+use Rattle.s80_keeper.specs.Keeper.{KeeperState, Keeps, Knows}
 use Rattle.s80_keeper.specs.Standing.{NamesNoImage, FilesStandFor, StandsFor}
 
 -- a log holds something, and this is the valid mark, with lawful numbers
@@ -57,7 +57,7 @@ IsDamage files (Replay place number) =
 
 -- what the files call for, where memory is found and no call on the disk fails
 abbrev pub IsStart : Image → Result KeeperState StartFault → Type 0
-IsStart files (Ok keeper) = (changes : List Change) × FilesStandFor files changes × (keeper.system.classes ≡ classes_of changes) × (keeper.count ≡ length changes)
+IsStart files (Ok keeper) = (changes : List Change) × FilesStandFor files changes × Knows files keeper changes
 IsStart files (Err (faults.Damaged damage)) = IsDamage files damage
 IsStart files (Err faults.Memory) = ⊤
 IsStart files (Err (faults.Disk failed)) = ⊤

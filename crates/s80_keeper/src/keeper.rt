@@ -1,12 +1,16 @@
 // The keeper, and a change that is prepared for it.
-ghost use Rattle.std.specs.Prelude.{◌≡◌};
+ghost use Rattle.std.specs.Prelude.{◌≡◌, ◌≤◌, length, IfOk};
+ghost use Rattle.s80_block.specs.Block.{block as block_of};
+ghost use Rattle.s80_state.specs.State.{State};
+ghost use Rattle.s80_state.specs.System.{IsReady, IsSystemOf, offset_of};
 ghost use Rattle.s80_keeper.specs.Answers.{Prepares};
 
-use s80_apply::{Step, System};
 use s80_base::{Failed, Text};
-use s80_change::{Change, Refusal, Refused, block_text};
+use s80_block::{Change, block_text};
+use s80_change::{Refusal, Refused};
 use s80_log::Log;
 use s80_mark::MarkState;
+use s80_state::{Step, System};
 use std::alloc::Global;
 use std::marker::Model;
 
@@ -23,12 +27,12 @@ pub struct Keeper {
 
 impl Model for Keeper {
     ghost use Rattle.std.specs.Coded.{codes};
-    ghost use Rattle.s80_class.specs.Kept.{table_code};
+    ghost use Rattle.s80_state.specs.Coded.{system_code};
     ghost use Rattle.s80_keeper.specs.Keeper.{KeeperState};
 
     ghost Value = { KeeperState };
 
-    ghost coded = { Prim.hlevel (codes, table_code) };
+    ghost coded = { Prim.hlevel (codes, system_code) };
 
     ghost view = { λ k. record { log = k.log; mark = k.mark; system = k.system; count = k.count; fault = k.fault } };
 }
@@ -37,29 +41,42 @@ impl Model for Keeper {
 #[derive(Debug, Drop)]
 pub struct Prepared {
     change: Change,
-    pub(crate) block: Text,
-    pub(crate) step: Step,
+    block: Text,
+    step: Step,
 }
 
 impl Model for Prepared {
-    ghost use Rattle.std.specs.Prelude.{◌≡◌};
-    ghost use Rattle.s80_change.specs.Block.{block as block_of};
+    ghost use Rattle.std.specs.Prelude.{◌≡◌, ◌≤◌, length};
+    ghost use Rattle.s80_block.specs.Block.{block as block_of};
+    ghost use Rattle.s80_state.specs.System.{offset_of};
     ghost use Rattle.s80_keeper.specs.Answers.{PreparedChange};
 
     ghost Value = { PreparedChange };
 
     ghost view = { λ p. record { change = p.change; step = p.step } };
 
-    ghost invariant = { λ p. p.block ≡ block_of p.change };
+    ghost invariant = { λ p. (p.block ≡ block_of p.change) × (offset_of p.step ≤ length p.block) };
+}
+
+impl Prepared {
+    /// The block and the step; the change is let go.
+    pub(crate) fn parts(self) -> (Text, Step)
+        ensures block { result.0 ≡ block_of self.change }
+        ensures step { result.1 ≡ self.step }
+        ensures place { offset_of result.1 ≤ length result.0 }
+    {
+        (self.block, self.step)
+    }
 }
 
 impl Keeper {
     /// Prepares a change to be kept, or says why the list refuses it. The list stays.
     pub fn prepare(&mut self, alloc: Global, change: Change) -> Result<Prepared, Refused>
-        ensures answer { Prepares self.old.system.classes self.old.log.end change self.new.system result }
+        ensures answer { (state : State) → IsSystemOf self.old.system state → Prepares state self.old.log.end change self.new.system result }
+        ensures ready { IfOk result (λ prepared. IsReady self.new.system prepared.step) }
         ensures same { self.new ≡ record self.old { system = self.new.system } }
-        ensures classes { self.new.system.classes ≡ self.old.system.classes }
-        ensures names { self.new.system.names ≡ self.old.system.names }
+        ensures system { (state : State) → IsSystemOf self.old.system state → IsSystemOf self.new.system state }
+        ensures names { self.new.system.table.names ≡ self.old.system.table.names }
     {
         let step = self.system.prepare(alloc, &change)?;
         let block = block_text(alloc, &change)?;
@@ -73,7 +90,7 @@ impl Keeper {
         })
     }
 
-    /// The classes that the changes make.
+    /// The classes and methods that the changes make.
     pub fn system(&self) -> &System
         ensures { result.now ≡ self.now.system }
     {

@@ -4,6 +4,7 @@
 mod keep;
 mod keeper;
 mod laws;
+mod source;
 mod start;
 
 pub use keep::KeepFault;

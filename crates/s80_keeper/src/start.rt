@@ -2,14 +2,16 @@
 ghost use Rattle.std.specs.Prelude.{◌≡◌, ◌≢◌, ◌⊎◌, ◌<◌, ◌≤◌, ◌+◌, ◌++◌, List, ℕ, length, None, IsTrue, IfOk};
 ghost use Rattle.s80_base.specs.Causes.{Rose};
 ghost use Rattle.s80_base.specs.declared.outside.Call.TheVariants.{Length, Read, Write, Sync};
-ghost use Rattle.s80_change.specs.declared.change.Change.{Change};
-ghost use Rattle.s80_change.specs.Block.{block};
+ghost use Rattle.s80_block.specs.declared.change.Change.{Change};
+ghost use Rattle.s80_block.specs.Block.{block};
 ghost use Rattle.s80_change.specs.Refusal.{refusal_number};
 ghost use Rattle.s80_disk.specs.declared.disk.FileId.{FileId};
 ghost use Rattle.s80_disk.specs.declared.disk.FileId.TheVariants.{Mark};
 ghost use Rattle.s80_disk.specs.Image.{Only};
 ghost use Rattle.s80_disk.specs.Moments.{Beside, LeavesOnly};
 ghost use Rattle.s80_mark.specs.Found.{IsLawfulFound, longer_log};
+ghost use Rattle.s80_state.specs.State.{State};
+ghost use Rattle.s80_state.specs.System.{IsSystemOf};
 ghost use Rattle.s80_log.specs.Log.{log_file, held_in};
 ghost use Rattle.s80_keeper.specs.Standing.{NamesNoImage, ReadsFor, StandsFor, LeavesFor};
 ghost use Rattle.s80_keeper.specs.Start.{HasMark, IsStart, Started, StartLeaves, IfStartDisk};
@@ -17,12 +19,13 @@ ghost use Rattle.s80_keeper.specs.Reading.{IsFound, IsLengthChecked, AreReplayed
 ghost use Rattle.s80_keeper.specs.Untouched.{IsUntouched};
 
 use crate::keeper::Keeper;
-use s80_apply::{System, boot};
 use s80_base::{Failed, OutOfMemory};
-use s80_change::{Change, Refusal, Refused};
+use s80_block::Change;
+use s80_change::{Refusal, Refused};
 use s80_disk::{Disk, FileId};
 use s80_log::{BlockFault, LOG_LIMIT, Log};
 use s80_mark::{Found, MarkFault, MarkState, NO_IMAGE, init_mark, read_mark};
+use s80_state::{System, boot};
 use std::alloc::Global;
 use thiserror::Error;
 
@@ -140,7 +143,7 @@ impl Keeper {
         }
     }
 
-    /// A keeper of so many changes in this log, with this mark and the classes that they make.
+    /// A keeper of so many changes in this log, with this mark and the state that they make.
     fn at(log: Log, mark: MarkState, system: System, count: u64) -> Keeper
         ensures { result ≡ record { log = log; mark = mark; system = system; count = count; fault = None } }
     {
@@ -206,7 +209,7 @@ fn check_length<D: Disk>(disk: &mut D, log: &Log) -> Result<(), StartFault>
     Ok(())
 }
 
-/// The classes that the changes of a log make, and how many changes it keeps, by its blocks.
+/// The state that the changes of a log make, and how many changes it keeps, by its blocks.
 fn replay<D: Disk>(alloc: Global, disk: &mut D, log: &Log) -> Result<(System, u64), StartFault>
     ensures answer { IsTrue (D.tells disk.old) → log.now.end ≤ length (D.reads disk.old (log_file log.now.number))
         → AreReplayed (held_in (D.reads disk.old) log.now) result }
@@ -219,14 +222,29 @@ fn replay<D: Disk>(alloc: Global, disk: &mut D, log: &Log) -> Result<(System, u6
     let mut at = 0;
     while at < log.length() {
         let (change, next) = log.read_block(alloc, disk, at)?;
-        accept(alloc, &mut system, &change, at, next)?;
+        accept_owned(alloc, &mut system, change, at, next)?;
         count += 1;
         at = next;
     }
     Ok((system, count))
 }
 
-/// Has the classes accept the change of a block, which begins and ends at these places.
+/// Has the change of a block accepted, which begins and ends at these places, and lets it go.
+fn accept_owned(
+    alloc: Global,
+    system: &mut System,
+    change: Change,
+    at: u64,
+    next: u64,
+) -> Result<(), StartFault>
+    requires { next ≡ at + length (block change) }
+    ensures answer { (state : State) → IsSystemOf system.old state → Accepts state system.new at change result }
+    ensures offline { IfStartDisk result (λ failed. ⊥) }
+{
+    accept(alloc, system, &change, at, next)
+}
+
+/// Has the change of a block accepted, which begins and ends at these places.
 fn accept(
     alloc: Global,
     system: &mut System,
@@ -235,14 +253,15 @@ fn accept(
     next: u64,
 ) -> Result<(), StartFault>
     requires { next ≡ at + length (block change.now) }
-    ensures { Accepts system.old.classes system.new.classes at change.now result }
+    ensures answer { (state : State) → IsSystemOf system.old state → Accepts state system.new at change.now result }
+    ensures offline { IfStartDisk result (λ failed. ⊥) }
 {
     match system.prepare(alloc, change) {
         Err(Refused::Memory) => Err(StartFault::Memory),
         Err(Refused::Refusal(refusal)) => Err(refused(at, &refusal)),
         Ok(_) if next > LOG_LIMIT => Err(refused(at, &Refusal::LogFull(at))),
         Ok(step) => {
-            system.install(step);
+            system.install(step, at);
             Ok(())
         }
     }

@@ -1,15 +1,18 @@
 // Folders that are started on, and commits that are stopped at each of their calls, with ample memory.
 // That the log is full as it is read again wants a gibibyte: no test here has one.
 ghost use Rattle.std.specs.Prelude.{IfOk};
-ghost use Rattle.s80_apply.specs.System.{IsReady};
+ghost use Rattle.s80_state.specs.System.{IsReady};
+
+mod sources;
 
 use crate::{Damage, KeepFault, Keeper, Prepared, StartFault};
-use s80_apply::boot;
 use s80_base::{Call, Failed, Names, OutOfMemory, Text};
-use s80_change::{Change, Definition, Kind, Refusal, Refused};
+use s80_block::Change;
+use s80_change::{Definition, Kind, Refusal, Refused};
 use s80_disk::{Disk, FaultPlan, FileId, MemDisk};
 use s80_log::Log;
 use s80_mark::{MarkState, NO_IMAGE};
+use s80_state::boot;
 use std::alloc::Global;
 use std::test::Fail;
 

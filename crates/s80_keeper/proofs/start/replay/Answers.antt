@@ -1,10 +1,10 @@
-use Rattle.std.proofs.Common.{◌<◌, ℕ, IsTrue, List, length, take, drop, arith, rules, refl, ap, subst, ◌∙◌}
+use Rattle.std.proofs.Common.{◌<◌, ℕ, IsTrue, List, length, take, drop, Err, arith, rules, refl, ap, subst, ◌∙◌}
 use Rattle.std.proofs.lemmas.Result.{err_from_is_err_and}
 use Rattle.s80_log.specs.Log.{log_file, held_in}
-use Rattle.s80_log.specs.Blocks.{BeginsWith, BeginsWithNone}
+use Rattle.s80_block.specs.Blocks.{BeginsWith, BeginsWithNone}
 use Rattle.s80_log.specs.Faults.{IfBad}
 use Rattle.s80_keeper.proofs.OneList.{block_length}
-use Rattle.s80_keeper.proofs.Replayed.{replayed_more, replayed_refused, replayed_bad, replayed_all, held_length}
+use Rattle.s80_keeper.proofs.Replayed.{no_disk, replayed_more, replayed_refused, replayed_bad, replayed_all, held_length}
 use Rattle.s80_keeper.proofs.start.replay.Goals as goal
 use Rattle.s80_keeper.proofs.start.replay.Goals.{In_ok-change}
 
@@ -19,7 +19,7 @@ returns-in_err-change-clause-answer g c = λ told long.
     let P : List ℕ → Type 0 = λ l. IfBad fault (λ place. BeginsWithNone l) in
     let before : at < length (held_in reads log) = omega (arith, c.loop-at-test.true, c.length.ensures, held_length reads log long) in
     let p = err_from_is_err_and c.from_residual-in_err-change.result c.from_residual-in_err-change.ensures.1 in
-    rw (p.1, p.2) (replayed_bad (held_in reads log) at c.loop-at.count c.loop-at.system.classes (so_far.replayed told long) fault before (subst P same (c.in_err-change.ensures.none (so_far.untouched.telling ∙ told))) c.in_err-change.ensures.bad)
+    rw (p.1, p.2) (replayed_bad (held_in reads log) at c.loop-at.count c.loop-at.system (so_far.replayed told long) fault before (subst P same (c.in_err-change.ensures.none (so_far.untouched.telling ∙ told))) c.in_err-change.ensures.bad)
 
 -- the block at the place, in the log as it was
 begins : (g : _) (c : In_ok-change g) → IsTrue (g.D.Disk.tells c.args.disk.now) → BeginsWith (drop c.loop-at.at (held_in (g.D.Disk.reads c.args.disk.now) c.args.log.now)) c.in_ok-change.change
@@ -28,18 +28,28 @@ begins g c told =
     let P : List ℕ → Type 0 = λ l. BeginsWith l c.in_ok-change.change in
     subst P (ap (λ l. drop c.loop-at.at (take log.end l)) (c.loop-at.invariant.untouched.same (log_file log.number))) (c.in_ok-change.ensures.begins (c.loop-at.invariant.untouched.telling ∙ told))
 
-pub returns-in_err-accept-clause-answer : goal.returns-in_err-accept-clause-answer
-returns-in_err-accept-clause-answer g c = λ told long.
-    let found = begins g (goal.at.returns-in_err-accept-clause-answer g c).In_ok-change told in
-    let fault = c.in_err-accept.field-0.0 in
-    let p = err_from_is_err_and c.from_residual-in_err-accept.result c.from_residual-in_err-accept.ensures.1 in
-    rw (p.1, p.2) (replayed_refused _ c.loop-at.at c.loop-at.count c.loop-at.system.classes (c.loop-at.invariant.replayed told long) c.in_ok-change.change found (Unit {0}) c.accept.new.system.classes fault c.in_err-accept.ensures)
+pub returns-in_err-accept_owned-clause-answer : goal.returns-in_err-accept_owned-clause-answer
+returns-in_err-accept_owned-clause-answer g c = λ told long.
+    let found = begins g (goal.at.returns-in_err-accept_owned-clause-answer g c).In_ok-change told in
+    let fault = c.in_err-accept_owned.field-0.0 in
+    let p = err_from_is_err_and c.from_residual-in_err-accept_owned.result c.from_residual-in_err-accept_owned.ensures.1 in
+    rw (p.1, p.2) (replayed_refused _ c.loop-at.at c.loop-at.count c.loop-at.system (c.loop-at.invariant.replayed told long) c.in_ok-change.change found (Unit {0}) c.accept_owned.new.system fault c.in_err-accept_owned.ensures.answer)
+
+pub returns-in_err-accept_owned-clause-cause : goal.returns-in_err-accept_owned-clause-cause
+returns-in_err-accept_owned-clause-cause g c =
+    let p = err_from_is_err_and c.from_residual-in_err-accept_owned.result c.from_residual-in_err-accept_owned.ensures.1 in
+    rw (p.1, p.2) (no_disk {T = Unit {0}} _ (Err c.in_err-accept_owned.field-0.0) c.in_err-accept_owned.ensures.offline)
+
+pub returns-in_err-accept_owned-clause-named : goal.returns-in_err-accept_owned-clause-named
+returns-in_err-accept_owned-clause-named g c =
+    let p = err_from_is_err_and c.from_residual-in_err-accept_owned.result c.from_residual-in_err-accept_owned.ensures.1 in
+    rw (p.1, p.2) (no_disk {T = Unit {0}} _ (Err c.in_err-accept_owned.field-0.0) c.in_err-accept_owned.ensures.offline)
 
 pub returns-clause-answer : goal.returns-clause-answer
 returns-clause-answer g c = λ told long.
     let log = c.args.log.now in
     let reads = g.D.Disk.reads c.args.disk.now in
-    replayed_all (held_in reads log) c.loop-at.at c.loop-at.count c.loop-at.system.classes (c.loop-at.invariant.replayed told long) c.loop-at.system refl
+    replayed_all (held_in reads log) c.loop-at.at c.loop-at.count c.loop-at.system (c.loop-at.invariant.replayed told long)
     (omega (arith, held_length reads log long, c.loop-at-test.false, c.length.ensures))
 
 pub loop-at-preserved : goal.loop-at-preserved
@@ -47,18 +57,7 @@ loop-at-preserved g c =
     let change = c.in_ok-change.change in
     let next = c.in_ok-change.ensures.next in
     record {
-      replayed = λ told long. replayed_more _ c.loop-at.at c.loop-at.count c.loop-at.system.classes (c.loop-at.invariant.replayed told long) change (begins g (goal.at.loop-at-preserved g c).In_ok-change told) c.in_ok-accept.field-0 c.in_ok-change.next c.accept.new.system.classes next.1 c.in_ok-accept.ensures;
-      few = omega (arith, next.1, block_length change, c.loop-at.invariant.few);
-      within = next.2;
-      untouched = search rules;
-    }
-
-pub loop-at-preserved-in_ok-accept : goal.loop-at-preserved-in_ok-accept
-loop-at-preserved-in_ok-accept g c =
-    let change = c.in_ok-change.change in
-    let next = c.in_ok-change.ensures.next in
-    record {
-      replayed = λ told long. replayed_more _ c.loop-at.at c.loop-at.count c.loop-at.system.classes (c.loop-at.invariant.replayed told long) change (begins g (goal.at.loop-at-preserved-in_ok-accept g c).In_ok-change told) c.in_ok-accept.field-0 c.in_ok-change.next c.accept.new.system.classes next.1 c.in_ok-accept.ensures;
+      replayed = λ told long. replayed_more _ c.loop-at.at c.loop-at.count c.loop-at.system (c.loop-at.invariant.replayed told long) change (begins g (goal.at.loop-at-preserved g c).In_ok-change told) c.in_ok-accept_owned.field-0 c.in_ok-change.next c.accept_owned.new.system next.1 c.in_ok-accept_owned.ensures.answer;
       few = omega (arith, next.1, block_length change, c.loop-at.invariant.few);
       within = next.2;
       untouched = search rules;

@@ -1,26 +1,25 @@
 use Rattle.std.proofs.Common.{◌≡◌, ◌⊎◌, ◌+◌, ◌++◌, ◌∷◌, [], List, length, refl, sym, ap, ◌∙◌, subst, arith, rules}
-use Rattle.s80_change.specs.declared.change.Change.{Change}
-use Rattle.s80_change.specs.Block.{block, IsLawful}
+use Rattle.s80_block.specs.declared.change.Change.{Change}
+use Rattle.s80_block.specs.Block.{block, IsLawful}
 use Rattle.s80_disk.specs.Image.{Image}
 use Rattle.s80_disk.specs.Moments.{LeavesOnly}
 use Rattle.s80_disk.proofs.Run.{weaker}
 use Rattle.s80_mark.specs.declared.mark.MarkState.{MarkState}
-use Rattle.s80_apply.specs.List.{IsBuilt}
-use Rattle.s80_apply.specs.System.{installed}
+use Rattle.s80_state.specs.List.{IsBuilt, state_of}
 use Rattle.s80_log.specs.Log.{log_file}
 use Rattle.s80_log.specs.Commit.{next_mark}
 use Rattle.s80_keeper.specs.Keeper.{KeeperState, Keeps}
 use Rattle.s80_keeper.specs.Standing.{FilesStandFor, LeavesEither}
 use Rattle.s80_keeper.specs.Answers.{PreparedChange, IsFor}
-use Rattle.s80_keeper.proofs.Keeping.{either_list, leaves_either, built_kept, keeps_more, keeps_still}
+use Rattle.s80_keeper.proofs.Keeping.{either_list, leaves_either, built_kept, installed_at, after_kept, keeps_more, keeps_still}
 use Rattle.s80_keeper.proofs.keeper.Keeper.keep.Goals as goal
 use Rattle.s80_keeper.proofs.keeper.Keeper.keep.Goals.{After-append_and_commit}
 
 -- the block that is written is that of the change
-is_block : (g : _) (c : After-append_and_commit g) → c.prepared.inside.block ≡ block c.args.prepared.change
-is_block g c = c.prepared.invariant ∙ ap (λ (p : PreparedChange). block p.change) c.prepared.view_is
+is_block : (g : _) (c : After-append_and_commit g) → c.parts-block.result.0 ≡ block c.args.prepared.change
+is_block g c = c.parts-block.ensures.block
 
-module _ (g : _) (c : After-append_and_commit g) (changes : List Change) (keeps : Keeps (g.D.Disk.tells c.args.disk.now) (g.D.Disk.reads c.args.disk.now) (g.D.Disk.may_leave c.args.disk.now) c.args.self.now changes) (lawful : IsLawful c.args.prepared.change) (ready : IsFor c.args.self.now.system c.args.prepared) where
+module _ (g : _) (c : After-append_and_commit g) (changes : List Change) (keeps : Keeps (g.D.Disk.tells c.args.disk.now) (g.D.Disk.reads c.args.disk.now) (g.D.Disk.may_leave c.args.disk.now) c.args.self.now changes) (lawful : IsLawful c.args.prepared.change) (ready : IsFor (state_of changes) c.args.self.now.system c.args.prepared) where
   -- the keeper as the code has it
   abbrev keeper : KeeperState
   keeper = record { log = c.self.inside.log; mark = c.self.inside.mark; system = c.self.inside.system; count = c.self.inside.count; fault = c.self.inside.fault }
@@ -31,11 +30,11 @@ module _ (g : _) (c : After-append_and_commit g) (changes : List Change) (keeps 
       subst P (sym c.self.view_is) keeps
 
   built_all : IsBuilt (changes ++ c.args.prepared.change ∷ [])
-  built_all = built_kept _ _ _ c.args.self.now changes c.args.prepared.change (installed c.args.self.now.system c.args.prepared.step).classes keeps ready.accepted
+  built_all = built_kept changes c.args.self.now.system c.args.prepared ready keeps.built
 
   -- the mark that is committed
   abbrev next : MarkState
-  next = next_mark c.self.inside.mark (record c.self.inside.log { end = c.self.inside.log.end + length c.prepared.inside.block })
+  next = next_mark c.self.inside.mark (record c.self.inside.log { end = c.self.inside.log.end + length c.parts-block.result.0 })
 
   run : LeavesOnly g.D.Disk.moment g.D.Disk.left_since c.args.disk.now c.append_and_commit.new.disk (LeavesEither (g.D.Disk.beside c.args.disk.now).told changes (changes ++ c.args.prepared.change ∷ []))
   run =
@@ -53,7 +52,11 @@ pub returns-in-Ok-clause-any_moment : goal.returns-in-Ok-clause-any_moment
 returns-in-Ok-clause-any_moment g c = run g (goal.at.returns-in-Ok-clause-any_moment g c).After-append_and_commit
 
 pub returns-in-Ok-clause-after : goal.returns-in-Ok-clause-after
-returns-in-Ok-clause-after g c = search rules
+returns-in-Ok-clause-after g c =
+    let keeper : KeeperState = record { log = c.self.inside.log; mark = c.self.inside.mark; system = c.self.inside.system; count = c.self.inside.count; fault = c.self.inside.fault } in (
+      installed_at keeper c.args.self.now c.parts-block.result.1 c.args.prepared.step c.in-Ok.at c.install.new.self c.self.view_is c.parts-block.ensures.step c.in-Ok.ensures.place c.install.ensures,
+      after_kept keeper c.args.self.now c.append_and_commit.new.self c.append_and_commit.new.mark c.install.new.self _ (length c.parts-block.result.0) c.args.prepared.change c.self.view_is (ap length (is_block g (goal.at.returns-in-Ok-clause-after g c).After-append_and_commit)) c.in-Ok.ensures.end c.in-Ok.ensures.mark (search rules),
+    )
 
 pub returns-in-Ok-clause-kept : goal.returns-in-Ok-clause-kept
 returns-in-Ok-clause-kept g c = λ changes keeps lawful ready.

@@ -39,4 +39,4 @@ returns-clause-answer g c = λ told has.
     let system = c.in_ok-system.system in
     let count = c.in_ok-system.count in
     let is = subst (λ bytes. AreReplayed bytes (Ok (system, count))) (part g run) (c.in_ok-system.ensures.answer (c.check_length.ensures.untouched.telling ∙ told) (long_still g run told)) in
-    replayed_start _ c.args.mark has c.if-mark-ne-NO_IMAGE.false (long g run told) (system, count) c.at.result (ap (λ (k : KeeperState). k.system) c.at.ensures) (ap (λ (k : KeeperState). k.count) c.at.ensures) is
+    replayed_start _ c.args.mark has c.if-mark-ne-NO_IMAGE.false (long g run told) (system, count) c.at.result (ap (λ (k : KeeperState). k.log) c.at.ensures ∙ c.resume-log.ensures) (ap (λ (k : KeeperState). k.system) c.at.ensures) (ap (λ (k : KeeperState). k.count) c.at.ensures) is

@@ -8,7 +8,7 @@ use Rattle.s80_mark.specs.Found.{AreLogsEmpty}
 use Rattle.s80_keeper.specs.Standing.{StandsFor, LeavesFor}
 use Rattle.s80_keeper.specs.Start.{HasMark, IsStart, Started, StartLeaves}
 use Rattle.s80_keeper.specs.Reading.{IsFound}
-use Rattle.s80_keeper.proofs.Starts.{still_left, left_on, synced_on, leaves_for, none_kept, first_keeps, first_stands}
+use Rattle.s80_keeper.proofs.Starts.{still_left, left_on, synced_on, leaves_for, none_kept, first_keeps, first_stands, first_start}
 use Rattle.s80_keeper.proofs.Resumed.{found_started, started_mark}
 use Rattle.s80_keeper.proofs.keeper.Keeper.start.Goals as goal
 use Rattle.s80_keeper.proofs.keeper.Keeper.start.Goals.{After-find_mark, After-init_mark, After-resume-in-Mark}
@@ -58,6 +58,11 @@ returns-in_err-mark-in-Fresh-clause-any_moment g c = fresh g (goal.at.returns-in
 
 pub returns-in_err-mark-in-Fresh-clause-stands : goal.returns-in_err-mark-in-Fresh-clause-stands
 returns-in_err-mark-in-Fresh-clause-stands g c = λ changes is. stands g (goal.at.returns-in_err-mark-in-Fresh-clause-stands g c).After-find_mark _ changes is (returns-in_err-mark-in-Fresh-clause-any_moment g c is.told)
+
+pub returns-in_ok-boot-in-Fresh-clause-answer : goal.returns-in_ok-boot-in-Fresh-clause-answer
+returns-in_ok-boot-in-Fresh-clause-answer g c = λ told.
+    let none = empty g (goal.at.returns-in_ok-boot-in-Fresh-clause-answer g c).After-init_mark told in
+    first_start (g.D.Disk.reads c.args.disk.now) c.resume.result c.in_ok-mark-in-Fresh.mark c.in_ok-boot-in-Fresh.field-0 c.at.result none c.resume.ensures c.in_ok-boot-in-Fresh.ensures c.at.ensures
 
 pub returns-in_ok-boot-in-Fresh-clause-any_moment : goal.returns-in_ok-boot-in-Fresh-clause-any_moment
 returns-in_ok-boot-in-Fresh-clause-any_moment g c = fresh g (goal.at.returns-in_ok-boot-in-Fresh-clause-any_moment g c).After-init_mark

@@ -1,0 +1,83 @@
+-- The source of a method, by its entry and by the list that made it.
+use Rattle.std.proofs.Common.{◌≡◌, ◌∙◌, ℕ, List, Option, Some, None, Result, Ok, Err, option_map, refl, sym, ap, subst}
+use Rattle.std.specs.FinMap as map
+use Rattle.s80_base.specs.declared.names.Side.{Side}
+use Rattle.s80_block.specs.declared.change.Change.{Change}
+use Rattle.s80_block.specs.Block.{blocks}
+use Rattle.s80_class.specs.Classes.{Name}
+use Rattle.s80_class.specs.Table.{IsNumberOf}
+use Rattle.s80_dict.specs.Table.{methods_at}
+use Rattle.s80_disk.specs.Image.{Image}
+use Rattle.s80_state.specs.State.{MethodRow}
+use Rattle.s80_state.specs.System.{Entry, entry_of}
+use Rattle.s80_state.specs.List.{state_of}
+use Rattle.s80_state.specs.Source.{AllStand, StandsAt, text_for}
+use Rattle.s80_log.specs.Log.{held_in}
+use Rattle.s80_log.specs.declared.read.BlockFault.{BlockFault}
+use Rattle.s80_log.specs.declared.read.BlockFault.TheVariants as block_faults
+use Rattle.s80_source.specs.Read.{IsRead, IsThis as IsSource}
+use Rattle.s80_keeper.specs.declared.keep.KeepFault.{KeepFault}
+use Rattle.s80_keeper.specs.declared.keep.KeepFault.TheVariants as faults
+use Rattle.s80_keeper.specs.declared.start.Damage.TheVariants.{BadBlock}
+use Rattle.s80_keeper.specs.Keeper.{KeeperState, Knows}
+use Rattle.s80_keeper.specs.Source.{IsThis, IsReadBy}
+
+-- what is answered for a source that was read
+abbrev pub answered : Result (List ℕ) BlockFault → Result (Option (List ℕ)) KeepFault
+answered (Ok source) = Ok (Some source)
+answered (Err block_faults.Memory) = Err faults.Memory
+answered (Err (block_faults.Disk failed)) = Err (faults.Disk failed)
+answered (Err (block_faults.Bad place)) = Err (faults.Damaged (BadBlock place))
+
+-- ---- by its entry
+
+read_so : (files : Image) (keeper : KeeperState) (entry : Entry) (result : Result (List ℕ) BlockFault) → IsRead (text_for entry.from_kernel (held_in files keeper.log)) entry.position entry.length result → IsReadBy files keeper (Some entry) (answered result)
+read_so files keeper entry (Ok source) is = is
+read_so files keeper entry (Err block_faults.Memory) is = tt
+read_so files keeper entry (Err (block_faults.Disk failed)) is = tt
+read_so files keeper entry (Err (block_faults.Bad place)) is = is
+
+pub read_by : (files : Image) (keeper : KeeperState) (found : Option Entry) (entry : Entry) (result : Result (List ℕ) BlockFault) → found ≡ Some entry → IsRead (text_for entry.from_kernel (held_in files keeper.log)) entry.position entry.length result → IsReadBy files keeper found (answered result)
+read_by files keeper found entry result there is = subst (λ f. IsReadBy files keeper f (answered result)) (sym there) (read_so files keeper entry result is)
+
+-- ---- by the list
+
+-- an entry is that of a row
+record HasRow (found : Option MethodRow) (entry : Entry) : Type 0 where
+  row : MethodRow
+  there : found ≡ Some row
+  same : entry ≡ entry_of row
+
+has_row : (found : Option MethodRow) (entry : Entry) → Some entry ≡ option_map entry_of found → HasRow found entry
+has_row None entry e = absurd cc
+has_row (Some row) entry e = record { row = row; there = refl; same = cc }
+
+no_row : (found : Option MethodRow) → None ≡ option_map entry_of found → None ≡ option_map (λ row. row.source) found
+no_row None e = refl
+no_row (Some row) e = absurd cc
+
+this_so : (source : List ℕ) (result : Result (List ℕ) BlockFault) → IsSource source result → IsThis (Some source) (answered result)
+this_so source (Ok found) is = ap Some is
+this_so source (Err block_faults.Memory) is = tt
+this_so source (Err (block_faults.Disk failed)) is = tt
+this_so source (Err (block_faults.Bad place)) is = absurd is
+
+-- the method of a class, of which the keeper knows the list
+module _ (files : Image) (keeper : KeeperState) (changes : List Change) (knows : Knows files keeper changes) (class : ℕ) (name : Name) (side : Side) (selector : List ℕ) (named : IsNumberOf keeper.system.table.names class name) where
+  abbrev row_there : Option MethodRow
+  row_there = map.get ((state_of changes).methods name side) selector
+
+  abbrev entry_there : Option Entry
+  entry_there = map.get (methods_at keeper.system.methods class side) selector
+
+  entry_is : entry_there ≡ option_map entry_of row_there
+  entry_is = (knows.system.methods class name side named).each selector
+
+  pub no_source : entry_there ≡ None → IsThis (option_map (λ row. row.source) row_there) (Ok None)
+  no_source none = no_row row_there (sym none ∙ entry_is)
+
+  pub source_is : AllStand (blocks changes) (state_of changes) → (entry : Entry) → entry_there ≡ Some entry → (result : Result (List ℕ) BlockFault) → ((row : MethodRow) → StandsAt (held_in files keeper.log) row → entry ≡ entry_of row → IsSource row.source result) → IsThis (option_map (λ row. row.source) row_there) (answered result)
+  source_is all entry there result reads =
+      let own = has_row row_there entry (sym there ∙ entry_is) in
+      let stands = subst (λ log. StandsAt log own.row) (sym knows.log) (all name side selector own.row own.there) in
+      subst (λ found. IsThis (option_map (λ row. row.source) found) (answered result)) (sym own.there) (this_so own.row.source result (reads own.row stands own.same))
