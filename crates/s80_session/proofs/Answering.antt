@@ -5,28 +5,28 @@ use Rattle.std.proofs.lemmas.List.{append-nil}
 use Rattle.s80_chunk.specs.declared.item.Item.{Item}
 use Rattle.s80_chunk.specs.Chunks.{IsSound}
 use Rattle.s80_chunk.specs.Held.{Held, HasRead, HoldsNoMore}
-use Rattle.s80_change.specs.declared.change.Change.{Change}
 use Rattle.s80_disk.specs.Image.{Image}
-use Rattle.s80_keeper.specs.Keeper.{KeeperState}
-use Rattle.s80_session.specs.declared.item.SessionItem.TheVariants.{Chunk}
+use Rattle.s80_session.specs.declared.session.Session.{Session}
+use Rattle.s80_model.specs.declared.item.SessionItem.TheVariants.{Chunk}
 use Rattle.s80_session.specs.declared.end.SessionEnd.{SessionEnd}
 use Rattle.s80_session.specs.declared.end.SessionEnd.TheVariants as ends
 use Rattle.s80_session.specs.Ending.{Faults, NoFewer}
-use Rattle.s80_session.specs.Replies.{reply_to, reply_text, is_refused, list_after, list_after_all, replies, any_refused}
-use Rattle.s80_session.specs.Asked.{Ask, AllAsk}
+use Rattle.s80_model.specs.Replies.{Work, reply_to, reply_text, is_refused, work_after, work_after_all, replies, any_refused}
+use Rattle.s80_model.specs.Asked.{Ask, AllAsk}
 use Rattle.s80_session.specs.Run.{Shown, chunks}
+use Rattle.s80_session.specs.Session.{troubled_of}
 use Rattle.s80_session.specs.Working.{IsAt, Stepped, IsWorking, BeginsWith, BreaksOff}
 use Rattle.s80_session.proofs.Asking.{given_asks_more}
 
-pub list_after_more : (changes : List Change) (asks : List Ask) (ask : Ask) → list_after_all changes (asks ++ ask ∷ []) ≡ list_after (list_after_all changes asks) ask
-list_after_more changes [] ask = refl
-list_after_more changes (first ∷ asks) ask = list_after_more (list_after changes first) asks ask
+pub work_after_more : (work : Work) (asks : List Ask) (ask : Ask) → work_after_all work (asks ++ ask ∷ []) ≡ work_after (work_after_all work asks) ask
+work_after_more work [] ask = refl
+work_after_more work (first ∷ asks) ask = work_after_more (work_after work first) asks ask
 
-pub replies_more : (changes : List Change) (asks : List Ask) (ask : Ask) → replies changes (asks ++ ask ∷ []) ≡ replies changes asks ++ reply_text (reply_to (list_after_all changes asks) ask)
-replies_more changes [] ask = append-nil (reply_text (reply_to changes ask))
-replies_more changes (first ∷ asks) ask =
-    ap (λ l. reply_text (reply_to changes first) ++ l) (replies_more (list_after changes first) asks ask)
-    ∙ sym (append_assoc (reply_text (reply_to changes first)) (replies (list_after changes first) asks) (reply_text (reply_to (list_after_all (list_after changes first) asks) ask)))
+pub replies_more : (work : Work) (asks : List Ask) (ask : Ask) → replies work (asks ++ ask ∷ []) ≡ replies work asks ++ reply_text (reply_to (work_after_all work asks) ask)
+replies_more work [] ask = append-nil (reply_text (reply_to work ask))
+replies_more work (first ∷ asks) ask =
+    ap (λ l. reply_text (reply_to work first) ++ l) (replies_more (work_after work first) asks ask)
+    ∙ sym (append_assoc (reply_text (reply_to work first)) (replies (work_after work first) asks) (reply_text (reply_to (work_after_all (work_after work first) asks) ask)))
 
 or_false : (a : Bool) → (a || false) ≡ a
 or_false true = refl
@@ -36,62 +36,62 @@ or_assoc : (a b c : Bool) → (a || (b || c)) ≡ ((a || b) || c)
 or_assoc true b c = refl
 or_assoc false b c = refl
 
-pub refused_more : (changes : List Change) (asks : List Ask) (ask : Ask) → any_refused changes (asks ++ ask ∷ []) ≡ (any_refused changes asks || is_refused (reply_to (list_after_all changes asks) ask))
-refused_more changes [] ask = or_false (is_refused (reply_to changes ask))
-refused_more changes (first ∷ asks) ask =
-    ap (λ b. is_refused (reply_to changes first) || b) (refused_more (list_after changes first) asks ask)
-    ∙ or_assoc (is_refused (reply_to changes first)) (any_refused (list_after changes first) asks) (is_refused (reply_to (list_after_all (list_after changes first) asks) ask))
+pub refused_more : (work : Work) (asks : List Ask) (ask : Ask) → any_refused work (asks ++ ask ∷ []) ≡ (any_refused work asks || is_refused (reply_to (work_after_all work asks) ask))
+refused_more work [] ask = or_false (is_refused (reply_to work ask))
+refused_more work (first ∷ asks) ask =
+    ap (λ b. is_refused (reply_to work first) || b) (refused_more (work_after work first) asks ask)
+    ∙ or_assoc (is_refused (reply_to work first)) (any_refused (work_after work first) asks) (is_refused (reply_to (work_after_all (work_after work first) asks) ask))
 
 -- after one ask more, what stands after all of them
-pub is_at_more : (may_leave : Image → Type 0) (now : Shown) (keeper : KeeperState) (changes : List Change) (before : List ℕ) (asks : List Ask) (ask : Ask)
-    → IsAt may_leave now keeper (list_after (list_after_all changes asks) ask) ((before ++ replies changes asks) ++ reply_text (reply_to (list_after_all changes asks) ask))
-    → IsAt may_leave now keeper (list_after_all changes (asks ++ ask ∷ [])) (before ++ replies changes (asks ++ ask ∷ []))
-is_at_more may_leave now keeper changes before asks ask h =
-    let P : List Change → Type 0 = λ l. IsAt may_leave now keeper l (before ++ replies changes (asks ++ ask ∷ [])) in
-    let Q : List ℕ → Type 0 = λ l. IsAt may_leave now keeper (list_after (list_after_all changes asks) ask) l in
-    subst P (sym (list_after_more changes asks ask))
-    (subst Q (append_assoc before (replies changes asks) (reply_text (reply_to (list_after_all changes asks) ask)) ∙ ap (λ l. before ++ l) (sym (replies_more changes asks ask))) h)
+pub is_at_more : (may_leave : Image → Type 0) (now : Shown) (session : Session) (work : Work) (before : List ℕ) (asks : List Ask) (ask : Ask)
+    → IsAt may_leave now session (work_after (work_after_all work asks) ask) ((before ++ replies work asks) ++ reply_text (reply_to (work_after_all work asks) ask))
+    → IsAt may_leave now session (work_after_all work (asks ++ ask ∷ [])) (before ++ replies work (asks ++ ask ∷ []))
+is_at_more may_leave now session work before asks ask h =
+    let P : Work → Type 0 = λ w. IsAt may_leave now session w (before ++ replies work (asks ++ ask ∷ [])) in
+    let Q : List ℕ → Type 0 = λ l. IsAt may_leave now session (work_after (work_after_all work asks) ask) l in
+    subst P (sym (work_after_more work asks ask))
+    (subst Q (append_assoc before (replies work asks) (reply_text (reply_to (work_after_all work asks) ask)) ∙ ap (λ l. before ++ l) (sym (replies_more work asks ask))) h)
 
-pub list_more : (may_leave : Image → Type 0) (now : Shown) (keeper : KeeperState) (changes : List Change) (put : List ℕ) (asks : List Ask) (ask : Ask) → IsAt may_leave now keeper (list_after (list_after_all changes asks) ask) put → IsAt may_leave now keeper (list_after_all changes (asks ++ ask ∷ [])) put
-list_more may_leave now keeper changes put asks ask h = let P : List Change → Type 0 = λ l. IsAt may_leave now keeper l put in subst P (sym (list_after_more changes asks ask)) h
+pub list_more : (may_leave : Image → Type 0) (now : Shown) (session : Session) (work : Work) (put : List ℕ) (asks : List Ask) (ask : Ask) → IsAt may_leave now session (work_after (work_after_all work asks) ask) put → IsAt may_leave now session (work_after_all work (asks ++ ask ∷ [])) put
+list_more may_leave now session work put asks ask h = let P : Work → Type 0 = λ w. IsAt may_leave now session w put in subst P (sym (work_after_more work asks ask)) h
 
 -- whether something was refused by then
-pub refused_by_now : (changes : List Change) (asks : List Ask) (ask : Ask) (was troubled : Bool) → was ≡ any_refused changes asks → troubled ≡ (was || is_refused (reply_to (list_after_all changes asks) ask)) → troubled ≡ any_refused changes (asks ++ ask ∷ [])
-refused_by_now changes asks ask was troubled refused is = is ∙ ap (λ b. b || is_refused (reply_to (list_after_all changes asks) ask)) refused ∙ sym (refused_more changes asks ask)
+pub refused_by_now : (work : Work) (asks : List Ask) (ask : Ask) (was troubled : Bool) → was ≡ any_refused work asks → troubled ≡ (was || is_refused (reply_to (work_after_all work asks) ask)) → troubled ≡ any_refused work (asks ++ ask ∷ [])
+refused_by_now work asks ask was troubled refused is = is ∙ ap (λ b. b || is_refused (reply_to (work_after_all work asks) ask)) refused ∙ sym (refused_more work asks ask)
 
 -- an item more that a reader gave is worked and answered
-pub worked_on : (was_left may_leave : Image → Type 0) (mid now : Shown) (at_work keeper : KeeperState) (was troubled : Bool) (had reader : Held) (changes : List Change) (before bytes : List ℕ) (given : List Item) (item : Item) → (w : IsWorking was_left mid at_work was had changes before bytes given) → HasRead reader bytes (given ++ item ∷ [])
-    → Stepped {T = Unit {0}} (Ok tt) may_leave now keeper was troubled (list_after_all changes w.asks) (before ++ replies changes w.asks) (Chunk item)
-    → IsWorking may_leave now keeper troubled reader changes before bytes (given ++ item ∷ [])
-worked_on was_left may_leave mid now at_work keeper was troubled had reader changes before bytes given item w read h = record {
+pub worked_on : (was_left may_leave : Image → Type 0) (mid now : Shown) (at_work session : Session) (had reader : Held) (work : Work) (before bytes : List ℕ) (given : List Item) (item : Item) → (w : IsWorking was_left mid at_work had work before bytes given) → HasRead reader bytes (given ++ item ∷ [])
+    → Stepped {T = Unit {0}} (Ok tt) may_leave now session (troubled_of at_work) (work_after_all work w.asks) (before ++ replies work w.asks) (Chunk item)
+    → IsWorking may_leave now session reader work before bytes (given ++ item ∷ [])
+worked_on was_left may_leave mid now at_work session had reader work before bytes given item w read h = record {
   asks = w.asks ++ h.0 ∷ [];
   read = read;
   asked = given_asks_more given w.asks item h.0 w.asked h.1;
-  at = is_at_more may_leave now keeper changes before w.asks h.0 h.3;
-  refused = refused_by_now changes w.asks h.0 was troubled w.refused h.2;
+  at = is_at_more may_leave now session work before w.asks h.0 h.3;
+  refused = refused_by_now work w.asks h.0 (troubled_of at_work) (troubled_of session) w.refused h.2;
 }
 
 pub begins : (reader : Held) (ended : Bool) (bytes : List ℕ) (given : List Item) → reader.ended ≡ ended → HasRead reader bytes given → BeginsWith ended bytes given
 begins reader ended bytes given is h = let P : Bool → Type 0 = λ b. BeginsWith b bytes given in subst P is (h.rest, h.reads)
 
 -- a step that broke off
-pub broke_off : (T : Type 0) (end : SessionEnd) (may_leave : Image → Type 0) (now : Shown) (keeper : KeeperState) (was troubled ended : Bool) (changes : List Change) (before bytes : List ℕ) (given : List Item) (asks : List Ask) (item : Item) → BeginsWith ended bytes given → AllAsk (chunks given) asks → BeginsWith ended bytes (given ++ item ∷ [])
-    → Stepped {T = T} (Err end) may_leave now keeper was troubled (list_after_all changes asks) (before ++ replies changes asks) (Chunk item) → BreaksOff end may_leave now keeper ended changes before bytes
-broke_off T ends.Memory may_leave now keeper was troubled ended changes before bytes given asks item had asked has h = (asks, (given, had, asked), h)
-broke_off T (ends.Disk failed) may_leave now keeper was troubled ended changes before bytes given asks item had asked has h = (asks, (given, had, asked), h)
-broke_off T (ends.Write failed) may_leave now keeper was troubled ended changes before bytes given asks item had asked has h =
-    let put = (before ++ replies changes asks) ++ take h.2 (reply_text (reply_to (list_after_all changes asks) h.0)) in
-    (asks, h.0, h.2, (given ++ item ∷ [], has, given_asks_more given asks item h.0 asked h.1), list_more may_leave now keeper changes put asks h.0 h.3)
-broke_off T (ends.Read failed) may_leave now keeper was troubled ended changes before bytes given asks item had asked has h = absurd h
-broke_off T ends.TooLong may_leave now keeper was troubled ended changes before bytes given asks item had asked has h = absurd h
-broke_off T (ends.Damaged damage) may_leave now keeper was troubled ended changes before bytes given asks item had asked has h = absurd h
+pub broke_off : (T : Type 0) (end : SessionEnd) (may_leave : Image → Type 0) (now : Shown) (session : Session) (was ended : Bool) (work : Work) (before bytes : List ℕ) (given : List Item) (asks : List Ask) (item : Item) → BeginsWith ended bytes given → AllAsk (chunks given) asks → BeginsWith ended bytes (given ++ item ∷ [])
+    → Stepped {T = T} (Err end) may_leave now session was (work_after_all work asks) (before ++ replies work asks) (Chunk item) → BreaksOff end may_leave now session ended work before bytes
+broke_off T ends.Memory may_leave now session was ended work before bytes given asks item had asked has h = (asks, (given, had, asked), h)
+broke_off T (ends.Disk failed) may_leave now session was ended work before bytes given asks item had asked has h = (asks, (given, had, asked), h)
+broke_off T (ends.Write failed) may_leave now session was ended work before bytes given asks item had asked has h =
+    let put = (before ++ replies work asks) ++ take h.2 (reply_text (reply_to (work_after_all work asks) h.0)) in
+    (asks, h.0, h.2, (given ++ item ∷ [], has, given_asks_more given asks item h.0 asked h.1), list_more may_leave now session work put asks h.0 h.3)
+broke_off T (ends.Read failed) may_leave now session was ended work before bytes given asks item had asked has h = absurd h
+broke_off T ends.TooLong may_leave now session was ended work before bytes given asks item had asked has h = absurd h
+broke_off T (ends.Damaged damage) may_leave now session was ended work before bytes given asks item had asked has h = absurd h
 
 -- an item that a reader gave
 pub read_some : (reader : Held) (bytes : List ℕ) (given : List Item) (o : Option Item) (item : Item) → o ≡ Some item → HasRead reader bytes (given ++ option_to_list o) → HasRead reader bytes (given ++ item ∷ [])
 read_some reader bytes given o item is h = let P : Option Item → Type 0 = λ x. HasRead reader bytes (given ++ option_to_list x) in subst P is h
 
-pub sound_some : (o : Option Item) (item : Item) (held : Held) (bytes : List ℕ) (given : List Item) → o ≡ Some item → IfSome o (λ found. (fed : List ℕ) (keeper : List Item) → HasRead held fed keeper → IsSound found) → HasRead held bytes given → IsSound item
-sound_some o item held bytes given is h read = (let P : Option Item → Type 0 = λ x. IfSome x (λ found. (fed : List ℕ) (keeper : List Item) → HasRead held fed keeper → IsSound found) in subst P is h) bytes given read
+pub sound_some : (o : Option Item) (item : Item) (held : Held) (bytes : List ℕ) (given : List Item) → o ≡ Some item → IfSome o (λ found. (fed : List ℕ) (items : List Item) → HasRead held fed items → IsSound found) → HasRead held bytes given → IsSound item
+sound_some o item held bytes given is h read = (let P : Option Item → Type 0 = λ x. IfSome x (λ found. (fed : List ℕ) (items : List Item) → HasRead held fed items → IsSound found) in subst P is h) bytes given read
 
 pub read_none : (reader : Held) (bytes : List ℕ) (given : List Item) (o : Option Item) → o ≡ None → HasRead reader bytes (given ++ option_to_list o) → HasRead reader bytes given
 read_none reader bytes given o is h =
@@ -99,9 +99,9 @@ read_none reader bytes given o is h =
     let Q : List Item → Type 0 = λ l. HasRead reader bytes l in
     subst Q (append-nil given) (subst P is h)
 
-pub holds_none : (o : Option Item) (held : Held) (ended : Bool) (bytes : List ℕ) (given : List Item) → o ≡ None → IfNone o ((fed : List ℕ) (keeper : List Item) → HasRead held fed keeper → HoldsNoMore held.ended fed keeper) → HasRead held bytes given → ended ≡ held.ended → HoldsNoMore ended bytes given
+pub holds_none : (o : Option Item) (held : Held) (ended : Bool) (bytes : List ℕ) (given : List Item) → o ≡ None → IfNone o ((fed : List ℕ) (items : List Item) → HasRead held fed items → HoldsNoMore held.ended fed items) → HasRead held bytes given → ended ≡ held.ended → HoldsNoMore ended bytes given
 holds_none o held ended bytes given is h read same =
-    let P : Option Item → Type 0 = λ x. IfNone x ((fed : List ℕ) (keeper : List Item) → HasRead held fed keeper → HoldsNoMore held.ended fed keeper) in
+    let P : Option Item → Type 0 = λ x. IfNone x ((fed : List ℕ) (items : List Item) → HasRead held fed items → HoldsNoMore held.ended fed items) in
     let Q : Bool → Type 0 = λ b. HoldsNoMore b bytes given in
     subst Q (sym same) (subst P is h bytes given read)
 

@@ -1,9 +1,12 @@
 -- A keeper at work on a disk, and what a crash now leaves of it.
-use Rattle.std.proofs.Common.{◌≡◌, inr, List, Bool, sym, ap, subst, ◌∙◌}
-use Rattle.s80_change.specs.declared.change.Change.{Change}
+use Rattle.std.proofs.Common.{◌≡◌, inr, List, Bool, take, sym, ap, subst, ◌∙◌}
+use Rattle.s80_block.specs.declared.change.Change.{Change}
 use Rattle.s80_disk.specs.Image.{Image}
 use Rattle.s80_mark.specs.Mark.{valid_mark}
-use Rattle.s80_keeper.specs.Keeper.{KeeperState, Keeps}
+use Rattle.s80_log.specs.Log.{log_file}
+use Rattle.s80_state.specs.List.{state_of}
+use Rattle.s80_state.specs.System.{IsSystemOf}
+use Rattle.s80_keeper.specs.Keeper.{KeeperState, Keeps, Knows}
 use Rattle.s80_keeper.specs.Standing.{FilesStandFor, StandsFor}
 
 module _ (tells : Bool) (reads : Image) (may_leave : Image → Type 0) (keeper : KeeperState) (changes : List Change) where
@@ -15,14 +18,14 @@ module _ (tells : Bool) (reads : Image) (may_leave : Image → Type 0) (keeper :
     named = h.named;
     end = h.end;
     built = h.built;
-    classes = h.classes;
+    system = h.system;
     count = h.count;
     faultless = h.faultless;
   }
 
   -- and where a keeper has prepared a change
-  pub keeps_prepared : (now : KeeperState) → now ≡ record keeper { system = now.system } → now.system.classes ≡ keeper.system.classes → Keeps tells reads may_leave keeper changes → Keeps tells reads may_leave now changes
-  keeps_prepared now same classes h =
+  pub keeps_prepared : (now : KeeperState) → now ≡ record keeper { system = now.system } → IsSystemOf now.system (state_of changes) → Keeps tells reads may_leave keeper changes → Keeps tells reads may_leave now changes
+  keeps_prepared now same system h =
       let P : KeeperState → Type 0 = λ k. Keeps tells reads may_leave k changes in
       subst P (sym same) (record {
         stands = h.stands;
@@ -30,13 +33,21 @@ module _ (tells : Bool) (reads : Image) (may_leave : Image → Type 0) (keeper :
         named = h.named;
         end = h.end;
         built = h.built;
-        classes = classes ∙ h.classes;
+        system = system;
         count = h.count;
         faultless = h.faultless;
       })
 
   pub keeps_stands : Keeps tells reads may_leave keeper changes → StandsFor tells reads may_leave changes
   keeps_stands h = record { told = h.stands.told; stands = inr (keeper.mark, h.stands, h.no_image, h.built) }
+
+  -- the keeper's log is that of the mark
+  pub keeps_knows : Keeps tells reads may_leave keeper changes → Knows reads keeper changes
+  keeps_knows h = record {
+    log = (λ i. take (sym h.end i) (reads (log_file (sym h.named i)))) ∙ h.stands.files.bytes;
+    system = h.system;
+    count = h.count;
+  }
 
   -- every crash now leaves files that stand for its list
   pub keeps_leaves : Keeps tells reads may_leave keeper changes → (c : Image) → may_leave c → FilesStandFor c changes

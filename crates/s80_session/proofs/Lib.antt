@@ -5,7 +5,8 @@ pub mod Finishing
 pub mod Keeping
 pub mod Lasting
 pub mod Lawful
+pub mod Reading
 pub mod Stepping
 pub mod Taking
-pub mod UnderWay
 pub mod Telling
+pub mod UnderWay

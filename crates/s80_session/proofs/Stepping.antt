@@ -1,117 +1,239 @@
 -- One step of a session.
-use Rattle.std.proofs.Common.{◌≡◌, inl, inr, ℕ, List, ◌++◌, take, refl, sym, ap, subst, ◌∙◌, Result, Ok, Err, Bool, true, false}
-use Rattle.std.specs.Prelude.{◌||◌}
+use Rattle.std.proofs.Common.{◌≡◌, inl, inr, ℕ, List, ◌++◌, take, refl, sym, ap, subst, ◌∙◌, Result, Ok, Err, Some, Bool, true, false}
+use Rattle.std.specs.Prelude.{◌||◌, None, length}
 use Rattle.std.proofs.lemmas.List.{append-nil}
 use Rattle.s80_chunk.specs.declared.item.Role.{Role}
 use Rattle.s80_chunk.specs.declared.item.Role.TheVariants as roles
 use Rattle.s80_chunk.specs.declared.item.Item.TheVariants as items
-use Rattle.s80_change.specs.declared.change.Change.{Change}
+use Rattle.s80_block.specs.declared.change.Change.{Change}
 use Rattle.s80_change.specs.declared.refusal.Refusal.{Refusal}
 use Rattle.s80_disk.specs.Image.{Image}
 use Rattle.s80_disk.specs.Moments.{LeavesOnly}
 use Rattle.s80_disk.proofs.Run.{weaker}
-use Rattle.s80_keeper.specs.Keeper.{KeeperState, Keeps}
-use Rattle.s80_session.specs.declared.reply.Reply.{Reply}
-use Rattle.s80_session.specs.declared.reply.Reply.TheVariants.{Silent, Refused}
-use Rattle.s80_session.specs.declared.item.SessionItem.{SessionItem}
-use Rattle.s80_session.specs.declared.item.Query.{Query as SessionQuery}
-use Rattle.s80_session.specs.declared.item.SessionItem.TheVariants.{Chunk, Query}
-use Rattle.s80_session.specs.declared.end.SessionEnd.{SessionEnd}
-use Rattle.s80_session.specs.declared.end.SessionEnd.TheVariants as ends
 use Rattle.s80_keeper.specs.declared.start.StartFault.{StartFault}
 use Rattle.s80_keeper.specs.declared.start.StartFault.TheVariants as faults
+use Rattle.s80_keeper.specs.Keeper.{KeeperState, Keeps}
 use Rattle.s80_keeper.specs.Start.{Started}
-use Rattle.s80_apply.specs.List.{add}
-use Rattle.s80_session.specs.Told.{told}
-use Rattle.s80_session.specs.Asked.{Ask, refuses, adds, nothing, tells, IsSyntaxRefusal, IsChangeOf, ask_of_too_long, Asks}
-use Rattle.s80_session.specs.Replies.{list_or, reply_to_adding, reply_to, reply_text, is_refused, list_after}
-use Rattle.s80_session.specs.Run.{Shown}
-use Rattle.s80_session.proofs.Keeping.{keeps_less}
+use Rattle.s80_section.specs.declared.head.SectionHead.{SectionHead}
+use Rattle.s80_section.specs.declared.source_check.SourceCheck.{SourceCheck}
+use Rattle.s80_section.specs.Check.{IsCheckOf}
+use Rattle.s80_state.specs.List.{add, state_of}
+use Rattle.s80_model.specs.declared.item.Query.{Query as SessionQuery}
+use Rattle.s80_model.specs.declared.item.SessionItem.{SessionItem}
+use Rattle.s80_model.specs.declared.item.SessionItem.TheVariants.{Chunk, Unended, Query}
+use Rattle.s80_model.specs.declared.reply.Answer.{Answer}
+use Rattle.s80_model.specs.declared.reply.Reply.{Reply}
+use Rattle.s80_model.specs.declared.reply.Reply.TheVariants.{Silent, Refused}
+use Rattle.s80_model.specs.declared.section.Section.{Section}
+use Rattle.s80_model.specs.declared.section.Section.TheVariants as sections
+use Rattle.s80_model.specs.Asked.{Ask, refuses, adds, opens, refuses_head, adds_source, refuses_source, closes, tells, ask_of_too_long, Asks, AsksPlain, AsksHead, AsksMethod}
+use Rattle.s80_model.specs.Replies.{IsAnswer, Work, list_or, list_after_source, method_in, reply_to, reply_to_adding, reply_to_source, reply_text, is_refused, work_after}
+use Rattle.s80_model.specs.Section.{section_or}
+use Rattle.s80_model.specs.Told.{told}
+use Rattle.s80_session.specs.declared.end.SessionEnd.{SessionEnd}
+use Rattle.s80_session.specs.declared.end.SessionEnd.TheVariants as ends
+use Rattle.s80_session.specs.declared.session.Session.{Session}
 use Rattle.s80_session.specs.Ends.{end_of_start}
-use Rattle.s80_session.specs.Working.{IsAt, Kept, Worked, Stepped, IsPut, AnswerPut, KeepLeaves, WorkLeaves, Starts}
+use Rattle.s80_session.specs.Run.{Shown, HasKept}
+use Rattle.s80_session.specs.Session.{keeper_of, section_of, troubled_of}
+use Rattle.s80_session.specs.Working.{IsAt, Kept, Replied, Worked, Stepped, Unworked, IsPut, AnswerPut, KeepLeaves, WorkLeaves, Starts, adding, listed}
+use Rattle.s80_session.proofs.Keeping.{keeps_less}
+
+-- ---- texts that are kept
 
 -- a text that is a change is worked by keeping it
-pub worked_plain : (r : Result Reply SessionEnd) (may_leave : Image → Type 0) (now : Shown) (keeper : KeeperState) (changes : List Change) (put text : List ℕ) (change : Change) → IsChangeOf text change → Kept r may_leave now keeper changes put change → Worked r may_leave now keeper changes put (Chunk (items.Plain text))
-worked_plain (Ok reply) may_leave now keeper changes put text change is h = (adds change, is, h.0, h.1)
-worked_plain (Err ends.Memory) may_leave now keeper changes put text change is h = h
-worked_plain (Err (ends.Disk failed)) may_leave now keeper changes put text change is h = h
-worked_plain (Err (ends.Read failed)) may_leave now keeper changes put text change is h = h
-worked_plain (Err (ends.Write failed)) may_leave now keeper changes put text change is h = h
-worked_plain (Err ends.TooLong) may_leave now keeper changes put text change is h = h
-worked_plain (Err (ends.Damaged damage)) may_leave now keeper changes put text change is h = h
+pub replied_plain : (r : Result Reply SessionEnd) (may_leave : Image → Type 0) (now : Shown) (session : Session) (work : Work) (put text : List ℕ) (change : Change) → AsksPlain text (adds change) → Kept r may_leave now session work put change → Replied r may_leave now session work put (Chunk (items.Plain text))
+replied_plain (Ok reply) may_leave now session work put text change is h = (adds change, is, h.0, h.1)
+replied_plain (Err end) may_leave now session work put text change is h = h
 
--- one that has no tree is refused
-pub worked_fault : (may_leave : Image → Type 0) (now : Shown) (keeper : KeeperState) (changes : List Change) (put text : List ℕ) (refusal : Refusal) → IsSyntaxRefusal text refusal → IsAt may_leave now keeper changes put → Worked (Ok (Refused refusal)) may_leave now keeper changes put (Chunk (items.Plain text))
-worked_fault may_leave now keeper changes put text refusal is h = (refuses refusal, is, refl, h)
+-- one that is none is refused
+pub replied_refusal : (may_leave : Image → Type 0) (now : Shown) (session : Session) (work : Work) (put text : List ℕ) (refusal : Refusal) → AsksPlain text (refuses refusal) → IsAt may_leave now session work put → Replied (Ok (Refused refusal)) may_leave now session work put (Chunk (items.Plain text))
+replied_refusal may_leave now session work put text refusal is h = (refuses refusal, is, refl, h)
 
--- one that asks something by which the list stays
-pub worked_asked : (may_leave : Image → Type 0) (now : Shown) (keeper : KeeperState) (changes : List Change) (put : List ℕ) (item : SessionItem) (ask : Ask) (reply : Reply) → Asks item ask → reply ≡ reply_to changes ask → list_after changes ask ≡ changes → IsAt may_leave now keeper changes put → Worked (Ok reply) may_leave now keeper changes put item
-worked_asked may_leave now keeper changes put item ask reply one is stays h = (ask, one, is, let P : List Change → Type 0 = λ l. IsAt may_leave now keeper l put in subst P (sym stays) h)
+-- a source is worked by keeping its method, in a section that is open
+pub replied_source : (r : Result Reply SessionEnd) (may_leave : Image → Type 0) (now : Shown) (session : Session) (work : Work) (put source : List ℕ) (check : SourceCheck) (head : SectionHead) (change : Change) → change ≡ method_in head source check → work.section ≡ sections.Open head → IsCheckOf source check → Kept r may_leave now session work put change → Replied r may_leave now session work put (Chunk (items.Method source))
+replied_source (Ok reply) may_leave now session work put source check head change method section is h =
+    let P : Section → Type 0 = λ s. (reply ≡ reply_to_source work.changes s source check) × IsAt may_leave now session (record work { changes = list_after_source work.changes s source check }) put in
+    let Q : Change → Type 0 = λ c. (reply ≡ reply_to_adding (add work.changes c)) × IsAt may_leave now session (adding work c) put in
+    let both = subst P (sym section) (subst Q method h) in
+    (adds_source source check, (refl, is), both.0, both.1)
+replied_source (Err end) may_leave now session work put source check head change method section is h = h
 
-pub worked_query : (may_leave : Image → Type 0) (now : Shown) (keeper : KeeperState) (changes : List Change) (put : List ℕ) (query : SessionQuery) (reply : Reply) → reply ≡ told keeper.system.classes keeper.count query → IsAt may_leave now keeper changes put → Worked (Ok reply) may_leave now keeper changes put (Query query)
-worked_query may_leave now keeper changes put query reply is h = (tells query, refl, is ∙ (λ i. told (h.keeps.classes i) (h.keeps.count i) query), h)
+-- in every other section it is passed over
+passes_over : (may_leave : Image → Type 0) (now : Shown) (session : Session) (work : Work) (put source : List ℕ) (check : SourceCheck) (section : Section) → reply_to_source work.changes section source check ≡ Silent → list_after_source work.changes section source check ≡ work.changes → work.section ≡ section → IsCheckOf source check → IsAt may_leave now session work put → Replied (Ok Silent) may_leave now session work put (Chunk (items.Method source))
+passes_over may_leave now session work put source check section silent stays is checked h =
+    let P : List Change → Type 0 = λ l. IsAt may_leave now session (record work { changes = l }) put in
+    let Q : Section → Type 0 = λ s. (Silent ≡ reply_to_source work.changes s source check) × IsAt may_leave now session (record work { changes = list_after_source work.changes s source check }) put in
+    let both = subst Q (sym is) (sym silent, subst P (sym stays) h) in
+    (adds_source source check, (refl, checked), both.0, both.1)
 
-pub too_long_stays : (changes : List Change) (role : Role) (n : ℕ) → list_after changes (ask_of_too_long role n) ≡ changes
-too_long_stays changes roles.Plain n = refl
-too_long_stays changes roles.Head n = refl
-too_long_stays changes roles.Method n = refl
+pub passed_top : (may_leave : Image → Type 0) (now : Shown) (session : Session) (work : Work) (put source : List ℕ) (check : SourceCheck) → work.section ≡ sections.Top → IsCheckOf source check → IsAt may_leave now session work put → Replied (Ok Silent) may_leave now session work put (Chunk (items.Method source))
+passed_top may_leave now session work put source check is checked h = passes_over may_leave now session work put source check sections.Top refl refl is checked h
 
--- what a crash leaves while the change of a text is kept
-keep_works : (changes : List Change) (put text : List ℕ) (change : Change) (told : ℕ) (c : Image) → IsChangeOf text change → KeepLeaves changes put change told c → WorkLeaves changes put (Chunk (items.Plain text)) told c
-keep_works changes put text change told c is (inl h) = inl h
-keep_works changes put text change told c is (inr h) = inr (adds change, is, h)
+pub passed_refused : (may_leave : Image → Type 0) (now : Shown) (session : Session) (work : Work) (put source : List ℕ) (check : SourceCheck) → work.section ≡ sections.Refused → IsCheckOf source check → IsAt may_leave now session work put → Replied (Ok Silent) may_leave now session work put (Chunk (items.Method source))
+passed_refused may_leave now session work put source check is checked h = passes_over may_leave now session work put source check sections.Refused refl refl is checked h
+
+-- what a crash leaves while a change is kept
+keep_works : (work : Work) (put : List ℕ) (item : SessionItem) (ask : Ask) (change : Change) (told : ℕ) (c : Image) → Asks item ask → (work_after work ask).changes ≡ list_or (add work.changes change) work.changes → KeepLeaves work put change told c → WorkLeaves work put item told c
+keep_works work put item ask change told c one is (inl h) = inl h
+keep_works work put item ask change told c one is (inr h) = inr (ask, one, let P : List Change → Type 0 = λ l. HasKept l (length put) told c in subst P (sym is) h)
 
 module _ {D : Type 0} (moment : D → ℕ) (left_since : D → ℕ → ℕ → Image → Type 0) where
-  pub plain_lasts : (old new : D) (changes : List Change) (put text : List ℕ) (change : Change) → IsChangeOf text change → LeavesOnly moment left_since old new (KeepLeaves changes put change) → LeavesOnly moment left_since old new (WorkLeaves changes put (Chunk (items.Plain text)))
-  plain_lasts old new changes put text change is run = weaker moment left_since old new (KeepLeaves changes put change) (WorkLeaves changes put (Chunk (items.Plain text))) run (λ told c h. keep_works changes put text change told c is h)
+  kept_lasts : (old new : D) (work : Work) (put : List ℕ) (item : SessionItem) (ask : Ask) (change : Change) → Asks item ask → (work_after work ask).changes ≡ list_or (add work.changes change) work.changes → LeavesOnly moment left_since old new (KeepLeaves work put change) → LeavesOnly moment left_since old new (WorkLeaves work put item)
+  kept_lasts old new work put item ask change one is run = weaker moment left_since old new (KeepLeaves work put change) (WorkLeaves work put item) run (λ told c h. keep_works work put item ask change told c one is h)
+
+  pub plain_lasts : (old new : D) (work : Work) (put text : List ℕ) (change : Change) → AsksPlain text (adds change) → LeavesOnly moment left_since old new (KeepLeaves work put change) → LeavesOnly moment left_since old new (WorkLeaves work put (Chunk (items.Plain text)))
+  plain_lasts old new work put text change is run = kept_lasts old new work put (Chunk (items.Plain text)) (adds change) change is refl run
+
+  pub source_lasts : (old new : D) (work : Work) (put source : List ℕ) (check : SourceCheck) (head : SectionHead) (change : Change) → change ≡ method_in head source check → work.section ≡ sections.Open head → IsCheckOf source check → LeavesOnly moment left_since old new (KeepLeaves work put change) → LeavesOnly moment left_since old new (WorkLeaves work put (Chunk (items.Method source)))
+  source_lasts old new work put source check head change method section is run =
+      kept_lasts old new work put (Chunk (items.Method source)) (adds_source source check) change (refl, is) (ap (λ s. list_after_source work.changes s source check) section ∙ ap (λ c. list_or (add work.changes c) work.changes) (sym method)) run
+
+-- ---- the answer to an item
+
+-- an answer by which list and section are as what was asked makes them
+pub worked_so : (may_leave : Image → Type 0) (now : Shown) (session : Session) (work : Work) (put : List ℕ) (item : SessionItem) (ask : Ask) (answer : Answer) → Asks item ask → IsAnswer work ask answer → (work_after work ask).changes ≡ work.changes → IsAt may_leave now session work put → Worked (Ok answer) may_leave now session work put item
+worked_so may_leave now session work put item ask answer one is stays h =
+    let P : List Change → Type 0 = λ l. IsAt may_leave now session (record work { changes = l }) put in
+    (ask, one, is, subst P (sym stays) h)
+
+plain_stays : (work : Work) (text : List ℕ) (ask : Ask) → AsksPlain text ask → (work_after work ask).section ≡ work.section
+plain_stays work text (refuses refusal) h = refl
+plain_stays work text (adds change) h = refl
+plain_stays work text (opens head) h = absurd h
+plain_stays work text (refuses_head refusal) h = absurd h
+plain_stays work text (adds_source source check) h = absurd h
+plain_stays work text (refuses_source refusal) h = absurd h
+plain_stays work text closes h = absurd h
+plain_stays work text (tells query) h = absurd h
+
+method_stays : (work : Work) (text : List ℕ) (ask : Ask) → AsksMethod text ask → (work_after work ask).section ≡ work.section
+method_stays work text (adds_source source check) h = refl
+method_stays work text (refuses refusal) h = absurd h
+method_stays work text (adds change) h = absurd h
+method_stays work text (opens head) h = absurd h
+method_stays work text (refuses_head refusal) h = absurd h
+method_stays work text (refuses_source refusal) h = absurd h
+method_stays work text closes h = absurd h
+method_stays work text (tells query) h = absurd h
+
+-- a reply to an item that leaves the section is its answer
+staying : (may_leave : Image → Type 0) (now : Shown) (session : Session) (work : Work) (put : List ℕ) (item : SessionItem) (ask : Ask) (answer : Answer) → Asks item ask → (work_after work ask).section ≡ work.section → answer.reply ≡ reply_to work ask → section_or answer.section work.section ≡ work.section → IsAt may_leave now session (work_after work ask) put → Worked (Ok answer) may_leave now session work put item
+staying may_leave now session work put item ask answer one stays is same h =
+    (ask, one, (is, same ∙ sym stays), record { keeps = h.keeps; section = h.section ∙ stays; taken = h.taken; told = h.told })
+
+-- it stays where an answer names no section
+abbrev pub IsStaying : Reply → Answer → Type 0
+IsStaying reply answer = answer ≡ record { reply = reply; section = None }
+
+pub worked_plain : (may_leave : Image → Type 0) (now : Shown) (session : Session) (work : Work) (put text : List ℕ) (reply : Reply) (answer : Answer) → IsStaying reply answer → Replied (Ok reply) may_leave now session work put (Chunk (items.Plain text)) → Worked (Ok answer) may_leave now session work put (Chunk (items.Plain text))
+worked_plain may_leave now session work put text reply answer is h =
+    staying may_leave now session work put (Chunk (items.Plain text)) h.0 answer h.1 (plain_stays work text h.0 h.1) (ap (λ (a : Answer). a.reply) is ∙ h.2) (ap (λ (a : Answer). section_or a.section work.section) is) h.3
+
+pub worked_method : (may_leave : Image → Type 0) (now : Shown) (session : Session) (work : Work) (put text : List ℕ) (reply : Reply) (answer : Answer) → IsStaying reply answer → Replied (Ok reply) may_leave now session work put (Chunk (items.Method text)) → Worked (Ok answer) may_leave now session work put (Chunk (items.Method text))
+worked_method may_leave now session work put text reply answer is h =
+    staying may_leave now session work put (Chunk (items.Method text)) h.0 answer h.1 (method_stays work text h.0 h.1) (ap (λ (a : Answer). a.reply) is ∙ h.2) (ap (λ (a : Answer). section_or a.section work.section) is) h.3
+
+pub worked_query : (may_leave : Image → Type 0) (now : Shown) (session : Session) (work : Work) (put : List ℕ) (query : SessionQuery) (reply : Reply) (answer : Answer) → IsStaying reply answer → Replied (Ok reply) may_leave now session work put (Query query) → Worked (Ok answer) may_leave now session work put (Query query)
+worked_query may_leave now session work put query reply answer is h =
+    let P : Ask → Type 0 = λ a. (work_after work a).section ≡ work.section in
+    staying may_leave now session work put (Query query) h.0 answer h.1 (subst P (sym h.1) refl) (ap (λ (a : Answer). a.reply) is ∙ h.2) (ap (λ (a : Answer). section_or a.section work.section) is) h.3
+
+head_lists : (work : Work) (text : List ℕ) (ask : Ask) → AsksHead text ask → (work_after work ask).changes ≡ work.changes
+head_lists work text (opens head) h = refl
+head_lists work text (refuses_head refusal) h = refl
+head_lists work text (refuses refusal) h = absurd h
+head_lists work text (adds change) h = absurd h
+head_lists work text (adds_source source check) h = absurd h
+head_lists work text (refuses_source refusal) h = absurd h
+head_lists work text closes h = absurd h
+head_lists work text (tells query) h = absurd h
+
+pub worked_head : (may_leave : Image → Type 0) (now : Shown) (session : Session) (work : Work) (put text : List ℕ) (answer : Answer) → (ask : Ask) × AsksHead text ask × IsAnswer work ask answer → IsAt may_leave now session work put → Worked (Ok answer) may_leave now session work put (Chunk (items.Head text))
+worked_head may_leave now session work put text answer is h = worked_so may_leave now session work put (Chunk (items.Head text)) is.0 answer is.1 is.2 (head_lists work text is.0 is.1) h
+
+too_long_lists : (work : Work) (role : Role) (n : ℕ) → (work_after work (ask_of_too_long role n)).changes ≡ work.changes
+too_long_lists work roles.Plain n = refl
+too_long_lists work roles.Head n = refl
+too_long_lists work roles.Method n = refl
+
+pub worked_too_long : (may_leave : Image → Type 0) (now : Shown) (session : Session) (work : Work) (put : List ℕ) (role : Role) (n : ℕ) (answer : Answer) → IsAnswer work (ask_of_too_long role n) answer → IsAt may_leave now session work put → Worked (Ok answer) may_leave now session work put (Chunk (items.TooLong role n))
+worked_too_long may_leave now session work put role n answer is h = worked_so may_leave now session work put (Chunk (items.TooLong role n)) (ask_of_too_long role n) answer refl is (too_long_lists work role n) h
+
+-- what a query is told
+pub replied_told : (may_leave : Image → Type 0) (now : Shown) (session : Session) (work : Work) (put : List ℕ) (query asked : SessionQuery) (count : ℕ) (reply : Reply) → query ≡ asked → count ≡ length work.changes → reply ≡ told (state_of work.changes) count asked → IsAt may_leave now session work put → Replied (Ok reply) may_leave now session work put (Query query)
+replied_told may_leave now session work put query asked count reply is counted told_is h = (tells query, refl, told_is ∙ (λ i. told (state_of work.changes) (counted i) (sym is i)), h)
+
+-- ---- the section is entered
+
+pub entered : (may_leave : Image → Type 0) (now : Shown) (mid session : Session) (work : Work) (put : List ℕ) (ask : Ask) (answer : Answer) → IsAnswer work ask answer → section_of session ≡ section_or answer.section (section_of mid) → keeper_of session ≡ keeper_of mid → IsAt may_leave now mid (listed work ask) put → IsAt may_leave now session (work_after work ask) put
+entered may_leave now mid session work put ask answer is section same h = record {
+  keeps = let P : KeeperState → Type 0 = λ k. Keeps now.tells now.files may_leave k (work_after work ask).changes in subst P (sym same) h.keeps;
+  section = section ∙ ap (section_or answer.section) h.section ∙ is.1;
+  taken = h.taken;
+  told = h.told;
+}
 
 -- where the work breaks off, nothing is answered
-pub worked_err : (T : Type 0) (end : SessionEnd) (may_leave : Image → Type 0) (now : Shown) (keeper : KeeperState) (was troubled : Bool) (changes : List Change) (put : List ℕ) (item : SessionItem) → Worked (Err end) may_leave now keeper changes put item → Stepped {T = T} (Err end) may_leave now keeper was troubled changes put item
-worked_err T ends.Memory may_leave now keeper was troubled changes put item h = h
-worked_err T (ends.Disk failed) may_leave now keeper was troubled changes put item h = h
-worked_err T (ends.Read failed) may_leave now keeper was troubled changes put item h = h
-worked_err T (ends.Write failed) may_leave now keeper was troubled changes put item h = absurd h
-worked_err T ends.TooLong may_leave now keeper was troubled changes put item h = h
-worked_err T (ends.Damaged damage) may_leave now keeper was troubled changes put item h = h
+pub worked_err : (T : Type 0) (end : SessionEnd) (may_leave : Image → Type 0) (now : Shown) (session : Session) (was : Bool) (work : Work) (put : List ℕ) (item : SessionItem) → Unworked end may_leave now session work put → Stepped {T = T} (Err end) may_leave now session was work put item
+worked_err T ends.Memory may_leave now session was work put item h = h
+worked_err T (ends.Disk failed) may_leave now session was work put item h = h
+worked_err T (ends.Read failed) may_leave now session was work put item h = h
+worked_err T (ends.Write failed) may_leave now session was work put item h = absurd h
+worked_err T ends.TooLong may_leave now session was work put item h = h
+worked_err T (ends.Damaged damage) may_leave now session was work put item h = h
 
 adding_refused : (r : Result (List Change) Refusal) (changes : List Change) (refusal : Refusal) → reply_to_adding r ≡ Refused refusal → list_or r changes ≡ changes
 adding_refused (Ok list) changes refusal e = cc
 adding_refused (Err other) changes refusal e = refl
 
--- a refusal changes nothing
-refused_stays : (changes : List Change) (ask : Ask) (refusal : Refusal) → reply_to changes ask ≡ Refused refusal → list_after changes ask ≡ changes
-refused_stays changes (refuses other) refusal e = refl
-refused_stays changes (adds change) refusal e = adding_refused (add changes change) changes refusal e
-refused_stays changes nothing refusal e = refl
-refused_stays changes (tells query) refusal e = refl
+source_refused : (changes : List Change) (section : Section) (source : List ℕ) (check : SourceCheck) (refusal : Refusal) → reply_to_source changes section source check ≡ Refused refusal → list_after_source changes section source check ≡ changes
+source_refused changes sections.Top source check refusal e = refl
+source_refused changes (sections.Open head) source check refusal e = adding_refused (add changes (method_in head source check)) changes refusal e
+source_refused changes sections.Refused source check refusal e = refl
 
-pub refused_is_at : (may_leave : Image → Type 0) (now : Shown) (keeper : KeeperState) (changes : List Change) (put : List ℕ) (ask : Ask) (refusal : Refusal) → reply_to changes ask ≡ Refused refusal → IsAt may_leave now keeper (list_after changes ask) put → IsAt may_leave now keeper changes put
-refused_is_at may_leave now keeper changes put ask refusal e h = let P : List Change → Type 0 = λ l. IsAt may_leave now keeper l put in subst P (refused_stays changes ask refusal e) h
+-- a refusal leaves the list
+refused_stays : (work : Work) (ask : Ask) (refusal : Refusal) → reply_to work ask ≡ Refused refusal → (work_after work ask).changes ≡ work.changes
+refused_stays work (refuses other) refusal e = refl
+refused_stays work (adds change) refusal e = adding_refused (add work.changes change) work.changes refusal e
+refused_stays work (opens head) refusal e = refl
+refused_stays work (refuses_head other) refusal e = refl
+refused_stays work (adds_source source check) refusal e = source_refused work.changes work.section source check refusal e
+refused_stays work (refuses_source other) refusal e = refl
+refused_stays work closes refusal e = refl
+refused_stays work (tells query) refusal e = refl
+
+-- so where its line isn't made, list and section are as they were
+pub refused_is_at : (may_leave : Image → Type 0) (now : Shown) (session : Session) (work : Work) (put : List ℕ) (ask : Ask) (refusal : Refusal) → reply_to work ask ≡ Refused refusal → IsAt may_leave now session (listed work ask) put → IsAt may_leave now session work put
+refused_is_at may_leave now session work put ask refusal e h =
+    let P : List Change → Type 0 = λ l. IsAt may_leave now session (record work { changes = l }) put in
+    subst P (refused_stays work ask refusal e) h
 
 -- after a put the disk stands as it did
-at_put : (was may_leave : Image → Type 0) (mid now : Shown) (keeper : KeeperState) (changes : List Change) (before put : List ℕ) → IsAt was mid keeper changes before → ((c : Image) → may_leave c → was c) → now ≡ record mid { taken = now.taken; told = now.told } → IsPut now.taken now.told put → IsAt may_leave now keeper changes put
-at_put was may_leave mid now keeper changes before put h less e is_put = record {
-  keeps = let P : Shown → Type 0 = λ o. Keeps o.tells o.files may_leave keeper changes in subst P (sym e) (keeps_less mid.tells mid.files may_leave keeper changes was less h.keeps);
+at_put : (was may_leave : Image → Type 0) (mid now : Shown) (session : Session) (work : Work) (before put : List ℕ) → IsAt was mid session work before → ((c : Image) → may_leave c → was c) → now ≡ record mid { taken = now.taken; told = now.told } → IsPut now.taken now.told put → IsAt may_leave now session work put
+at_put was may_leave mid now session work before put h less e is_put = record {
+  keeps = let P : Shown → Type 0 = λ o. Keeps o.tells o.files may_leave (keeper_of session) work.changes in subst P (sym e) (keeps_less mid.tells mid.files may_leave (keeper_of session) work.changes was less h.keeps);
+  section = h.section;
   taken = is_put.0;
   told = is_put.1;
 }
 
 -- an item that was worked is answered
-pub answered : {T : Type 0} (r : Result T SessionEnd) (was_left may_leave : Image → Type 0) (mid now : Shown) (keeper : KeeperState) (was troubled : Bool) (changes : List Change) (put line : List ℕ) (item : SessionItem) (ask : Ask) → Asks item ask → IsAt was_left mid keeper (list_after changes ask) put → line ≡ reply_text (reply_to changes ask) → troubled ≡ (was || is_refused (reply_to changes ask))
-    → AnswerPut r now.taken now.told put line → ((c : Image) → may_leave c → was_left c) → now ≡ record mid { taken = now.taken; told = now.told } → Stepped r may_leave now keeper was troubled changes put item
-answered (Ok done) was_left may_leave mid now keeper was troubled changes put line item ask one h is calm p less e =
-    (ask, one, calm, at_put was_left may_leave mid now keeper (list_after changes ask) put (put ++ reply_text (reply_to changes ask)) h less e (let P : List ℕ → Type 0 = λ l. IsPut now.taken now.told (put ++ l) in subst P is p))
-answered (Err (ends.Write failed)) was_left may_leave mid now keeper was troubled changes put line item ask one h is calm p less e =
-    (ask, one, p.0, at_put was_left may_leave mid now keeper (list_after changes ask) put (put ++ take p.0 (reply_text (reply_to changes ask))) h less e (let P : List ℕ → Type 0 = λ l. IsPut now.taken now.told (put ++ take p.0 l) in subst P is p.1))
-answered (Err ends.Memory) was_left may_leave mid now keeper was troubled changes put line item ask one h is calm p less e = absurd p
-answered (Err (ends.Disk failed)) was_left may_leave mid now keeper was troubled changes put line item ask one h is calm p less e = absurd p
-answered (Err (ends.Read failed)) was_left may_leave mid now keeper was troubled changes put line item ask one h is calm p less e = absurd p
-answered (Err ends.TooLong) was_left may_leave mid now keeper was troubled changes put line item ask one h is calm p less e = absurd p
-answered (Err (ends.Damaged damage)) was_left may_leave mid now keeper was troubled changes put line item ask one h is calm p less e = absurd p
+pub answered : {T : Type 0} (r : Result T SessionEnd) (was_left may_leave : Image → Type 0) (mid now : Shown) (session : Session) (was : Bool) (work : Work) (put line : List ℕ) (item : SessionItem) (ask : Ask) → Asks item ask → IsAt was_left mid session (work_after work ask) put → line ≡ reply_text (reply_to work ask) → troubled_of session ≡ (was || is_refused (reply_to work ask))
+    → AnswerPut r now.taken now.told put line → ((c : Image) → may_leave c → was_left c) → now ≡ record mid { taken = now.taken; told = now.told } → Stepped r may_leave now session was work put item
+answered (Ok done) was_left may_leave mid now session was work put line item ask one h is calm p less e =
+    (ask, one, calm, at_put was_left may_leave mid now session (work_after work ask) put (put ++ reply_text (reply_to work ask)) h less e (let P : List ℕ → Type 0 = λ l. IsPut now.taken now.told (put ++ l) in subst P is p))
+answered (Err (ends.Write failed)) was_left may_leave mid now session was work put line item ask one h is calm p less e =
+    (ask, one, p.0, at_put was_left may_leave mid now session (work_after work ask) put (put ++ take p.0 (reply_text (reply_to work ask))) h less e (let P : List ℕ → Type 0 = λ l. IsPut now.taken now.told (put ++ take p.0 l) in subst P is p.1))
+answered (Err ends.Memory) was_left may_leave mid now session was work put line item ask one h is calm p less e = absurd p
+answered (Err (ends.Disk failed)) was_left may_leave mid now session was work put line item ask one h is calm p less e = absurd p
+answered (Err (ends.Read failed)) was_left may_leave mid now session was work put line item ask one h is calm p less e = absurd p
+answered (Err ends.TooLong) was_left may_leave mid now session was work put line item ask one h is calm p less e = absurd p
+answered (Err (ends.Damaged damage)) was_left may_leave mid now session was work put line item ask one h is calm p less e = absurd p
 
 -- an item that isn't answered
-pub silent : (may_leave : Image → Type 0) (now : Shown) (keeper : KeeperState) (list : List Change) (put : List ℕ) (reply : Reply) → reply ≡ Silent → IsAt may_leave now keeper list put → IsAt may_leave now keeper list (put ++ reply_text reply)
-silent may_leave now keeper list put reply is h = let P : List ℕ → Type 0 = λ l. IsAt may_leave now keeper list l in subst P (sym (append-nil put) ∙ ap (λ r. put ++ reply_text r) (sym is)) h
+pub silent : (may_leave : Image → Type 0) (now : Shown) (session : Session) (work : Work) (put : List ℕ) (reply : Reply) → reply ≡ Silent → IsAt may_leave now session work put → IsAt may_leave now session work (put ++ reply_text reply)
+silent may_leave now session work put reply is h = let P : List ℕ → Type 0 = λ l. IsAt may_leave now session work l in subst P (sym (append-nil put) ∙ ap (λ r. put ++ reply_text r) (sym is)) h
 
 -- whether something was refused
 pub still_troubled : (was now : Bool) (reply : Reply) → is_refused reply ≡ false → now ≡ was → now ≡ (was || is_refused reply)

@@ -6,25 +6,25 @@ use Rattle.s80_chunk.specs.Chunks.{Reads}
 use Rattle.s80_chunk.specs.Chunks.Reads.{stop}
 use Rattle.s80_chunk.specs.Held.{Held, HasRead, HoldsNoMore, fed}
 use Rattle.s80_chunk.proofs.Reading.{reads_more, reads_ended}
-use Rattle.s80_change.specs.declared.change.Change.{Change}
 use Rattle.s80_disk.specs.Image.{Image}
-use Rattle.s80_keeper.specs.Keeper.{KeeperState}
+use Rattle.s80_session.specs.declared.session.Session.{Session}
 use Rattle.s80_session.specs.declared.end.SessionEnd.{SessionEnd}
 use Rattle.s80_session.specs.declared.end.SessionEnd.TheVariants as ends
-use Rattle.s80_session.specs.Replies.{list_after_all, replies}
-use Rattle.s80_session.specs.Asked.{Ask, AllAsk}
+use Rattle.s80_model.specs.Replies.{Work, list_after_all, work_after_all, replies}
+use Rattle.s80_model.specs.Asked.{Ask, AllAsk}
 use Rattle.s80_session.specs.Run.{Shown, chunks, FirstItemsOf, FirstAsksOf, WholeAsksOf, Answered, BrokeOff, Ends, input_limit}
+use Rattle.s80_session.specs.Session.{keeper_of, troubled_of}
 use Rattle.s80_session.specs.Working.{IsAt, IsWorking, BeginsWith, BeginsAsking, BreaksOff, AnswersAll, Takes, AtEnd}
 use Rattle.s80_session.proofs.Keeping.{keeps_less, keeps_stands}
 
 -- a front of the input was taken, and what is whole of it is answered
-pub record IsTaking (may_leave : Image → Type 0) (now : Shown) (keeper : KeeperState) (troubled : Bool) (reader : Held) (changes : List Change) (input before : List ℕ) : Type 0 where
+pub record IsTaking (may_leave : Image → Type 0) (now : Shown) (session : Session) (reader : Held) (work : Work) (input before : List ℕ) : Type 0 where
   pub bytes : List ℕ
   pub left : List ℕ
   pub given : List Item
   pub input_is : input ≡ bytes ++ left
   pub left_is : now.left ≡ Some left
-  pub working : IsWorking may_leave now keeper troubled reader changes before bytes given
+  pub working : IsWorking may_leave now session reader work before bytes given
   pub none : HoldsNoMore false bytes given
 
 -- what a front of the input reads as is what the input begins with
@@ -40,32 +40,32 @@ first_of true bytes left input given h is none =
 pub first_asks : (ended : Bool) (bytes left input : List ℕ) (asks : List Ask) → BeginsAsking ended bytes asks → input ≡ bytes ++ left → (ended ≡ true → left ≡ []) → FirstAsksOf input asks
 first_asks ended bytes left input asks h is none = (chunks h.0, first_of ended bytes left input h.0 h.1 is none, h.2)
 
-pub answered_all : (may_leave : Image → Type 0) (now : Shown) (keeper : KeeperState) (changes : List Change) (before : List ℕ) (asks : List Ask) → IsAt may_leave now keeper (list_after_all changes asks) (before ++ replies changes asks) → Answered may_leave now changes before asks
-answered_all may_leave now keeper changes before asks h = record { stands = keeps_stands now.tells now.files may_leave keeper (list_after_all changes asks) h.keeps; taken = h.taken }
+pub answered_all : (may_leave : Image → Type 0) (now : Shown) (session : Session) (work : Work) (before : List ℕ) (asks : List Ask) → IsAt may_leave now session (work_after_all work asks) (before ++ replies work asks) → Answered may_leave now work before asks
+answered_all may_leave now session work before asks h = record { stands = keeps_stands now.tells now.files may_leave (keeper_of session) (list_after_all work asks) h.keeps; taken = h.taken }
 
 -- where the answering breaks off, the run does
-pub breaks : (T : Type 0) (end : SessionEnd) (may_leave : Image → Type 0) (now : Shown) (keeper : KeeperState) (ended refused : Bool) (changes : List Change) (before bytes left input : List ℕ) → BreaksOff end may_leave now keeper ended changes before bytes → input ≡ bytes ++ left → (ended ≡ true → left ≡ []) → Ends {T = T} (Err end) may_leave now refused changes input before
-breaks T ends.Memory may_leave now keeper ended refused changes before bytes left input h is none = record {
+pub breaks : (T : Type 0) (end : SessionEnd) (may_leave : Image → Type 0) (now : Shown) (session : Session) (ended refused : Bool) (work : Work) (before bytes left input : List ℕ) → BreaksOff end may_leave now session ended work before bytes → input ≡ bytes ++ left → (ended ≡ true → left ≡ []) → Ends {T = T} (Err end) may_leave now refused work input before
+breaks T ends.Memory may_leave now session ended refused work before bytes left input h is none = record {
   asks = h.0;
   first = first_asks ended bytes left input h.0 h.1 is none;
-  answered = answered_all may_leave now keeper changes before h.0 h.2;
+  answered = answered_all may_leave now session work before h.0 h.2;
 }
-breaks T (ends.Disk failed) may_leave now keeper ended refused changes before bytes left input h is none = record {
+breaks T (ends.Disk failed) may_leave now session ended refused work before bytes left input h is none = record {
   asks = h.0;
   first = first_asks ended bytes left input h.0 h.1 is none;
   taken = h.2;
 }
-breaks T (ends.Write failed) may_leave now keeper ended refused changes before bytes left input h is none = record {
+breaks T (ends.Write failed) may_leave now session ended refused work before bytes left input h is none = record {
   asks = h.0;
   last = h.1;
   count = h.2;
   first = first_asks ended bytes left input (h.0 ++ h.1 ∷ []) h.3 is none;
-  stands = keeps_stands now.tells now.files may_leave keeper (list_after_all changes (h.0 ++ h.1 ∷ [])) h.4.keeps;
+  stands = keeps_stands now.tells now.files may_leave (keeper_of session) (list_after_all work (h.0 ++ h.1 ∷ [])) h.4.keeps;
   taken = h.4.taken;
 }
-breaks T (ends.Read failed) may_leave now keeper ended refused changes before bytes left input h is none = absurd h
-breaks T ends.TooLong may_leave now keeper ended refused changes before bytes left input h is none = absurd h
-breaks T (ends.Damaged damage) may_leave now keeper ended refused changes before bytes left input h is none = absurd h
+breaks T (ends.Read failed) may_leave now session ended refused work before bytes left input h is none = absurd h
+breaks T ends.TooLong may_leave now session ended refused work before bytes left input h is none = absurd h
+breaks T (ends.Damaged damage) may_leave now session ended refused work before bytes left input h is none = absurd h
 
 whole_of : (reader : Held) (bytes : List ℕ) (given : List Item) (asks : List Ask) → reader.ended ≡ false → HasRead reader bytes given → AllAsk (chunks given) asks → HoldsNoMore false bytes given → WholeAsksOf bytes asks
 whole_of reader bytes given asks opened read asked none =
@@ -73,23 +73,23 @@ whole_of reader bytes given asks opened read asked none =
     (chunks given, (given, read.rest, subst P opened read.reads, none, refl), asked)
 
 -- taking input leaves what the disk stands for, and what was put
-at_take : (was_left may_leave : Image → Type 0) (mid now : Shown) (keeper : KeeperState) (changes : List Change) (put : List ℕ) → now ≡ record mid { left = now.left } → ((c : Image) → may_leave c → was_left c) → IsAt was_left mid keeper changes put → IsAt may_leave now keeper changes put
-at_take was_left may_leave mid now keeper changes put e less h =
-    let P : Shown → Type 0 = λ s. IsAt may_leave s keeper changes put in
-    subst P (sym e) (record { keeps = keeps_less mid.tells mid.files may_leave keeper changes was_left less h.keeps; taken = h.taken; told = h.told })
+at_take : (was_left may_leave : Image → Type 0) (mid now : Shown) (session : Session) (work : Work) (put : List ℕ) → now ≡ record mid { left = now.left } → ((c : Image) → may_leave c → was_left c) → IsAt was_left mid session work put → IsAt may_leave now session work put
+at_take was_left may_leave mid now session work put e less h =
+    let P : Shown → Type 0 = λ s. IsAt may_leave s session work put in
+    subst P (sym e) (record { keeps = keeps_less mid.tells mid.files may_leave (keeper_of session) work.changes was_left less h.keeps; section = h.section; taken = h.taken; told = h.told })
 
 -- a run to which no more input came
-pub no_more : (T : Type 0) (end : SessionEnd) (was_left may_leave : Image → Type 0) (mid now : Shown) (keeper : KeeperState) (troubled refused : Bool) (was reader : Held) (changes : List Change) (input before : List ℕ) → (h : IsTaking was_left mid keeper troubled was changes input before) → was.ended ≡ false → now ≡ record mid { left = now.left } → ((c : Image) → may_leave c → was_left c) → (n : ℕ) → fed was ≡ n → Takes (Err end) now n reader h.left h.bytes h.given → Ends {T = T} (Err end) may_leave now refused changes input before
-no_more T (ends.Read failed) was_left may_leave mid now keeper troubled refused was reader changes input before h opened e less n counted t = record {
+pub no_more : (T : Type 0) (end : SessionEnd) (was_left may_leave : Image → Type 0) (mid now : Shown) (session : Session) (refused : Bool) (was reader : Held) (work : Work) (input before : List ℕ) → (h : IsTaking was_left mid session was work input before) → was.ended ≡ false → now ≡ record mid { left = now.left } → ((c : Image) → may_leave c → was_left c) → (n : ℕ) → fed was ≡ n → Takes (Err end) now n reader h.left h.bytes h.given → Ends {T = T} (Err end) may_leave now refused work input before
+no_more T (ends.Read failed) was_left may_leave mid now session refused was reader work input before h opened e less n counted t = record {
   asks = h.working.asks;
   got = h.bytes;
   left = h.left;
   input_is = h.input_is;
   left_is = t.0;
   whole = whole_of was h.bytes h.given h.working.asks opened h.working.read h.working.asked h.none;
-  answered = answered_all may_leave now keeper changes before h.working.asks (at_take was_left may_leave mid now keeper (list_after_all changes h.working.asks) (before ++ replies changes h.working.asks) e less h.working.at);
+  answered = answered_all may_leave now session work before h.working.asks (at_take was_left may_leave mid now session (work_after_all work h.working.asks) (before ++ replies work h.working.asks) e less h.working.at);
 }
-no_more T ends.TooLong was_left may_leave mid now keeper troubled refused was reader changes input before h opened e less n counted t = record {
+no_more T ends.TooLong was_left may_leave mid now session refused was reader work input before h opened e less n counted t = record {
   asks = h.working.asks;
   got = h.bytes;
   next = t.0;
@@ -98,25 +98,25 @@ no_more T ends.TooLong was_left may_leave mid now keeper troubled refused was re
   limit = sym h.working.read.counted ∙ counted ∙ t.5;
   left_is = t.3;
   whole = whole_of was h.bytes h.given h.working.asks opened h.working.read h.working.asked h.none;
-  answered = answered_all may_leave now keeper changes before h.working.asks (at_take was_left may_leave mid now keeper (list_after_all changes h.working.asks) (before ++ replies changes h.working.asks) e less h.working.at);
+  answered = answered_all may_leave now session work before h.working.asks (at_take was_left may_leave mid now session (work_after_all work h.working.asks) (before ++ replies work h.working.asks) e less h.working.at);
 }
-no_more T ends.Memory was_left may_leave mid now keeper troubled refused was reader changes input before h opened e less n counted t = absurd t
-no_more T (ends.Damaged damage) was_left may_leave mid now keeper troubled refused was reader changes input before h opened e less n counted t = absurd t
-no_more T (ends.Write failed) was_left may_leave mid now keeper troubled refused was reader changes input before h opened e less n counted t = absurd t
-no_more T (ends.Disk failed) was_left may_leave mid now keeper troubled refused was reader changes input before h opened e less n counted t = absurd t
+no_more T ends.Memory was_left may_leave mid now session refused was reader work input before h opened e less n counted t = absurd t
+no_more T (ends.Damaged damage) was_left may_leave mid now session refused was reader work input before h opened e less n counted t = absurd t
+no_more T (ends.Write failed) was_left may_leave mid now session refused was reader work input before h opened e less n counted t = absurd t
+no_more T (ends.Disk failed) was_left may_leave mid now session refused was reader work input before h opened e less n counted t = absurd t
 
 -- a piece more is fed
-pub record IsFed (may_leave : Image → Type 0) (now : Shown) (keeper : KeeperState) (troubled : Bool) (reader : Held) (changes : List Change) (input before : List ℕ) (count : ℕ) : Type 0 where
+pub record IsFed (may_leave : Image → Type 0) (now : Shown) (session : Session) (reader : Held) (work : Work) (input before : List ℕ) (count : ℕ) : Type 0 where
   pub bytes : List ℕ
   pub left : List ℕ
   pub given : List Item
   pub input_is : input ≡ bytes ++ left
   pub left_is : now.left ≡ Some left
-  pub working : IsWorking may_leave now keeper troubled reader changes before bytes given
+  pub working : IsWorking may_leave now session reader work before bytes given
   pub none : count ≡ 0 → left ≡ []
 
-pub fed_more : (was_left may_leave : Image → Type 0) (mid now : Shown) (keeper : KeeperState) (troubled : Bool) (was reader : Held) (changes : List Change) (input before : List ℕ) (n count : ℕ) → (h : IsTaking was_left mid keeper troubled was changes input before) → now ≡ record mid { left = now.left } → ((c : Image) → may_leave c → was_left c) → Takes (Ok count) now n reader h.left h.bytes h.given → IsFed may_leave now keeper troubled reader changes input before count
-fed_more was_left may_leave mid now keeper troubled was reader changes input before n count h e less t = record {
+pub fed_more : (was_left may_leave : Image → Type 0) (mid now : Shown) (session : Session) (was reader : Held) (work : Work) (input before : List ℕ) (n count : ℕ) → (h : IsTaking was_left mid session was work input before) → now ≡ record mid { left = now.left } → ((c : Image) → may_leave c → was_left c) → Takes (Ok count) now n reader h.left h.bytes h.given → IsFed may_leave now session reader work input before count
+fed_more was_left may_leave mid now session was reader work input before n count h e less t = record {
   bytes = h.bytes ++ t.0;
   left = t.1;
   given = h.given;
@@ -126,15 +126,15 @@ fed_more was_left may_leave mid now keeper troubled was reader changes input bef
     asks = h.working.asks;
     read = t.5;
     asked = h.working.asked;
-    at = at_take was_left may_leave mid now keeper (list_after_all changes h.working.asks) (before ++ replies changes h.working.asks) e less h.working.at;
+    at = at_take was_left may_leave mid now session (work_after_all work h.working.asks) (before ++ replies work h.working.asks) e less h.working.at;
     refused = h.working.refused;
   };
   none = t.6;
 }
 
 -- what is whole of it is answered
-pub taking_on : (may_leave : Image → Type 0) (mid now : Shown) (keeper : KeeperState) (troubled : Bool) (reader : Held) (changes : List Change) (input before bytes left : List ℕ) → input ≡ bytes ++ left → mid.left ≡ Some left → now.left ≡ mid.left → reader.ended ≡ false → AnswersAll {T = Unit {0}} (Ok tt) may_leave now keeper troubled reader changes before bytes → IsTaking may_leave now keeper troubled reader changes input before
-taking_on may_leave mid now keeper troubled reader changes input before bytes left is left_is same opened h = record {
+pub taking_on : (may_leave : Image → Type 0) (mid now : Shown) (session : Session) (reader : Held) (work : Work) (input before bytes left : List ℕ) → input ≡ bytes ++ left → mid.left ≡ Some left → now.left ≡ mid.left → reader.ended ≡ false → AnswersAll {T = Unit {0}} (Ok tt) may_leave now session reader work before bytes → IsTaking may_leave now session reader work input before
+taking_on may_leave mid now session reader work input before bytes left is left_is same opened h = record {
   bytes = bytes;
   left = left;
   given = h.0;
@@ -145,8 +145,8 @@ taking_on may_leave mid now keeper troubled reader changes input before bytes le
 }
 
 -- the input is at its end
-pub at_end : (may_leave : Image → Type 0) (now : Shown) (keeper : KeeperState) (troubled : Bool) (was reader : Held) (changes : List Change) (input before : List ℕ) (count : ℕ) → (h : IsFed may_leave now keeper troubled was changes input before count) → count ≡ 0 → fed was ≤ input_limit → HasRead reader h.bytes h.given → AtEnd may_leave now keeper troubled reader changes input before
-at_end may_leave now keeper troubled was reader changes input before count h none within read =
+pub at_end : (may_leave : Image → Type 0) (now : Shown) (session : Session) (was reader : Held) (work : Work) (input before : List ℕ) (count : ℕ) → (h : IsFed may_leave now session was work input before count) → count ≡ 0 → fed was ≤ input_limit → HasRead reader h.bytes h.given → AtEnd may_leave now session reader work input before
+at_end may_leave now session was reader work input before count h none within read =
     let input_is : input ≡ h.bytes = h.input_is ∙ ap (λ (l : List ℕ). h.bytes ++ l) (h.none none) ∙ append-nil h.bytes in
     let P : List ℕ → Type 0 = λ l. HasRead reader l h.given in
     let size : length input ≡ fed was = ap length input_is ∙ sym h.working.read.counted in
@@ -161,14 +161,14 @@ pub still_open : (b : Bool) (left : List ℕ) → b ≡ false → b ≡ true →
 still_open b left is not = cc
 
 -- before any item
-pub starts_working : (may_leave : Image → Type 0) (o : Shown) (keeper : KeeperState) (troubled : Bool) (reader : Held) (changes : List Change) (before : List ℕ) → HasRead reader [] [] → troubled ≡ false → IsAt may_leave o keeper changes before → IsWorking may_leave o keeper troubled reader changes before [] []
-starts_working may_leave o keeper troubled reader changes before read calm h =
-    let P : List ℕ → Type 0 = λ l. IsAt may_leave o keeper changes l in
+pub starts_working : (may_leave : Image → Type 0) (o : Shown) (session : Session) (reader : Held) (work : Work) (before : List ℕ) → HasRead reader [] [] → troubled_of session ≡ false → IsAt may_leave o session work before → IsWorking may_leave o session reader work before [] []
+starts_working may_leave o session reader work before read calm h =
+    let P : List ℕ → Type 0 = λ l. IsAt may_leave o session work l in
     record { asks = []; read = read; asked = tt; at = subst P (sym (append-nil before)) h; refused = calm }
 
-pub broke_at_start : (may_leave : Image → Type 0) (now : Shown) (keeper : KeeperState) (changes : List Change) (input before : List ℕ) → IsAt may_leave now keeper changes before → BrokeOff may_leave now changes input before
-broke_at_start may_leave now keeper changes input before h = record {
+pub broke_at_start : (may_leave : Image → Type 0) (now : Shown) (session : Session) (work : Work) (input before : List ℕ) → IsAt may_leave now session work before → BrokeOff may_leave now work input before
+broke_at_start may_leave now session work input before h = record {
   asks = [];
   first = ([], inl ([], input, stop refl refl, refl), tt);
-  answered = record { stands = keeps_stands now.tells now.files may_leave keeper changes h.keeps; taken = h.taken ∙ ap Some (sym (append-nil before)) };
+  answered = record { stands = keeps_stands now.tells now.files may_leave (keeper_of session) work.changes h.keeps; taken = h.taken ∙ ap Some (sym (append-nil before)) };
 }

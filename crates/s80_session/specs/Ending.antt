@@ -1,6 +1,9 @@
 -- Why a run ends, and what its counts of faults say of that.
 use Rattle.std.specs.Prelude.{ℕ, ◌≤◌, Result, Ok, Err}
 use Rattle.s80_base.specs.Causes.{Rose}
+use Rattle.s80_model.specs.declared.item.Query.TheVariants.{Source}
+use Rattle.s80_model.specs.declared.item.SessionItem.{SessionItem}
+use Rattle.s80_model.specs.declared.item.SessionItem.TheVariants.{Query}
 use Rattle.s80_session.specs.declared.end.SessionEnd.{SessionEnd}
 use Rattle.s80_session.specs.declared.end.SessionEnd.TheVariants as ends
 
@@ -20,7 +23,7 @@ pub record NoFewer (before now : Faults) : Type 0 where
   pub write : before.write ≤ now.write
   pub disk : before.disk ≤ now.disk
 
--- A fault is answered only where its count rose. No damage is met after the start.
+-- A fault is answered only where its count rose. No damage is met.
 abbrev pub HasReason : Faults → Faults → SessionEnd → Type 0
 HasReason before now ends.Memory = Unit {0}
 HasReason before now (ends.Read failed) = Rose before.read now.read
@@ -37,6 +40,25 @@ EndsForReason before now (Err end) = HasReason before now end
 pub record Counts {T : Type 0} (before now : Faults) (result : Result T SessionEnd) : Type 0 where
   pub later : NoFewer before now
   pub reason : EndsForReason before now result
+
+-- no damage was met
+abbrev pub MeetsNoDamage : {T : Type 0} → Result T SessionEnd → Type 0
+MeetsNoDamage (Err (ends.Damaged damage)) = ⊥
+MeetsNoDamage _ = Unit {0}
+
+-- the same where a source is read: it may be damaged
+abbrev pub EndsForReasonOrDamage : {T : Type 0} → Faults → Faults → Result T SessionEnd → Type 0
+EndsForReasonOrDamage before now (Err (ends.Damaged damage)) = Unit {0}
+EndsForReasonOrDamage before now result = EndsForReason before now result
+
+pub record SourceCounts {T : Type 0} (before now : Faults) (result : Result T SessionEnd) : Type 0 where
+  pub later : NoFewer before now
+  pub reason : EndsForReasonOrDamage before now result
+
+-- the counts of faults before and after an item
+abbrev pub CountsFor : {T : Type 0} → SessionItem → Faults → Faults → Result T SessionEnd → Type 0
+CountsFor (Query (Source spec selector)) before now result = SourceCounts before now result
+CountsFor item before now result = Counts before now result
 
 -- the same for a start: it meets no fault of the input or the output
 abbrev pub StartsForReason : {T : Type 0} → Faults → Faults → Result T SessionEnd → Type 0

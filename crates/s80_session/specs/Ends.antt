@@ -1,6 +1,12 @@
--- How what ends the calls below ends a session.
+-- How what ends the calls below ends a session, or answers an item.
+use Rattle.std.specs.Prelude.{Result, Ok, Err}
+use Rattle.s80_change.specs.declared.refusal.Refusal.TheVariants.{LogFull}
 use Rattle.s80_keeper.specs.declared.start.StartFault.{StartFault}
 use Rattle.s80_keeper.specs.declared.start.StartFault.TheVariants as faults
+use Rattle.s80_keeper.specs.declared.keep.KeepFault.{KeepFault}
+use Rattle.s80_keeper.specs.declared.keep.KeepFault.TheVariants as keep_faults
+use Rattle.s80_model.specs.declared.reply.Reply.{Reply}
+use Rattle.s80_model.specs.declared.reply.Reply.TheVariants.{Refused}
 use Rattle.s80_session.specs.declared.end.SessionEnd.{SessionEnd}
 use Rattle.s80_session.specs.declared.end.SessionEnd.TheVariants as ends
 
@@ -8,3 +14,11 @@ abbrev pub end_of_start : StartFault → SessionEnd
 end_of_start faults.Memory = ends.Memory
 end_of_start (faults.Disk failed) = ends.Disk failed
 end_of_start (faults.Damaged damage) = ends.Damaged damage
+
+-- a full log refuses the change, and every other fault ends the session
+abbrev pub reply_to_fault : KeepFault → Result Reply SessionEnd
+reply_to_fault keep_faults.Memory = Err ends.Memory
+reply_to_fault (keep_faults.Disk failed) = Err (ends.Disk failed)
+reply_to_fault (keep_faults.Closed failed) = Err (ends.Disk failed)
+reply_to_fault (keep_faults.Full length) = Ok (Refused (LogFull length))
+reply_to_fault (keep_faults.Damaged damage) = Err (ends.Damaged damage)

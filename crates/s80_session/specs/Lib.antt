@@ -1,6 +1,4 @@
-pub mod Asked
-pub mod Told
-pub mod Replies
+pub mod Plain
 pub mod Ending
 pub mod Ends
 pub mod Putting

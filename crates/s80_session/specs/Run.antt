@@ -3,15 +3,15 @@ use Rattle.std.specs.Prelude.{◌≡◌, ◌⊎◌, ℕ, ◌^◌, ◌≤◌, Boo
 use Rattle.s80_chunk.specs.declared.item.Item.{Item}
 use Rattle.s80_chunk.specs.Chunks.{Reads, IsReading, IsBlank}
 use Rattle.s80_chunk.specs.Held.{HoldsNoMore}
-use Rattle.s80_change.specs.declared.change.Change.{Change}
+use Rattle.s80_block.specs.declared.change.Change.{Change}
 use Rattle.s80_disk.specs.Image.{Image}
 use Rattle.s80_keeper.specs.Standing.{FilesStandFor, StandsFor}
-use Rattle.s80_session.specs.declared.item.SessionItem.{SessionItem}
-use Rattle.s80_session.specs.declared.item.SessionItem.TheVariants.{Chunk, Unended}
+use Rattle.s80_model.specs.declared.item.SessionItem.{SessionItem}
+use Rattle.s80_model.specs.declared.item.SessionItem.TheVariants.{Chunk, Unended}
 use Rattle.s80_session.specs.declared.end.SessionEnd.{SessionEnd}
 use Rattle.s80_session.specs.declared.end.SessionEnd.TheVariants as ends
-use Rattle.s80_session.specs.Asked.{Ask, AllAsk}
-use Rattle.s80_session.specs.Replies.{replies, reply_to, reply_text, list_after_all, any_refused}
+use Rattle.s80_model.specs.Asked.{Ask, AllAsk}
+use Rattle.s80_model.specs.Replies.{Work, replies, reply_to, reply_text, work_after_all, list_after_all, any_refused}
 
 -- what an outside shows: whether it tells its contents, what its files read, what is left of its input, the bytes that it took, and their number
 pub record Shown : Type 0 where
@@ -66,31 +66,31 @@ abbrev pub input_limit : ℕ
 input_limit = 2 ^ 30
 
 -- what was asked is worked: the disk stands for the list after it, and the replies were put behind what was there
-pub record Answered (may_leave : Image → Type 0) (now : Shown) (changes : List Change) (before : List ℕ) (asks : List Ask) : Type 0 where
-  pub stands : ShownFor may_leave now (list_after_all changes asks)
-  pub taken : now.taken ≡ Some (before ++ replies changes asks)
+pub record Answered (may_leave : Image → Type 0) (now : Shown) (work : Work) (before : List ℕ) (asks : List Ask) : Type 0 where
+  pub stands : ShownFor may_leave now (list_after_all work asks)
+  pub taken : now.taken ≡ Some (before ++ replies work asks)
 
 -- a run that came to the end of its input
-pub record Finished (may_leave : Image → Type 0) (now : Shown) (changes : List Change) (input before : List ℕ) (refused : Bool) : Type 0 where
+pub record Finished (may_leave : Image → Type 0) (now : Shown) (work : Work) (input before : List ℕ) (refused : Bool) : Type 0 where
   pub asks : List Ask
   pub all : AsksOf input asks
   pub within : length input ≤ input_limit
   pub left : now.left ≡ Some []
-  pub answered : Answered may_leave now changes before asks
-  pub troubled : any_refused changes asks ≡ refused
+  pub answered : Answered may_leave now work before asks
+  pub troubled : any_refused work asks ≡ refused
 
 -- a run to which no more input came: all whole items of the bytes taken are answered
-pub record CutOff (may_leave : Image → Type 0) (now : Shown) (changes : List Change) (input before : List ℕ) : Type 0 where
+pub record CutOff (may_leave : Image → Type 0) (now : Shown) (work : Work) (input before : List ℕ) : Type 0 where
   pub asks : List Ask
   pub got : List ℕ
   pub left : List ℕ
   pub input_is : input ≡ got ++ left
   pub left_is : now.left ≡ Some left
   pub whole : WholeAsksOf got asks
-  pub answered : Answered may_leave now changes before asks
+  pub answered : Answered may_leave now work before asks
 
 -- the same, where the limit of the input was reached and one byte came behind it
-pub record TooLong (may_leave : Image → Type 0) (now : Shown) (changes : List Change) (input before : List ℕ) : Type 0 where
+pub record TooLong (may_leave : Image → Type 0) (now : Shown) (work : Work) (input before : List ℕ) : Type 0 where
   pub asks : List Ask
   pub got : List ℕ
   pub next : ℕ
@@ -99,41 +99,41 @@ pub record TooLong (may_leave : Image → Type 0) (now : Shown) (changes : List 
   pub limit : length got ≡ input_limit
   pub left_is : now.left ≡ Some left
   pub whole : WholeAsksOf got asks
-  pub answered : Answered may_leave now changes before asks
+  pub answered : Answered may_leave now work before asks
 
 -- a run that broke off between two items, or before an item had changed anything
-pub record BrokeOff (may_leave : Image → Type 0) (now : Shown) (changes : List Change) (input before : List ℕ) : Type 0 where
+pub record BrokeOff (may_leave : Image → Type 0) (now : Shown) (work : Work) (input before : List ℕ) : Type 0 where
   pub asks : List Ask
   pub first : FirstAsksOf input asks
-  pub answered : Answered may_leave now changes before asks
+  pub answered : Answered may_leave now work before asks
 
 -- a run whose output failed within the reply to an item that it had worked
-pub record Unanswered (may_leave : Image → Type 0) (now : Shown) (changes : List Change) (input before : List ℕ) : Type 0 where
+pub record Unanswered (may_leave : Image → Type 0) (now : Shown) (work : Work) (input before : List ℕ) : Type 0 where
   pub asks : List Ask
   pub last : Ask
   pub count : ℕ
   pub first : FirstAsksOf input (asks ++ last ∷ [])
-  pub stands : ShownFor may_leave now (list_after_all changes (asks ++ last ∷ []))
-  pub taken : now.taken ≡ Some ((before ++ replies changes asks) ++ take count (reply_text (reply_to (list_after_all changes asks) last)))
+  pub stands : ShownFor may_leave now (list_after_all work (asks ++ last ∷ []))
+  pub taken : now.taken ≡ Some ((before ++ replies work asks) ++ take count (reply_text (reply_to (work_after_all work asks) last)))
 
 -- a run whose disk failed: nothing is said of the disk
-pub record LostDisk (now : Shown) (changes : List Change) (input before : List ℕ) : Type 0 where
+pub record LostDisk (now : Shown) (work : Work) (input before : List ℕ) : Type 0 where
   pub asks : List Ask
   pub first : FirstAsksOf input asks
-  pub taken : now.taken ≡ Some (before ++ replies changes asks)
+  pub taken : now.taken ≡ Some (before ++ replies work asks)
 
 -- what a run leaves, by how it ends
-abbrev pub Ends : {T : Type 0} → Result T SessionEnd → (Image → Type 0) → Shown → Bool → List Change → List ℕ → List ℕ → Type 0
-Ends (Ok done) may_leave now refused changes input before = Finished may_leave now changes input before refused
-Ends (Err ends.Memory) may_leave now refused changes input before = BrokeOff may_leave now changes input before
-Ends (Err (ends.Read failed)) may_leave now refused changes input before = CutOff may_leave now changes input before
-Ends (Err (ends.Write failed)) may_leave now refused changes input before = Unanswered may_leave now changes input before
-Ends (Err (ends.Disk failed)) may_leave now refused changes input before = LostDisk now changes input before
-Ends (Err (ends.Damaged damage)) may_leave now refused changes input before = ⊥
-Ends (Err ends.TooLong) may_leave now refused changes input before = TooLong may_leave now changes input before
+abbrev pub Ends : {T : Type 0} → Result T SessionEnd → (Image → Type 0) → Shown → Bool → Work → List ℕ → List ℕ → Type 0
+Ends (Ok done) may_leave now refused work input before = Finished may_leave now work input before refused
+Ends (Err ends.Memory) may_leave now refused work input before = BrokeOff may_leave now work input before
+Ends (Err (ends.Read failed)) may_leave now refused work input before = CutOff may_leave now work input before
+Ends (Err (ends.Write failed)) may_leave now refused work input before = Unanswered may_leave now work input before
+Ends (Err (ends.Disk failed)) may_leave now refused work input before = LostDisk now work input before
+Ends (Err (ends.Damaged damage)) may_leave now refused work input before = ⊥
+Ends (Err ends.TooLong) may_leave now refused work input before = TooLong may_leave now work input before
 
 -- What a crash leaves at a moment at which so many bytes are told: files that stand for the list after the first items of the input, up
 -- to one at least whose reply is among the bytes told. So no change is answered that a crash takes.
-abbrev pub Keeps : List Change → List ℕ → List ℕ → ℕ → Image → Type 0
-Keeps changes input before told c =
-    (asks : List Ask) × FirstAsksOf input asks × HasKept (list_after_all changes asks) (length (before ++ replies changes asks)) told c
+abbrev pub Keeps : Work → List ℕ → List ℕ → ℕ → Image → Type 0
+Keeps work input before told c =
+    (asks : List Ask) × FirstAsksOf input asks × HasKept (list_after_all work asks) (length (before ++ replies work asks)) told c

@@ -1,10 +1,15 @@
 -- What a session holds.
 use Rattle.std.specs.Prelude.{◌≡◌, Bool, None}
 use Rattle.s80_keeper.specs.Keeper.{KeeperState}
+use Rattle.s80_model.specs.declared.section.Section.{Section}
 use Rattle.s80_session.specs.declared.session.Session.{Session}
 
 abbrev pub keeper_of : Session → KeeperState
 keeper_of session = session.keeper
+
+-- the section in which the next item stands
+abbrev pub section_of : Session → Section
+section_of session = session.section
 
 -- whether some item was refused
 abbrev pub troubled_of : Session → Bool

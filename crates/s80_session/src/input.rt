@@ -2,21 +2,21 @@
 ghost use Rattle.std.specs.Prelude.{◌≡◌, ◌+◌, ◌≤◌, ◌<◌, ℕ, List, [], false, true, length, Some, IfOk, OnOk};
 ghost use Rattle.s80_chunk.specs.declared.item.Item.{Item};
 ghost use Rattle.s80_chunk.specs.Held.{HasRead, IsSpent, fed};
-ghost use Rattle.s80_change.specs.declared.change.Change.{Change};
 ghost use Rattle.s80_session.specs.Ending.{faults, Counts};
 ghost use Rattle.s80_disk.specs.declared.disk.FileId.{FileId};
 ghost use Rattle.s80_disk.specs.Moments.{LeavesOnly};
 ghost use Rattle.s80_session.specs.Putting.{IsAsBefore};
 ghost use Rattle.s80_session.specs.Run.{shown, input_limit, Ends, Keeps};
-ghost use Rattle.s80_session.specs.Session.{keeper_of, troubled_of, IsFaultless};
+ghost use Rattle.s80_model.specs.Replies.{Work};
+ghost use Rattle.s80_session.specs.Session.{troubled_of, IsFaultless};
 ghost use Rattle.s80_session.specs.Working.{HasReadSome, IsAt, IsWorking, AnswersAll, AnswersLeave, Takes, TakesAll};
 
 use crate::end::SessionEnd;
-use crate::item::SessionItem;
 use crate::outside::take_some;
 use crate::session::Session;
 use s80_chunk::{ChunkReader, Rest};
 use s80_disk::Outside;
+use s80_model::SessionItem;
 use std::alloc::Global;
 
 /// The greatest length of an input.
@@ -69,15 +69,15 @@ impl Session {
     ) -> Result<(), SessionEnd>
         requires faultless { IsFaultless self.old }
         requires reading { HasReadSome reader.old }
-        ensures answered { (changes : List Change) (before bytes : List ℕ) (given : List Item)
+        ensures answered { (work : Work) (before bytes : List ℕ) (given : List Item)
             → IsWorking (O.may_leave outside.old)
-            (shown O.tells O.reads O.left O.taken O.told outside.old) (keeper_of self.old) (troubled_of self.old) reader.old changes before bytes given
+            (shown O.tells O.reads O.left O.taken O.told outside.old) self.old reader.old work before bytes given
             → AnswersAll result (O.may_leave outside.new)
-            (shown O.tells O.reads O.left O.taken O.told outside.new) (keeper_of self.new) (troubled_of self.new) reader.new changes before bytes }
-        ensures any_moment { (changes : List Change) (before bytes : List ℕ) (given : List Item)
+            (shown O.tells O.reads O.left O.taken O.told outside.new) self.new reader.new work before bytes }
+        ensures any_moment { (work : Work) (before bytes : List ℕ) (given : List Item)
             → IsWorking (O.may_leave outside.old)
-            (shown O.tells O.reads O.left O.taken O.told outside.old) (keeper_of self.old) (troubled_of self.old) reader.old changes before bytes given
-            → LeavesOnly O.moment O.left_since outside.old outside.new (AnswersLeave reader.old.ended changes before bytes) }
+            (shown O.tells O.reads O.left O.taken O.told outside.old) self.old reader.old work before bytes given
+            → LeavesOnly O.moment O.left_since outside.old outside.new (AnswersLeave reader.old.ended work before bytes) }
         ensures left { O.left outside.new ≡ O.left outside.old }
         ensures counts { Counts (faults O.read_faults O.write_faults O.disk_faults outside.old)
             (faults O.read_faults O.write_faults O.disk_faults outside.new) result }
@@ -105,15 +105,15 @@ impl Session {
         requires open { reader.old.ended ≡ false }
         requires room { reader.old.room ≡ 4096 }
         requires counted { fed reader.old ≡ 0 }
-        ensures took { (changes : List Change) (input before : List ℕ) → O.left outside.old ≡ Some input
+        ensures took { (work : Work) (input before : List ℕ) → O.left outside.old ≡ Some input
             → IsWorking (O.may_leave outside.old)
-            (shown O.tells O.reads O.left O.taken O.told outside.old) (keeper_of self.old) (troubled_of self.old) reader.old changes before [] []
+            (shown O.tells O.reads O.left O.taken O.told outside.old) self.old reader.old work before [] []
             → TakesAll result (O.may_leave outside.new)
-            (shown O.tells O.reads O.left O.taken O.told outside.new) (keeper_of self.new) (troubled_of self.new) reader.new changes input before }
-        ensures any_moment { (changes : List Change) (input before : List ℕ) → O.left outside.old ≡ Some input
+            (shown O.tells O.reads O.left O.taken O.told outside.new) self.new reader.new work input before }
+        ensures any_moment { (work : Work) (input before : List ℕ) → O.left outside.old ≡ Some input
             → IsWorking (O.may_leave outside.old)
-            (shown O.tells O.reads O.left O.taken O.told outside.old) (keeper_of self.old) (troubled_of self.old) reader.old changes before [] []
-            → LeavesOnly O.moment O.left_since outside.old outside.new (Keeps changes input before) }
+            (shown O.tells O.reads O.left O.taken O.told outside.old) self.old reader.old work before [] []
+            → LeavesOnly O.moment O.left_since outside.old outside.new (Keeps work input before) }
         ensures counts { Counts (faults O.read_faults O.write_faults O.disk_faults outside.old)
             (faults O.read_faults O.write_faults O.disk_faults outside.new) result }
         ensures faultless { OnOk result (IsFaultless self.new) }
@@ -141,17 +141,17 @@ impl Session {
         outside: &mut O,
     ) -> Result<(), SessionEnd>
         requires faultless { IsFaultless self.old }
-        ensures ran { (changes : List Change) (input before : List ℕ) → O.left outside.old ≡ Some input
-            → (troubled_of self.old) ≡ false
+        ensures ran { (work : Work) (input before : List ℕ) → O.left outside.old ≡ Some input
+            → troubled_of self.old ≡ false
             → IsAt (O.may_leave outside.old)
-            (shown O.tells O.reads O.left O.taken O.told outside.old) (keeper_of self.old) changes before
+            (shown O.tells O.reads O.left O.taken O.told outside.old) self.old work before
             → Ends result (O.may_leave outside.new)
-            (shown O.tells O.reads O.left O.taken O.told outside.new) (troubled_of self.new) changes input before }
-        ensures any_moment { (changes : List Change) (input before : List ℕ) → O.left outside.old ≡ Some input
-            → (troubled_of self.old) ≡ false
+            (shown O.tells O.reads O.left O.taken O.told outside.new) (troubled_of self.new) work input before }
+        ensures any_moment { (work : Work) (input before : List ℕ) → O.left outside.old ≡ Some input
+            → troubled_of self.old ≡ false
             → IsAt (O.may_leave outside.old)
-            (shown O.tells O.reads O.left O.taken O.told outside.old) (keeper_of self.old) changes before
-            → LeavesOnly O.moment O.left_since outside.old outside.new (Keeps changes input before) }
+            (shown O.tells O.reads O.left O.taken O.told outside.old) self.old work before
+            → LeavesOnly O.moment O.left_since outside.old outside.new (Keeps work input before) }
         ensures counts { Counts (faults O.read_faults O.write_faults O.disk_faults outside.old)
             (faults O.read_faults O.write_faults O.disk_faults outside.new) result }
         ensures faultless { OnOk result (IsFaultless self.new) }

@@ -3,20 +3,17 @@
 
 mod end;
 mod input;
-mod item;
-mod laws;
 mod outside;
+mod plain;
 mod reply;
 mod session;
-mod syntax;
 mod told;
 
 pub use end::SessionEnd;
-pub use item::{Query, SessionItem};
-pub use laws::one_ask;
 pub use outside::put_all;
-pub use reply::Reply;
 pub use session::Session;
 
 #[cfg(test)]
 mod tests;
+#[cfg(test)]
+mod tests_sections;

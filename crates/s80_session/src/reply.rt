@@ -1,23 +1,15 @@
-// What an item is answered, and how that is written.
+// How an answer is written, and what a fault of the keeper answers.
 ghost use Rattle.std.specs.Prelude.{◌≡◌, ◌++◌, ◌∷◌, [], IfOk};
 ghost use Rattle.s80_print.specs.Refusal.{refusal_text};
+ghost use Rattle.s80_session.specs.Ends.{reply_to_fault};
 
+use crate::end::SessionEnd;
 use s80_base::{OutOfMemory, Text};
 use s80_change::Refusal;
+use s80_keeper::KeepFault;
+use s80_model::Reply;
 use s80_print::refusal_text;
 use std::alloc::Global;
-
-/// What an item is answered.
-#[derive(Debug, Drop)]
-pub enum Reply {
-    /// Nothing: the item stands in a section that was refused, or ends it.
-    Silent,
-    /// The change was kept.
-    Accepted,
-    Refused(Refusal),
-    /// These lines.
-    Told(Text),
-}
 
 /// The line that answers a refused item.
 pub(crate) fn refusal_line(alloc: Global, refusal: &Refusal) -> Result<Text, OutOfMemory>
@@ -26,4 +18,16 @@ pub(crate) fn refusal_line(alloc: Global, refusal: &Refusal) -> Result<Text, Out
     let mut line = refusal_text(alloc, refusal)?;
     line.append(b"\n")?;
     Ok(line)
+}
+
+/// What an item is answered at a fault of the keeper: a full log refuses it, and every other fault ends the session.
+pub(crate) fn reply_to_fault(fault: KeepFault) -> Result<Reply, SessionEnd>
+    ensures { result ≡ reply_to_fault fault }
+{
+    match fault {
+        KeepFault::Memory => Err(SessionEnd::Memory),
+        KeepFault::Disk(failed) | KeepFault::Closed(failed) => Err(SessionEnd::Disk(failed)),
+        KeepFault::Full(length) => Ok(Reply::Refused(Refusal::LogFull(length))),
+        KeepFault::Damaged(damage) => Err(SessionEnd::Damaged(damage)),
+    }
 }

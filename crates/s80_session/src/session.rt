@@ -1,46 +1,52 @@
 // A session works items: it keeps what they change, and answers them.
-ghost use Rattle.std.specs.Prelude.{◌≡◌, ◌<◌, ℕ, Bool, false, List, ◌++◌, length, Some, IsTrue, IfOk, OnOk};
-ghost use Rattle.s80_change.specs.declared.change.Change.{Change};
+ghost use Rattle.std.specs.Prelude.{◌≡◌, ◌≢◌, ◌<◌, ◌≤◌, ℕ, false, List, ◌++◌, length, Some, IsTrue, IfOk, OnOk};
+ghost use Rattle.s80_block.specs.declared.change.Change.{Change};
+ghost use Rattle.s80_chunk.specs.declared.item.Item.TheVariants as items;
 ghost use Rattle.s80_disk.specs.declared.disk.FileId.{FileId};
+ghost use Rattle.s80_disk.specs.declared.disk.FileId.TheVariants.{Mark};
 ghost use Rattle.s80_disk.specs.Moments.{LeavesOnly};
 ghost use Rattle.s80_mark.specs.Found.{longer_log};
+ghost use Rattle.s80_keeper.specs.Keeper.{Knows};
 ghost use Rattle.s80_keeper.specs.Standing.{FilesStandFor, ReadsFor, StandsFor};
-ghost use Rattle.s80_session.specs.Ending.{faults, Counts, NoFewer, StartsForReason};
-ghost use Rattle.s80_tree.specs.Tree.{doit_of};
-ghost use Rattle.s80_syntax.specs.Text.{IsDoItOf};
-ghost use Rattle.s80_session.specs.Asked.{ask_of_too_long, IsChangeOf};
-ghost use Rattle.s80_session.specs.Replies.{reply_to};
+ghost use Rattle.s80_model.specs.Replies.{Work};
+ghost use Rattle.s80_model.specs.Section.{section_or};
+ghost use Rattle.s80_session.specs.Ending.{faults, Counts, CountsFor, MeetsNoDamage, NoFewer, SourceCounts, StartsForReason};
 ghost use Rattle.s80_session.specs.Run.{shown, HasKept};
 ghost use Rattle.s80_session.specs.Working.{AnswerPut};
 
 use crate::end::SessionEnd;
-use crate::item::SessionItem;
-use crate::outside::{keep_change, put_all, start_keeper};
-use crate::reply::{Reply, refusal_line};
-use crate::syntax::refusal_of;
-use crate::told::tell;
-use s80_base::{OutOfMemory, Text};
-use s80_change::{Change, FitWord, Recognised, Refusal, Refused, recognise};
+use crate::outside::{keep_change, put_all, read_source, start_keeper};
+use crate::plain::change_of;
+use crate::reply::{refusal_line, reply_to_fault};
+use crate::told::{tell_browsed, tell_classes, tell_recovered};
+use s80_base::Text;
+use s80_block::Change;
+use s80_change::{FitWord, Refusal, Refused};
 use s80_chunk::{Item, LONGEST, Role};
 use s80_disk::Outside;
-use s80_keeper::{KeepFault, Keeper};
-use s80_syntax::{DoItTree, parse_doit};
+use s80_keeper::Keeper;
+use s80_model::{
+    Answer, Query, Reply, Section, SessionItem, head_answer, method_of, side_named, too_long_answer,
+};
+use s80_section::check_source;
 use std::alloc::Global;
 
 /// A session at work on a folder.
 #[derive(Debug, Drop)]
 pub struct Session {
     pub(crate) keeper: Keeper,
+    /// The section in which the next item stands.
+    pub(crate) section: Section,
     /// Whether some item was refused.
     pub(crate) troubled: bool,
 }
 
 impl Session {
-    ghost use Rattle.s80_chunk.specs.Chunks.{IsPlainText};
-    ghost use Rattle.s80_session.specs.Session.{keeper_of, troubled_of, IsFaultless};
-    ghost use Rattle.s80_session.specs.Working.{IsAt, IsLawfulFor, IsReadable, IsSessionStart, Kept, KeepLeaves, Starts, Worked, WorkLeaves, Stepped, StepLeaves};
+    ghost use Rattle.s80_chunk.specs.Chunks.{IsChunkText, IsPlainText, longest};
+    ghost use Rattle.s80_session.specs.Session.{keeper_of, section_of, troubled_of, IsFaultless};
+    ghost use Rattle.s80_session.specs.Working.{IsAt, IsLawfulFor, IsReadable, IsSessionStart, Kept, KeepLeaves, Replied, Starts, Worked, WorkLeaves, Stepped, StepLeaves};
 
-    /// A session on the folder that was attached.
+    /// A session on the folder that was attached, at the top level of its input.
     pub fn start<O: Outside>(alloc: Global, outside: &mut O) -> Result<Session, SessionEnd>
         ensures answer { IsTrue (O.tells outside.old) → IsSessionStart (O.reads outside.old) result }
         ensures started { (changes : List Change) (put : List ℕ)
@@ -52,6 +58,7 @@ impl Session {
             → LeavesOnly O.moment O.left_since outside.old outside.new (HasKept changes (O.told outside.old)) }
         ensures untouched { IsTrue (O.tells outside.old) → 0 < longer_log (O.reads outside.old)
             → (file : FileId) → O.reads outside.new file ≡ O.reads outside.old file }
+        ensures others { (other : FileId) → other ≢ Mark → O.reads outside.new other ≡ O.reads outside.old other }
         ensures shown { shown O.tells O.reads O.left O.taken O.told outside.new
             ≡ record (shown O.tells O.reads O.left O.taken O.told outside.old) { files = O.reads outside.new } }
         ensures faultless { IfOk result IsFaultless }
@@ -64,6 +71,7 @@ impl Session {
         let keeper = start_keeper(alloc, outside)?;
         Ok(Session {
             keeper,
+            section: Section::Top,
             troubled: false,
         })
     }
@@ -83,66 +91,101 @@ impl Session {
         outside: &mut O,
     ) -> Result<(), SessionEnd>
         requires faultless { IsFaultless self.old }
-        ensures stepped { (changes : List Change) (put : List ℕ) → IsReadable item
+        ensures stepped { (work : Work) (put : List ℕ) → IsReadable item
             → IsAt (O.may_leave outside.old)
-            (shown O.tells O.reads O.left O.taken O.told outside.old) (keeper_of self.old) changes put
+            (shown O.tells O.reads O.left O.taken O.told outside.old) self.old work put
             → Stepped result (O.may_leave outside.new)
-            (shown O.tells O.reads O.left O.taken O.told outside.new) (keeper_of self.new) (troubled_of self.old) (troubled_of self.new) changes put item }
-        ensures any_moment { (changes : List Change) (put : List ℕ) → IsReadable item
+            (shown O.tells O.reads O.left O.taken O.told outside.new) self.new (troubled_of self.old) work put item }
+        ensures any_moment { (work : Work) (put : List ℕ) → IsReadable item
             → IsAt (O.may_leave outside.old)
-            (shown O.tells O.reads O.left O.taken O.told outside.old) (keeper_of self.old) changes put
-            → LeavesOnly O.moment O.left_since outside.old outside.new (StepLeaves changes put item) }
+            (shown O.tells O.reads O.left O.taken O.told outside.old) self.old work put
+            → LeavesOnly O.moment O.left_since outside.old outside.new (StepLeaves work put item) }
+        ensures sound { IsTrue (O.tells outside.old) → (changes : List Change) → Knows (O.reads outside.old) (keeper_of self.old) changes → MeetsNoDamage result }
         ensures faultless { OnOk result (IsFaultless self.new) }
         ensures left { O.left outside.new ≡ O.left outside.old }
-        ensures counts { Counts (faults O.read_faults O.write_faults O.disk_faults outside.old)
+        ensures counts { CountsFor item (faults O.read_faults O.write_faults O.disk_faults outside.old)
             (faults O.read_faults O.write_faults O.disk_faults outside.new) result }
     {
-        match self.work(alloc, item, outside)? {
-            Reply::Silent => Ok(()),
-            Reply::Accepted => answer(outside, b"ok\n"),
+        let Answer { reply, section } = self.work(alloc, item, outside)?;
+        match reply {
+            Reply::Silent => {
+                self.enter(section);
+                Ok(())
+            }
+            Reply::Accepted => {
+                self.enter(section);
+                answer(outside, b"ok\n")
+            }
             Reply::Refused(refusal) => {
-                self.troubled = true;
                 let line = refusal_line(alloc, &refusal)?;
+                self.troubled = true;
+                self.enter(section);
                 answer(outside, line.bytes())
             }
-            Reply::Told(text) => answer(outside, text.bytes()),
+            Reply::Told(text) => {
+                self.enter(section);
+                answer(outside, text.bytes())
+            }
         }
     }
 
-    /// Works one item, and says what it is to be answered.
+    /// Goes on in this section, where it is another one.
+    fn enter(&mut self, section: Option<Section>)
+        ensures section { section_of self.new ≡ section_or section (section_of self.old) }
+        ensures rest { (keeper_of self.new ≡ keeper_of self.old) × (troubled_of self.new ≡ troubled_of self.old) }
+    {
+        if let Some(section) = section {
+            self.section = section;
+        }
+    }
+
+    /// Works one item, and says what it is to be answered, and in which section the next item stands. The session's section stays.
     fn work<O: Outside>(
         &mut self,
         alloc: Global,
         item: SessionItem,
         outside: &mut O,
-    ) -> Result<Reply, SessionEnd>
+    ) -> Result<Answer, SessionEnd>
         requires faultless { IsFaultless self.old }
-        ensures worked { (changes : List Change) (put : List ℕ) → IsReadable item
+        ensures worked { (work : Work) (put : List ℕ) → IsReadable item
             → IsAt (O.may_leave outside.old)
-            (shown O.tells O.reads O.left O.taken O.told outside.old) (keeper_of self.old) changes put
+            (shown O.tells O.reads O.left O.taken O.told outside.old) self.old work put
             → Worked result (O.may_leave outside.new)
-            (shown O.tells O.reads O.left O.taken O.told outside.new) (keeper_of self.new) changes put item }
-        ensures any_moment { (changes : List Change) (put : List ℕ) → IsReadable item
+            (shown O.tells O.reads O.left O.taken O.told outside.new) self.new work put item }
+        ensures any_moment { (work : Work) (put : List ℕ) → IsReadable item
             → IsAt (O.may_leave outside.old)
-            (shown O.tells O.reads O.left O.taken O.told outside.old) (keeper_of self.old) changes put
-            → LeavesOnly O.moment O.left_since outside.old outside.new (WorkLeaves changes put item) }
+            (shown O.tells O.reads O.left O.taken O.told outside.old) self.old work put
+            → LeavesOnly O.moment O.left_since outside.old outside.new (WorkLeaves work put item) }
+        ensures sound { IsTrue (O.tells outside.old) → (changes : List Change) → Knows (O.reads outside.old) (keeper_of self.old) changes → MeetsNoDamage result }
         ensures troubled { troubled_of self.new ≡ troubled_of self.old }
         ensures faultless { OnOk result (IsFaultless self.new) }
         ensures left { O.left outside.new ≡ O.left outside.old }
-        ensures counts { Counts (faults O.read_faults O.write_faults O.disk_faults outside.old)
+        ensures counts { CountsFor item (faults O.read_faults O.write_faults O.disk_faults outside.old)
             (faults O.read_faults O.write_faults O.disk_faults outside.new) result }
     {
         match item {
-            SessionItem::Chunk(Item::Plain(text)) => self.keep_text(alloc, text, outside),
-            SessionItem::Chunk(Item::Head(text)) => Ok(Reply::Refused(Refusal::NoSection(text))),
-            SessionItem::Chunk(Item::Method(_) | Item::SectionEnd) => Ok(Reply::Silent),
-            SessionItem::Chunk(Item::TooLong { role, length }) => Ok(too_long_reply(role, length)),
-            SessionItem::Unended => Ok(Reply::Refused(Refusal::Unended)),
-            SessionItem::Query(query) => Ok(tell(alloc, &self.keeper, &query)?),
+            SessionItem::Chunk(Item::Plain(text)) => {
+                Ok(Answer::staying(self.keep_text(alloc, text, outside)?))
+            }
+            SessionItem::Chunk(Item::Head(text)) => {
+                Ok(head_answer(alloc, self.keeper.system(), text)?)
+            }
+            SessionItem::Chunk(Item::Method(text)) => {
+                Ok(Answer::staying(self.keep_method(alloc, text, outside)?))
+            }
+            SessionItem::Chunk(Item::SectionEnd) => Ok(Answer {
+                reply: Reply::Silent,
+                section: Some(Section::Top),
+            }),
+            SessionItem::Chunk(Item::TooLong { role, length }) => {
+                Ok(too_long_answer(&self.section, role, length))
+            }
+            SessionItem::Unended => Ok(Answer::staying(Reply::Refused(Refusal::Unended))),
+            SessionItem::Query(query) => Ok(Answer::staying(self.tell(alloc, query, outside)?)),
         }
     }
 
-    /// Keeps the change that a text with a tree is, and refuses every other text: one that is too long, or has no tree.
+    /// Keeps the change that a plain text is, and refuses every other text: one that is too long, has no tree, or doesn't fit a machine.
     fn keep_text<O: Outside>(
         &mut self,
         alloc: Global,
@@ -150,15 +193,15 @@ impl Session {
         outside: &mut O,
     ) -> Result<Reply, SessionEnd>
         requires faultless { IsFaultless self.old }
-        ensures worked { (changes : List Change) (put : List ℕ) → IsPlainText text
+        ensures replied { (work : Work) (put : List ℕ) → IsPlainText text
             → IsAt (O.may_leave outside.old)
-            (shown O.tells O.reads O.left O.taken O.told outside.old) (keeper_of self.old) changes put
-            → Worked result (O.may_leave outside.new)
-            (shown O.tells O.reads O.left O.taken O.told outside.new) (keeper_of self.new) changes put (SessionItem.Chunk (Item.Plain text)) }
-        ensures any_moment { (changes : List Change) (put : List ℕ) → IsPlainText text
+            (shown O.tells O.reads O.left O.taken O.told outside.old) self.old work put
+            → Replied result (O.may_leave outside.new)
+            (shown O.tells O.reads O.left O.taken O.told outside.new) self.new work put (SessionItem.Chunk (items.Plain text)) }
+        ensures any_moment { (work : Work) (put : List ℕ) → IsPlainText text
             → IsAt (O.may_leave outside.old)
-            (shown O.tells O.reads O.left O.taken O.told outside.old) (keeper_of self.old) changes put
-            → LeavesOnly O.moment O.left_since outside.old outside.new (WorkLeaves changes put (SessionItem.Chunk (Item.Plain text))) }
+            (shown O.tells O.reads O.left O.taken O.told outside.old) self.old work put
+            → LeavesOnly O.moment O.left_since outside.old outside.new (WorkLeaves work put (SessionItem.Chunk (items.Plain text))) }
         ensures troubled { troubled_of self.new ≡ troubled_of self.old }
         ensures faultless { OnOk result (IsFaultless self.new) }
         ensures left { O.left outside.new ≡ O.left outside.old }
@@ -170,12 +213,48 @@ impl Session {
             let refusal = Refusal::TooLarge(FitWord::Chunk, length as u64);
             return Ok(Reply::Refused(refusal));
         }
-        match parse_doit(alloc, &text) {
-            Ok(tree) => {
-                let change = change_of(alloc, tree, text)?;
-                self.keep(alloc, change, outside)
+        match change_of(alloc, text) {
+            Ok(change) => self.keep(alloc, change, outside),
+            Err(Refused::Memory) => Err(SessionEnd::Memory),
+            Err(Refused::Refusal(refusal)) => Ok(Reply::Refused(refusal)),
+        }
+    }
+
+    /// Keeps the method of a source in the class of an open section. In another section it is passed over.
+    fn keep_method<O: Outside>(
+        &mut self,
+        alloc: Global,
+        source: Text,
+        outside: &mut O,
+    ) -> Result<Reply, SessionEnd>
+        requires faultless { IsFaultless self.old }
+        ensures replied { (work : Work) (put : List ℕ) → IsChunkText source → length source ≤ longest
+            → IsAt (O.may_leave outside.old)
+            (shown O.tells O.reads O.left O.taken O.told outside.old) self.old work put
+            → Replied result (O.may_leave outside.new)
+            (shown O.tells O.reads O.left O.taken O.told outside.new) self.new work put (SessionItem.Chunk (items.Method source)) }
+        ensures any_moment { (work : Work) (put : List ℕ) → IsChunkText source → length source ≤ longest
+            → IsAt (O.may_leave outside.old)
+            (shown O.tells O.reads O.left O.taken O.told outside.old) self.old work put
+            → LeavesOnly O.moment O.left_since outside.old outside.new (WorkLeaves work put (SessionItem.Chunk (items.Method source))) }
+        ensures troubled { troubled_of self.new ≡ troubled_of self.old }
+        ensures faultless { OnOk result (IsFaultless self.new) }
+        ensures left { O.left outside.new ≡ O.left outside.old }
+        ensures counts { Counts (faults O.read_faults O.write_faults O.disk_faults outside.old)
+            (faults O.read_faults O.write_faults O.disk_faults outside.new) result }
+    {
+        let length = source.bytes().len();
+        if length > LONGEST {
+            return Ok(too_long_answer(&self.section, Role::Method, length as u64).reply);
+        }
+        let check = check_source(alloc, &source)?;
+        match &self.section {
+            Section::Open(head) => {
+                let method = method_of(alloc, head, source, check)?;
+                self.keep(alloc, Change::Method(method), outside)
             }
-            Err(fault) => Ok(Reply::Refused(refusal_of(fault)?)),
+            Section::Top => Ok(Reply::Silent),
+            Section::Refused => Ok(Reply::Silent),
         }
     }
 
@@ -187,15 +266,15 @@ impl Session {
         outside: &mut O,
     ) -> Result<Reply, SessionEnd>
         requires faultless { IsFaultless self.old }
-        ensures kept { (changes : List Change) (put : List ℕ) → IsLawfulFor changes change
+        ensures kept { (work : Work) (put : List ℕ) → IsLawfulFor work.changes change
             → IsAt (O.may_leave outside.old)
-            (shown O.tells O.reads O.left O.taken O.told outside.old) (keeper_of self.old) changes put
+            (shown O.tells O.reads O.left O.taken O.told outside.old) self.old work put
             → Kept result (O.may_leave outside.new)
-            (shown O.tells O.reads O.left O.taken O.told outside.new) (keeper_of self.new) changes put change }
-        ensures any_moment { (changes : List Change) (put : List ℕ) → IsLawfulFor changes change
+            (shown O.tells O.reads O.left O.taken O.told outside.new) self.new work put change }
+        ensures any_moment { (work : Work) (put : List ℕ) → IsLawfulFor work.changes change
             → IsAt (O.may_leave outside.old)
-            (shown O.tells O.reads O.left O.taken O.told outside.old) (keeper_of self.old) changes put
-            → LeavesOnly O.moment O.left_since outside.old outside.new (KeepLeaves changes put change) }
+            (shown O.tells O.reads O.left O.taken O.told outside.old) self.old work put
+            → LeavesOnly O.moment O.left_since outside.old outside.new (KeepLeaves work put change) }
         ensures troubled { troubled_of self.new ≡ troubled_of self.old }
         ensures faultless { OnOk result (IsFaultless self.new) }
         ensures left { O.left outside.new ≡ O.left outside.old }
@@ -209,30 +288,82 @@ impl Session {
         };
         match keep_change(&mut self.keeper, outside, prepared) {
             Ok(_) => Ok(Reply::Accepted),
-            Err(KeepFault::Disk(failed)) => Err(SessionEnd::Disk(failed)),
-            Err(KeepFault::Closed(failed)) => Err(SessionEnd::Disk(failed)),
-            Err(KeepFault::Full(length)) => Ok(Reply::Refused(Refusal::LogFull(length))),
+            Err(fault) => reply_to_fault(fault),
         }
     }
-}
 
-/// The change that a text with this tree is: the definition whose form the tree is, or else a doIt.
-fn change_of(alloc: Global, tree: DoItTree, text: Text) -> Result<Change, OutOfMemory>
-    ensures { IsDoItOf text (doit_of tree) → IfOk result (IsChangeOf text) }
-{
-    match recognise(alloc, &tree)? {
-        Recognised::Change(change) => Ok(change),
-        Recognised::Evaluate => Ok(Change::DoIt { text }),
+    /// What a query is told.
+    fn tell<O: Outside>(
+        &mut self,
+        alloc: Global,
+        query: Query,
+        outside: &mut O,
+    ) -> Result<Reply, SessionEnd>
+        requires faultless { IsFaultless self.old }
+        ensures replied { (work : Work) (put : List ℕ)
+            → IsAt (O.may_leave outside.old)
+            (shown O.tells O.reads O.left O.taken O.told outside.old) self.old work put
+            → Replied result (O.may_leave outside.new)
+            (shown O.tells O.reads O.left O.taken O.told outside.new) self.new work put (SessionItem.Query query) }
+        ensures any_moment { (work : Work) (put : List ℕ)
+            → IsAt (O.may_leave outside.old)
+            (shown O.tells O.reads O.left O.taken O.told outside.old) self.old work put
+            → LeavesOnly O.moment O.left_since outside.old outside.new (HasKept work.changes (length put)) }
+        ensures sound { IsTrue (O.tells outside.old) → (changes : List Change) → Knows (O.reads outside.old) (keeper_of self.old) changes → MeetsNoDamage result }
+        ensures troubled { troubled_of self.new ≡ troubled_of self.old }
+        ensures faultless { OnOk result (IsFaultless self.new) }
+        ensures left { O.left outside.new ≡ O.left outside.old }
+        ensures counts { CountsFor (SessionItem.Query query) (faults O.read_faults O.write_faults O.disk_faults outside.old)
+            (faults O.read_faults O.write_faults O.disk_faults outside.new) result }
+    {
+        let system = self.keeper.system();
+        match query {
+            Query::Recover => Ok(tell_recovered(alloc, system, self.keeper.count())?),
+            Query::Classes => Ok(tell_classes(alloc, system)?),
+            Query::Browse(name) => Ok(tell_browsed(alloc, system, name)?),
+            Query::Source(spec, selector) => self.tell_source(alloc, spec, selector, outside),
+        }
     }
-}
 
-/// What a text is answered that is too long. Behind a head nothing is answered.
-fn too_long_reply(role: Role, length: u64) -> Reply
-    ensures { (changes : List Change) → result ≡ reply_to changes (ask_of_too_long role length) }
-{
-    match role {
-        Role::Plain | Role::Head => Reply::Refused(Refusal::TooLarge(FitWord::Chunk, length)),
-        Role::Method => Reply::Silent,
+    /// The source of a method, by the words that name its class and side, and its selector.
+    fn tell_source<O: Outside>(
+        &mut self,
+        alloc: Global,
+        spec: Text,
+        selector: Text,
+        outside: &mut O,
+    ) -> Result<Reply, SessionEnd>
+        requires faultless { IsFaultless self.old }
+        ensures replied { (work : Work) (put : List ℕ)
+            → IsAt (O.may_leave outside.old)
+            (shown O.tells O.reads O.left O.taken O.told outside.old) self.old work put
+            → Replied result (O.may_leave outside.new)
+            (shown O.tells O.reads O.left O.taken O.told outside.new) self.new work put (SessionItem.Query (Query.Source spec selector)) }
+        ensures any_moment { (work : Work) (put : List ℕ)
+            → IsAt (O.may_leave outside.old)
+            (shown O.tells O.reads O.left O.taken O.told outside.old) self.old work put
+            → LeavesOnly O.moment O.left_since outside.old outside.new (HasKept work.changes (length put)) }
+        ensures sound { IsTrue (O.tells outside.old) → (changes : List Change) → Knows (O.reads outside.old) (keeper_of self.old) changes → MeetsNoDamage result }
+        ensures troubled { troubled_of self.new ≡ troubled_of self.old }
+        ensures faultless { OnOk result (IsFaultless self.new) }
+        ensures left { O.left outside.new ≡ O.left outside.old }
+        ensures counts { SourceCounts (faults O.read_faults O.write_faults O.disk_faults outside.old)
+            (faults O.read_faults O.write_faults O.disk_faults outside.new) result }
+    {
+        let Some((name, side)) = side_named(alloc, &spec)? else {
+            return Ok(Reply::Refused(Refusal::BadName(spec)));
+        };
+        let Some(number) = self.keeper.system().find(&name) else {
+            return Ok(Reply::Refused(Refusal::UnknownClass(name)));
+        };
+        match read_source(&mut self.keeper, alloc, outside, number, side, &selector) {
+            Ok(Some(mut source)) => {
+                source.append(b"\n")?;
+                Ok(Reply::Told(source))
+            }
+            Ok(None) => Ok(Reply::Refused(Refusal::NoSelector(name, side, selector))),
+            Err(fault) => reply_to_fault(fault),
+        }
     }
 }
 

@@ -2,18 +2,19 @@
 ghost use Rattle.std.specs.Prelude.{◌≡◌, IfOk};
 ghost use Rattle.s80_disk.specs.Memory.{told_by};
 
-use crate::{Query, Session, SessionEnd, SessionItem, put_all};
+use crate::{Session, SessionEnd, put_all};
 use s80_base::{Call, Failed, FixedClock, MemSink, MemSource, OutOfMemory, Text};
 use s80_chunk::{Item, Role};
 use s80_disk::{Disk, FaultPlan, FileId, MemDisk, MemOutside};
 use s80_keeper::Damage;
+use s80_model::{Query, SessionItem};
 use std::alloc::Global;
 use std::test::Fail;
 
 const ROOM: usize = 4096;
 
 /// An outside over this disk with this input.
-fn outside_of(
+pub(crate) fn outside_of(
     alloc: Global,
     disk: MemDisk,
     input: &[u8],
@@ -25,7 +26,7 @@ fn outside_of(
     Ok(MemOutside::make(disk, source, sink, FixedClock { seconds: 0 }))
 }
 
-fn new_disk(alloc: Global, plan: FaultPlan) -> Result<MemDisk, OutOfMemory>
+pub(crate) fn new_disk(alloc: Global, plan: FaultPlan) -> Result<MemDisk, OutOfMemory>
     ensures { IfOk result (λ disk. told_by disk ≡ 0) }
 {
     let disk = MemDisk::make(alloc, ROOM, 256, plan)?;
@@ -127,7 +128,7 @@ fn a_text_that_is_too_long_is_refused_before_it_is_parsed(rt: HostRuntime) -> Re
 }
 
 /// What a session answers to an input and then to a query.
-fn answers(alloc: Global, input: &[u8], query: Query) -> Result<Vec<u8>, Fail> {
+pub(crate) fn answers(alloc: Global, input: &[u8], query: Query) -> Result<Vec<u8>, Fail> {
     let mut outside = outside_of(alloc, new_disk(alloc, FaultPlan::Never)?, input)?;
     let mut session = Session::start(alloc, &mut outside)?;
     session.run_items(alloc, &mut outside)?;
@@ -137,7 +138,7 @@ fn answers(alloc: Global, input: &[u8], query: Query) -> Result<Vec<u8>, Fail> {
 }
 
 /// What a session answers to an input and then to `browse` with this name.
-fn browsed(alloc: Global, input: &[u8], name: &[u8]) -> Result<Vec<u8>, Fail> {
+pub(crate) fn browsed(alloc: Global, input: &[u8], name: &[u8]) -> Result<Vec<u8>, Fail> {
     answers(alloc, input, Query::Browse(Text::from_bytes(alloc, name)?))
 }
 
@@ -186,7 +187,7 @@ fn classes_of_the_kernel_are_browsed(rt: HostRuntime) -> Result<(), Fail> {
     let object = browsed(alloc, b"", b"Object")?;
     assert_eq!(rt;
         object.as_slice(),
-        b"nil subclass: #Object\n\tinstanceVariableNames: ''\n\tclassVariableNames: ''\n\tpoolDictionaries: ''\n\tcategory: 'Kernel'\ncomment: ''\nclass instanceVariableNames: ''\n".as_slice()
+        b"nil subclass: #Object\n\tinstanceVariableNames: ''\n\tclassVariableNames: ''\n\tpoolDictionaries: ''\n\tcategory: 'Kernel'\ncomment: ''\nclass instanceVariableNames: ''\n'kernel': = == at: at:put: class error: halt isNil notNil perform: primitiveFailed printString size subclassResponsibility yourself ~= ~~\n".as_slice()
     );
     let array = browsed(alloc, b"", b"Array")?;
     assert_eq!(rt;
@@ -196,7 +197,7 @@ fn classes_of_the_kernel_are_browsed(rt: HostRuntime) -> Result<(), Fail> {
     let message = browsed(alloc, b"", b"Message")?;
     assert_eq!(rt;
         message.as_slice(),
-        b"Object subclass: #Message\n\tinstanceVariableNames: 'selector args'\n\tclassVariableNames: ''\n\tpoolDictionaries: ''\n\tcategory: 'Kernel'\ncomment: ''\nclass instanceVariableNames: ''\n".as_slice()
+        b"Object subclass: #Message\n\tinstanceVariableNames: 'selector args'\n\tclassVariableNames: ''\n\tpoolDictionaries: ''\n\tcategory: 'Kernel'\ncomment: ''\nclass instanceVariableNames: ''\n'kernel': arguments selector\n".as_slice()
     );
     Ok(())
 }

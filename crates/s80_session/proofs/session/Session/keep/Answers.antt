@@ -1,107 +1,115 @@
-use Rattle.std.proofs.Common.{◌≡◌, ◌++◌, ◌∷◌, [], ℕ, List, length, Result, Ok, Err, Option, Some, None, ap, subst, ◌∙◌, arith}
-use Rattle.s80_base.specs.Causes.{Rose}
-use Rattle.s80_base.specs.declared.outside.Failed.{Failed}
-use Rattle.s80_change.specs.declared.change.Change.{Change}
+use Rattle.std.proofs.Common.{◌≡◌, ◌++◌, ◌∷◌, [], ℕ, List, length, None, refl, sym, Result, Ok, Err, ap, subst, ◌∙◌, arith}
+use Rattle.s80_block.specs.declared.change.Change.{Change}
+use Rattle.s80_block.specs.Block.{block, IsLawful}
 use Rattle.s80_change.specs.declared.refusal.Refused.{Refused}
-use Rattle.s80_change.specs.Block.{block, IsLawful}
 use Rattle.s80_disk.specs.Moments.{LeavesOnly}
 use Rattle.s80_keeper.specs.declared.keep.KeepFault.{KeepFault}
+use Rattle.s80_keeper.specs.declared.keep.KeepFault.TheVariants.{Full}
 use Rattle.s80_keeper.specs.Keeper.{KeeperState, Keeps}
-use Rattle.s80_apply.specs.List.{add}
 use Rattle.s80_keeper.specs.Standing.{LeavesEither}
-use Rattle.s80_keeper.specs.Answers.{Prepares, IfKeepDisk}
-use Rattle.s80_session.specs.Ending.{Faults}
+use Rattle.s80_keeper.specs.Answers.{Prepares}
+use Rattle.s80_state.specs.List.{add, state_of}
+use Rattle.s80_model.specs.declared.reply.Reply.{Reply}
+use Rattle.s80_model.specs.Replies.{Work}
+use Rattle.s80_session.specs.declared.end.SessionEnd.{SessionEnd}
+use Rattle.s80_session.specs.declared.session.Session.{Session}
+use Rattle.s80_session.specs.Ending.{Faults, NoFewer, Counts, faults}
 use Rattle.s80_session.specs.Run.{Shown, shown}
 use Rattle.s80_session.specs.Session.{keeper_of}
-use Rattle.s80_session.specs.Working.{IsAt, IsLawfulFor, KeepLeaves}
+use Rattle.s80_session.specs.Working.{IsAt, IsLawfulFor, Kept, KeepLeaves}
 use Rattle.s80_session.proofs.Lasting.{nothing_happens}
 use Rattle.s80_session.proofs.Adding.{still_at, refused, takes, lawful_on, kept, keep_lasts, keep_still}
+use Rattle.s80_session.proofs.Reading.{fault_kept, kept_counts}
 use Rattle.s80_session.proofs.session.Session.keep.Goals as goal
 use Rattle.s80_session.proofs.session.Session.keep.Goals.{After-keep_change}
 
-not_both : (o : Option Failed) (failed : Failed) → o ≡ None → o ≡ Some failed → ⊥
-not_both None failed none some = cc some
-not_both (Some other) failed none some = cc none
-
 pub returns-in-Err-Memory-clause-any_moment : goal.returns-in-Err-Memory-clause-any_moment
-returns-in-Err-Memory-clause-any_moment g c = λ changes put lawful at.
-    keep_still g.O.Disk.moment g.O.Disk.left_since c.args.outside.now changes put c.args.change (nothing_happens g.O.Disk.moment g.O.Disk.left_since _ (shown g.O.Disk.tells g.O.Disk.reads g.O.Source.left g.O.Sink.taken g.O.Sink.told c.args.outside.now) _ c.args.outside.now changes put (λ told image left. let x = g.met.O.Disk.only_now c.args.outside.now told image left in (x.0, x.1 ∙ ap (λ b. b.told) (g.met.O.Outside.beside_is c.args.outside.now))) at)
+returns-in-Err-Memory-clause-any_moment g c = λ work put lawful at.
+    keep_still g.O.Disk.moment g.O.Disk.left_since c.args.outside.now work put c.args.change (nothing_happens g.O.Disk.moment g.O.Disk.left_since _ (shown g.O.Disk.tells g.O.Disk.reads g.O.Source.left g.O.Sink.taken g.O.Sink.told c.args.outside.now) _ c.args.outside.now work put (λ told image left. let x = g.met.O.Disk.only_now c.args.outside.now told image left in (x.0, x.1 ∙ ap (λ b. b.told) (g.met.O.Outside.beside_is c.args.outside.now))) at)
 
 pub returns-in-Err-Refusal-clause-any_moment : goal.returns-in-Err-Refusal-clause-any_moment
-returns-in-Err-Refusal-clause-any_moment g c = λ changes put lawful at.
-    keep_still g.O.Disk.moment g.O.Disk.left_since c.args.outside.now changes put c.args.change (nothing_happens g.O.Disk.moment g.O.Disk.left_since _ (shown g.O.Disk.tells g.O.Disk.reads g.O.Source.left g.O.Sink.taken g.O.Sink.told c.args.outside.now) _ c.args.outside.now changes put (λ told image left. let x = g.met.O.Disk.only_now c.args.outside.now told image left in (x.0, x.1 ∙ ap (λ b. b.told) (g.met.O.Outside.beside_is c.args.outside.now))) at)
+returns-in-Err-Refusal-clause-any_moment g c = λ work put lawful at.
+    keep_still g.O.Disk.moment g.O.Disk.left_since c.args.outside.now work put c.args.change (nothing_happens g.O.Disk.moment g.O.Disk.left_since _ (shown g.O.Disk.tells g.O.Disk.reads g.O.Source.left g.O.Sink.taken g.O.Sink.told c.args.outside.now) _ c.args.outside.now work put (λ told image left. let x = g.met.O.Disk.only_now c.args.outside.now told image left in (x.0, x.1 ∙ ap (λ b. b.told) (g.met.O.Outside.beside_is c.args.outside.now))) at)
 
 pub returns-in-Err-Memory-clause-kept : goal.returns-in-Err-Memory-clause-kept
-returns-in-Err-Memory-clause-kept g c = λ changes put lawful at.
-    still_at (g.O.Disk.may_leave c.args.outside.now) (shown g.O.Disk.tells g.O.Disk.reads g.O.Source.left g.O.Sink.taken g.O.Sink.told c.args.outside.now) (keeper_of c.args.self.now) c.prepare.new.self changes put c.args.change c.prepare.ensures.same c.prepare.ensures.classes at
+returns-in-Err-Memory-clause-kept g c = λ work put lawful at.
+    still_at (g.O.Disk.may_leave c.args.outside.now) (shown g.O.Disk.tells g.O.Disk.reads g.O.Source.left g.O.Sink.taken g.O.Sink.told c.args.outside.now) c.args.self.now (record c.args.self.now { keeper = c.prepare.new.self }) work put c.args.change c.prepare.ensures.same (c.prepare.ensures.system (state_of work.changes) at.keeps.system) refl at
 
 pub returns-in-Err-Refusal-clause-kept : goal.returns-in-Err-Refusal-clause-kept
-returns-in-Err-Refusal-clause-kept g c = λ changes put lawful at.
-    let P : Refused → Type 0 = λ r. Prepares (keeper_of c.args.self.now).system.classes (keeper_of c.args.self.now).log.end c.args.change c.prepare.new.self.system (Err r) in
-    refused (g.O.Disk.may_leave c.args.outside.now) (shown g.O.Disk.tells g.O.Disk.reads g.O.Source.left g.O.Sink.taken g.O.Sink.told c.args.outside.now) (keeper_of c.args.self.now) c.prepare.new.self changes put c.args.change c.prepare.ensures.same c.prepare.ensures.classes at c.in-Err-Refusal.refusal (subst P c.in-Err-Refusal.field-0-is c.in-Err-Refusal.ensures.answer)
+returns-in-Err-Refusal-clause-kept g c = λ work put lawful at.
+    let P : Refused → Type 0 = λ r. Prepares (state_of work.changes) (keeper_of c.args.self.now).log.end c.args.change c.prepare.new.self.system (Err r) in
+    refused (g.O.Disk.may_leave c.args.outside.now) (shown g.O.Disk.tells g.O.Disk.reads g.O.Source.left g.O.Sink.taken g.O.Sink.told c.args.outside.now) c.args.self.now (record c.args.self.now { keeper = c.prepare.new.self }) work put c.args.change c.prepare.ensures.same (c.prepare.ensures.system (state_of work.changes) at.keeps.system) refl at c.in-Err-Refusal.refusal (subst P c.in-Err-Refusal.field-0-is (c.in-Err-Refusal.ensures.answer (state_of work.changes) at.keeps.system))
 
 -- what the paths behind the keeping share
-module _ (g : _) (c : After-keep_change g) (changes : List Change) (put : List ℕ) (lawful : IsLawfulFor changes c.args.change) (at : IsAt (g.O.Disk.may_leave c.args.outside.now) (shown g.O.Disk.tells g.O.Disk.reads g.O.Source.left g.O.Sink.taken g.O.Sink.told c.args.outside.now) (keeper_of c.args.self.now) changes put) where
-  -- the keeper is at the list yet
-  now_at : IsAt (g.O.Disk.may_leave c.args.outside.now) (shown g.O.Disk.tells g.O.Disk.reads g.O.Source.left g.O.Sink.taken g.O.Sink.told c.args.outside.now) c.prepare.new.self changes put
-  now_at = still_at (g.O.Disk.may_leave c.args.outside.now) (shown g.O.Disk.tells g.O.Disk.reads g.O.Source.left g.O.Sink.taken g.O.Sink.told c.args.outside.now) (keeper_of c.args.self.now) c.prepare.new.self changes put c.args.change c.prepare.ensures.same c.prepare.ensures.classes at
+module _ (g : _) (c : After-keep_change g) (work : Work) (put : List ℕ) (lawful : IsLawfulFor work.changes c.args.change) (at : IsAt (g.O.Disk.may_leave c.args.outside.now) (shown g.O.Disk.tells g.O.Disk.reads g.O.Source.left g.O.Sink.taken g.O.Sink.told c.args.outside.now) c.args.self.now work put) where
+  -- the session with a keeper that has prepared the change
+  abbrev ready : Session
+  ready = record c.args.self.now { keeper = c.prepare.new.self }
 
-  is_added : add changes c.args.change ≡ Ok (changes ++ c.args.change ∷ [])
-  is_added = takes (g.O.Disk.may_leave c.args.outside.now) (shown g.O.Disk.tells g.O.Disk.reads g.O.Source.left g.O.Sink.taken g.O.Sink.told c.args.outside.now) (keeper_of c.args.self.now) c.prepare.new.self changes put c.args.change c.prepare.ensures.same c.prepare.ensures.classes at c.in-Ok.prepared c.in-Ok.ensures.answer.0 c.in-Ok.ensures.answer.1 c.in-Ok.ensures.answer.2
+  -- it is at the list yet
+  now_at : IsAt (g.O.Disk.may_leave c.args.outside.now) (shown g.O.Disk.tells g.O.Disk.reads g.O.Source.left g.O.Sink.taken g.O.Sink.told c.args.outside.now) ready work put
+  now_at = still_at (g.O.Disk.may_leave c.args.outside.now) (shown g.O.Disk.tells g.O.Disk.reads g.O.Source.left g.O.Sink.taken g.O.Sink.told c.args.outside.now) c.args.self.now ready work put c.args.change c.prepare.ensures.same (c.prepare.ensures.system (state_of work.changes) at.keeps.system) refl at
+
+  answer : Prepares (state_of work.changes) (keeper_of c.args.self.now).log.end c.args.change c.prepare.new.self.system (Ok c.in-Ok.prepared)
+  answer = c.in-Ok.ensures.answer (state_of work.changes) at.keeps.system
+
+  is_added : add work.changes c.args.change ≡ Ok (work.changes ++ c.args.change ∷ [])
+  is_added = takes (g.O.Disk.may_leave c.args.outside.now) (shown g.O.Disk.tells g.O.Disk.reads g.O.Source.left g.O.Sink.taken g.O.Sink.told c.args.outside.now) c.args.self.now ready work put c.args.change c.prepare.ensures.same (c.prepare.ensures.system (state_of work.changes) at.keeps.system) refl at c.in-Ok.prepared answer.0 answer.1 answer.2
 
   is_lawful : IsLawful c.in-Ok.prepared.change
-  is_lawful = lawful_on (g.O.Disk.may_leave c.args.outside.now) (shown g.O.Disk.tells g.O.Disk.reads g.O.Source.left g.O.Sink.taken g.O.Sink.told c.args.outside.now) (keeper_of c.args.self.now) c.prepare.new.self changes put c.args.change c.prepare.ensures.same c.prepare.ensures.classes at c.in-Ok.prepared c.in-Ok.ensures.answer.0 c.in-Ok.ensures.answer.1 lawful
+  is_lawful = lawful_on (g.O.Disk.may_leave c.args.outside.now) (shown g.O.Disk.tells g.O.Disk.reads g.O.Source.left g.O.Sink.taken g.O.Sink.told c.args.outside.now) c.args.self.now ready work put c.args.change c.prepare.ensures.same (c.prepare.ensures.system (state_of work.changes) at.keeps.system) refl at c.in-Ok.prepared answer.0 answer.1 lawful
 
-  run : LeavesOnly g.O.Disk.moment g.O.Disk.left_since c.args.outside.now c.keep_change.new.outside (KeepLeaves changes put c.args.change)
+  -- what was prepared has room
+  roomy : (n : ℕ) → c.keep_change.result ≡ Err (Full n) → ⊥
+  roomy n is =
+      let full = (c.keep_change.ensures.full n).0 is in
+      let end = ap (λ (k : KeeperState). k.log.end) c.prepare.ensures.same in
+      let size = ap (λ (x : Change). length (block x)) answer.0 in
+      omega (arith, full.2, answer.2, end, size)
+
+  run : LeavesOnly g.O.Disk.moment g.O.Disk.left_since c.args.outside.now c.keep_change.new.outside (KeepLeaves work put c.args.change)
   run =
-      let P : Change → Type 0 = λ x. LeavesOnly g.O.Disk.moment g.O.Disk.left_since c.args.outside.now c.keep_change.new.outside (LeavesEither (g.O.Sink.told c.args.outside.now) changes (changes ++ x ∷ [])) in
-      keep_lasts g.O.Disk.moment g.O.Disk.left_since c.args.outside.now c.keep_change.new.outside changes put c.args.change (g.O.Sink.told c.args.outside.now) is_added at.told
-      (subst P c.in-Ok.ensures.answer.0 (c.keep_change.ensures.any_moment changes now_at.keeps is_lawful c.in-Ok.ensures.answer.1))
+      let P : Change → Type 0 = λ x. LeavesOnly g.O.Disk.moment g.O.Disk.left_since c.args.outside.now c.keep_change.new.outside (LeavesEither (g.O.Sink.told c.args.outside.now) work.changes (work.changes ++ x ∷ [])) in
+      keep_lasts g.O.Disk.moment g.O.Disk.left_since c.args.outside.now c.keep_change.new.outside work put c.args.change (g.O.Sink.told c.args.outside.now) is_added at.told
+      (subst P answer.0 (c.keep_change.ensures.any_moment work.changes now_at.keeps is_lawful answer.1))
 
 pub returns-in-Ok-keep_change-clause-kept : goal.returns-in-Ok-keep_change-clause-kept
-returns-in-Ok-keep_change-clause-kept g c = λ changes put lawful at.
+returns-in-Ok-keep_change-clause-kept g c = λ work put lawful at.
     let after = (goal.at.returns-in-Ok-keep_change-clause-kept g c).After-keep_change in
     let new = c.keep_change.new.outside in
-    let P : Change → Type 0 = λ x. Keeps (g.O.Disk.tells new) (g.O.Disk.reads new) (g.O.Disk.may_leave new) c.keep_change.new.keeper (changes ++ x ∷ []) in
-    kept (g.O.Disk.may_leave new) (shown g.O.Disk.tells g.O.Disk.reads g.O.Source.left g.O.Sink.taken g.O.Sink.told new) c.keep_change.new.keeper changes put c.args.change (is_added g after changes put lawful at)
-    (subst P c.in-Ok.ensures.answer.0 (c.in-Ok-keep_change.ensures.kept changes (now_at g after changes put lawful at).keeps (is_lawful g after changes put lawful at) c.in-Ok.ensures.answer.1))
+    let is = answer g after work put lawful at in
+    let P : Change → Type 0 = λ x. Keeps (g.O.Disk.tells new) (g.O.Disk.reads new) (g.O.Disk.may_leave new) c.keep_change.new.keeper (work.changes ++ x ∷ []) in
+    kept (g.O.Disk.may_leave new) (shown g.O.Disk.tells g.O.Disk.reads g.O.Source.left g.O.Sink.taken g.O.Sink.told new) (record c.args.self.now { keeper = c.keep_change.new.keeper }) work put c.args.change (is_added g after work put lawful at)
+    (subst P is.0 (c.in-Ok-keep_change.ensures.kept work.changes (now_at g after work put lawful at).keeps (is_lawful g after work put lawful at) is.1))
+    at.section
     (ap (λ (o : Shown). o.taken) c.keep_change.ensures.shown ∙ at.taken)
     (ap (λ (o : Shown). o.told) c.keep_change.ensures.shown ∙ at.told)
 
 pub returns-in-Ok-keep_change-clause-any_moment : goal.returns-in-Ok-keep_change-clause-any_moment
 returns-in-Ok-keep_change-clause-any_moment g c = run g (goal.at.returns-in-Ok-keep_change-clause-any_moment g c).After-keep_change
 
--- what was prepared has room
-pub returns-in-Err-Full-clause-kept : goal.returns-in-Err-Full-clause-kept
-returns-in-Err-Full-clause-kept g c = λ changes put lawful at.
-    let full = (c.keep_change.ensures.full c.in-Err-Full.length).0 (c.in-Err-Full.is ∙ ap Err c.in-Err-Full.field-0-is) in
-    let end = ap (λ (k : KeeperState). k.log.end) c.prepare.ensures.same in
-    let size = ap (λ (x : Change). length (block x)) c.in-Ok.ensures.answer.0 in
-    absurd (omega (arith, full.2, c.in-Ok.ensures.answer.2, end, size))
+pub returns-in-Err-clause-kept : goal.returns-in-Err-clause-kept
+returns-in-Err-clause-kept g c = λ work put lawful at.
+    let after = (goal.at.returns-in-Err-clause-kept g c).After-keep_change in
+    let new = c.keep_change.new.outside in
+    let now : Session = record c.args.self.now { keeper = c.keep_change.new.keeper } in
+    let P : Result Reply SessionEnd → Type 0 = λ r. Kept r (g.O.Disk.may_leave new) (shown g.O.Disk.tells g.O.Disk.reads g.O.Source.left g.O.Sink.taken g.O.Sink.told new) now work put c.args.change in
+    subst P (sym c.reply_to_fault.ensures) (fault_kept c.keep_change.result c.in-Ok.prepared c.prepare.new.self c.in-Err.fault (g.O.Disk.may_leave new) (shown g.O.Disk.tells g.O.Disk.reads g.O.Source.left g.O.Sink.taken g.O.Sink.told new) now work put c.args.change c.in-Err.is c.keep_change.ensures.after (roomy g after work put lawful at) (ap (λ (o : Shown). o.taken) c.keep_change.ensures.shown ∙ at.taken))
 
-pub returns-in-Err-Full-clause-any_moment : goal.returns-in-Err-Full-clause-any_moment
-returns-in-Err-Full-clause-any_moment g c = run g (goal.at.returns-in-Err-Full-clause-any_moment g c).After-keep_change
-
-pub returns-in-Err-Disk-clause-any_moment : goal.returns-in-Err-Disk-clause-any_moment
-returns-in-Err-Disk-clause-any_moment g c = run g (goal.at.returns-in-Err-Disk-clause-any_moment g c).After-keep_change
-
-pub returns-in-Err-Disk-clause-counts : goal.returns-in-Err-Disk-clause-counts
-returns-in-Err-Disk-clause-counts g c =
-    let counts = c.keep_change.ensures.faults in record {
-      later = record {
-        read = let e = ap (λ (f : Faults). f.read) counts in omega (arith, e);
-        write = let e = ap (λ (f : Faults). f.write) counts in omega (arith, e);
-        disk = c.keep_change.ensures.later;
-      };
-      reason = let P : Result ℕ KeepFault → Type 0 = λ r. IfKeepDisk r (λ failed. Rose (g.O.Disk.disk_faults c.args.outside.now) (g.O.Disk.disk_faults c.keep_change.new.outside)) in subst P (c.in-Err-Disk.is ∙ ap Err c.in-Err-Disk.field-0-is) c.keep_change.ensures.cause;
-    }
-
-pub returns-in-Err-Closed-clause-any_moment : goal.returns-in-Err-Closed-clause-any_moment
-returns-in-Err-Closed-clause-any_moment g c = run g (goal.at.returns-in-Err-Closed-clause-any_moment g c).After-keep_change
+pub returns-in-Err-clause-any_moment : goal.returns-in-Err-clause-any_moment
+returns-in-Err-clause-any_moment g c = run g (goal.at.returns-in-Err-clause-any_moment g c).After-keep_change
 
 -- no fault was met before
-pub returns-in-Err-Closed-clause-counts : goal.returns-in-Err-Closed-clause-counts
-returns-in-Err-Closed-clause-counts g c =
-    let met = (c.keep_change.ensures.closed c.in-Err-Closed.failed).0 (c.in-Err-Closed.is ∙ ap Err c.in-Err-Closed.field-0-is) in
-    let none = ap (λ (k : KeeperState). k.fault) c.prepare.ensures.same ∙ c.requires.faultless in
-    absurd (not_both _ _ none met)
+pub returns-in-Err-clause-counts : goal.returns-in-Err-clause-counts
+returns-in-Err-clause-counts g c =
+    let counts = c.keep_change.ensures.faults in
+    let old = faults g.O.Source.read_faults g.O.Sink.write_faults g.O.Disk.disk_faults c.args.outside.now in
+    let new = faults g.O.Source.read_faults g.O.Sink.write_faults g.O.Disk.disk_faults c.keep_change.new.outside in
+    let later : NoFewer old new = record {
+      read = let e = ap (λ (f : Faults). f.read) counts in omega (arith, e);
+      write = let e = ap (λ (f : Faults). f.write) counts in omega (arith, e);
+      disk = c.keep_change.ensures.later;
+    } in
+    let calm : c.prepare.new.self.fault ≡ None = ap (λ (k : KeeperState). k.fault) c.prepare.ensures.same ∙ c.requires.faultless in
+    let P : Result Reply SessionEnd → Type 0 = λ r. Counts old new r in
+    subst P (sym c.reply_to_fault.ensures) (kept_counts c.keep_change.result c.in-Ok.prepared c.prepare.new.self c.in-Err.fault c.keep_change.new.keeper old new c.in-Err.is c.keep_change.ensures.after later c.keep_change.ensures.cause c.keep_change.ensures.closed calm)

@@ -1,4 +1,4 @@
-use Rattle.std.proofs.Common.{ap, ◌∙◌}
+use Rattle.std.proofs.Common.{ap, refl, ◌∙◌}
 use Rattle.std.proofs.lemmas.Result.{err_from_is_err_and}
 use Rattle.s80_session.specs.Run.{Shown, shown}
 use Rattle.s80_session.proofs.Stepping.{starts_err}
@@ -12,6 +12,7 @@ returns-in_err-keeper-clause-started g c = λ changes put reads taken told.
 pub returns-clause-started : goal.returns-clause-started
 returns-clause-started g c = λ changes put reads taken told. record {
   keeps = c.in_ok-keeper.ensures.started changes reads;
+  section = refl;
   taken = ap (λ (o : Shown). o.taken) c.start_keeper.ensures.shown ∙ taken;
   told = ap (λ (o : Shown). o.told) c.start_keeper.ensures.shown ∙ told;
 }

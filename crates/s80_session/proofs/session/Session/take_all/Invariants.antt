@@ -1,22 +1,22 @@
 use Rattle.std.proofs.Common.{◌≡◌, ◌≤◌, ◌-◌, [], ℕ, List, Some, false}
 use Rattle.s80_chunk.specs.Held.{fed}
-use Rattle.s80_change.specs.declared.change.Change.{Change}
+use Rattle.s80_model.specs.Replies.{Work}
 use Rattle.s80_disk.specs.Moments.{LeavesOnly}
 use Rattle.s80_session.specs.Ending.{faults, NoFewer}
 use Rattle.s80_session.specs.Run.{shown, input_limit, Keeps}
-use Rattle.s80_session.specs.Session.{keeper_of, troubled_of, IsFaultless}
+use Rattle.s80_session.specs.Session.{IsFaultless}
 use Rattle.s80_session.specs.Working.{HasReadSome, IsWorking}
 use Rattle.s80_session.proofs.Taking.{IsTaking}
 use Rattle.s80_session.proofs.session.Session.take_all.Given as goal
 
 abbrev pub invariant-pieces : goal.invariant-pieces
 invariant-pieces g l = record {
-  taking : (changes : List Change) (input before : List ℕ) → g.O.Source.left l.fn.outside ≡ Some input
-      → IsWorking (g.O.Disk.may_leave l.fn.outside) (shown g.O.Disk.tells g.O.Disk.reads g.O.Source.left g.O.Sink.taken g.O.Sink.told l.fn.outside) (keeper_of l.fn.self) (troubled_of l.fn.self) l.fn.reader changes before [] []
-      → IsTaking (g.O.Disk.may_leave l.outside) (shown g.O.Disk.tells g.O.Disk.reads g.O.Source.left g.O.Sink.taken g.O.Sink.told l.outside) (keeper_of l.self) (troubled_of l.self) l.reader changes input before;
-  run : (changes : List Change) (input before : List ℕ) → g.O.Source.left l.fn.outside ≡ Some input
-      → IsWorking (g.O.Disk.may_leave l.fn.outside) (shown g.O.Disk.tells g.O.Disk.reads g.O.Source.left g.O.Sink.taken g.O.Sink.told l.fn.outside) (keeper_of l.fn.self) (troubled_of l.fn.self) l.fn.reader changes before [] []
-      → LeavesOnly g.O.Disk.moment g.O.Disk.left_since l.fn.outside l.outside (Keeps changes input before);
+  taking : (work : Work) (input before : List ℕ) → g.O.Source.left l.fn.outside ≡ Some input
+      → IsWorking (g.O.Disk.may_leave l.fn.outside) (shown g.O.Disk.tells g.O.Disk.reads g.O.Source.left g.O.Sink.taken g.O.Sink.told l.fn.outside) l.fn.self l.fn.reader work before [] []
+      → IsTaking (g.O.Disk.may_leave l.outside) (shown g.O.Disk.tells g.O.Disk.reads g.O.Source.left g.O.Sink.taken g.O.Sink.told l.outside) l.self l.reader work input before;
+  run : (work : Work) (input before : List ℕ) → g.O.Source.left l.fn.outside ≡ Some input
+      → IsWorking (g.O.Disk.may_leave l.fn.outside) (shown g.O.Disk.tells g.O.Disk.reads g.O.Source.left g.O.Sink.taken g.O.Sink.told l.fn.outside) l.fn.self l.fn.reader work before [] []
+      → LeavesOnly g.O.Disk.moment g.O.Disk.left_since l.fn.outside l.outside (Keeps work input before);
   later : NoFewer (faults g.O.Source.read_faults g.O.Sink.write_faults g.O.Disk.disk_faults l.fn.outside) (faults g.O.Source.read_faults g.O.Sink.write_faults g.O.Disk.disk_faults l.outside);
   reading : HasReadSome l.reader;
   opened : l.reader.ended ≡ false;

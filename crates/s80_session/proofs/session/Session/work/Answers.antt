@@ -1,72 +1,101 @@
-use Rattle.std.proofs.Common.{subst, sym, ap, ◌∙◌, refl, Ok}
-use Rattle.s80_session.specs.declared.item.SessionItem.{SessionItem}
-use Rattle.s80_session.specs.declared.item.SessionItem.TheVariants.{Chunk, Unended, Query}
+use Rattle.std.proofs.Common.{subst, sym, ap, ◌∙◌, refl, Ok, Some}
 use Rattle.s80_chunk.specs.declared.item.Item.TheVariants as items
 use Rattle.s80_change.specs.declared.refusal.Refusal.TheVariants as refusals
-use Rattle.s80_session.specs.declared.reply.Reply.TheVariants.{Refused}
-use Rattle.s80_session.specs.Asked.{refuses, ask_of_too_long}
-use Rattle.s80_session.specs.Run.{shown}
-use Rattle.s80_session.specs.Session.{keeper_of}
 use Rattle.s80_disk.specs.Moments.{LeavesOnly}
+use Rattle.s80_state.specs.System.{SystemState}
+use Rattle.s80_model.specs.declared.item.SessionItem.{SessionItem}
+use Rattle.s80_model.specs.declared.item.SessionItem.TheVariants.{Chunk, Unended, Query}
+use Rattle.s80_model.specs.declared.reply.Answer.{Answer}
+use Rattle.s80_model.specs.declared.reply.Reply.TheVariants.{Silent}
+use Rattle.s80_model.specs.declared.section.Section.TheVariants.{Top}
+use Rattle.s80_model.specs.Asked.{refuses, closes}
+use Rattle.s80_model.specs.Section.{section_or}
+use Rattle.s80_session.specs.Run.{shown}
 use Rattle.s80_session.specs.Working.{IsReadable, Worked, WorkLeaves}
 use Rattle.s80_session.proofs.Lasting.{nothing_happens, work_still}
-use Rattle.s80_session.proofs.Stepping.{worked_asked, worked_query, too_long_stays}
+use Rattle.s80_session.proofs.Stepping.{worked_plain, worked_method, worked_query, worked_head, worked_so, worked_too_long}
 use Rattle.s80_session.proofs.session.Session.work.Goals as goal
 
-pub returns-in-Chunk-Plain-clause-worked : goal.returns-in-Chunk-Plain-clause-worked
-returns-in-Chunk-Plain-clause-worked g c = λ changes put readable at.
-    let is = c.in-Chunk-Plain.is ∙ ap Chunk c.in-Chunk-Plain.field-0-is in
-    let now = shown g.O.Disk.tells g.O.Disk.reads g.O.Source.left g.O.Sink.taken g.O.Sink.told c.keep_text.new.outside in
-    let P : SessionItem → Type 0 = λ i. Worked c.keep_text.result (g.O.Disk.may_leave c.keep_text.new.outside) now (keeper_of c.keep_text.new.self) changes put i in
-    subst P (sym is) (c.keep_text.ensures.worked changes put (subst IsReadable is readable) at)
-
-pub returns-in-Chunk-Plain-clause-any_moment : goal.returns-in-Chunk-Plain-clause-any_moment
-returns-in-Chunk-Plain-clause-any_moment g c = λ changes put readable at.
-    let is = c.in-Chunk-Plain.is ∙ ap Chunk c.in-Chunk-Plain.field-0-is in
-    let P : SessionItem → Type 0 = λ i. LeavesOnly g.O.Disk.moment g.O.Disk.left_since c.args.outside.now c.keep_text.new.outside (WorkLeaves changes put i) in
-    subst P (sym is) (c.keep_text.ensures.any_moment changes put (subst IsReadable is readable) at)
-
-pub returns-in-Chunk-Head-clause-worked : goal.returns-in-Chunk-Head-clause-worked
-returns-in-Chunk-Head-clause-worked g c = λ changes put readable at.
-    let P : SessionItem → Type 0 = λ i. Worked (Ok (Refused (refusals.NoSection c.in-Chunk-Head.text))) (g.O.Disk.may_leave c.args.outside.now) (shown g.O.Disk.tells g.O.Disk.reads g.O.Source.left g.O.Sink.taken g.O.Sink.told c.args.outside.now) (keeper_of c.args.self.now) changes put i in
-    subst P (sym (c.in-Chunk-Head.is ∙ ap Chunk c.in-Chunk-Head.field-0-is)) (worked_asked (g.O.Disk.may_leave c.args.outside.now) (shown g.O.Disk.tells g.O.Disk.reads g.O.Source.left g.O.Sink.taken g.O.Sink.told c.args.outside.now) _ changes put (Chunk (items.Head c.in-Chunk-Head.text)) (refuses (refusals.NoSection c.in-Chunk-Head.text)) _ refl refl refl at)
-
-pub returns-in-Unended-clause-worked : goal.returns-in-Unended-clause-worked
-returns-in-Unended-clause-worked g c = λ changes put readable at.
-    let P : SessionItem → Type 0 = λ i. Worked (Ok (Refused refusals.Unended)) (g.O.Disk.may_leave c.args.outside.now) (shown g.O.Disk.tells g.O.Disk.reads g.O.Source.left g.O.Sink.taken g.O.Sink.told c.args.outside.now) (keeper_of c.args.self.now) changes put i in
-    subst P (sym c.in-Unended.is) (worked_asked (g.O.Disk.may_leave c.args.outside.now) (shown g.O.Disk.tells g.O.Disk.reads g.O.Source.left g.O.Sink.taken g.O.Sink.told c.args.outside.now) _ changes put Unended (refuses refusals.Unended) _ refl refl refl at)
-
-pub returns-in-Chunk-TooLong-clause-worked : goal.returns-in-Chunk-TooLong-clause-worked
-returns-in-Chunk-TooLong-clause-worked g c = λ changes put readable at.
-    let P : SessionItem → Type 0 = λ i. Worked (Ok c.too_long_reply.result) (g.O.Disk.may_leave c.args.outside.now) (shown g.O.Disk.tells g.O.Disk.reads g.O.Source.left g.O.Sink.taken g.O.Sink.told c.args.outside.now) (keeper_of c.args.self.now) changes put i in
-    subst P (sym (c.in-Chunk-TooLong.is ∙ ap Chunk c.in-Chunk-TooLong.field-0-is)) (worked_asked (g.O.Disk.may_leave c.args.outside.now) (shown g.O.Disk.tells g.O.Disk.reads g.O.Source.left g.O.Sink.taken g.O.Sink.told c.args.outside.now) _ changes put (Chunk (items.TooLong c.in-Chunk-TooLong.role c.in-Chunk-TooLong.length)) (ask_of_too_long c.in-Chunk-TooLong.role c.in-Chunk-TooLong.length) _ refl (c.too_long_reply.ensures changes) (too_long_stays changes c.in-Chunk-TooLong.role c.in-Chunk-TooLong.length) at)
-
-pub returns-clause-worked : goal.returns-clause-worked
-returns-clause-worked g c = λ changes put readable at.
-    let now = shown g.O.Disk.tells g.O.Disk.reads g.O.Source.left g.O.Sink.taken g.O.Sink.told c.args.outside.now in
-    let P : SessionItem → Type 0 = λ i. Worked (Ok c.in_ok-tell-in-Query.field-0) (g.O.Disk.may_leave c.args.outside.now) now (keeper_of c.args.self.now) changes put i in
-    subst P (sym c.in-Query.is) (worked_query (g.O.Disk.may_leave c.args.outside.now) now _ changes put c.in-Query.query _ c.in_ok-tell-in-Query.ensures at)
-
-pub returns-in-Chunk-Head-clause-any_moment : goal.returns-in-Chunk-Head-clause-any_moment
-returns-in-Chunk-Head-clause-any_moment g c = λ changes put readable at.
-    work_still g.O.Disk.moment g.O.Disk.left_since c.args.outside.now changes put c.args.item (nothing_happens g.O.Disk.moment g.O.Disk.left_since _ (shown g.O.Disk.tells g.O.Disk.reads g.O.Source.left g.O.Sink.taken g.O.Sink.told c.args.outside.now) _ c.args.outside.now changes put (λ told image left. let x = g.met.O.Disk.only_now c.args.outside.now told image left in (x.0, x.1 ∙ ap (λ b. b.told) (g.met.O.Outside.beside_is c.args.outside.now))) at)
-
-pub returns-in-Chunk-Method-clause-any_moment : goal.returns-in-Chunk-Method-clause-any_moment
-returns-in-Chunk-Method-clause-any_moment g c = λ changes put readable at.
-    work_still g.O.Disk.moment g.O.Disk.left_since c.args.outside.now changes put c.args.item (nothing_happens g.O.Disk.moment g.O.Disk.left_since _ (shown g.O.Disk.tells g.O.Disk.reads g.O.Source.left g.O.Sink.taken g.O.Sink.told c.args.outside.now) _ c.args.outside.now changes put (λ told image left. let x = g.met.O.Disk.only_now c.args.outside.now told image left in (x.0, x.1 ∙ ap (λ b. b.told) (g.met.O.Outside.beside_is c.args.outside.now))) at)
-
-pub returns-in-Chunk-TooLong-clause-any_moment : goal.returns-in-Chunk-TooLong-clause-any_moment
-returns-in-Chunk-TooLong-clause-any_moment g c = λ changes put readable at.
-    work_still g.O.Disk.moment g.O.Disk.left_since c.args.outside.now changes put c.args.item (nothing_happens g.O.Disk.moment g.O.Disk.left_since _ (shown g.O.Disk.tells g.O.Disk.reads g.O.Source.left g.O.Sink.taken g.O.Sink.told c.args.outside.now) _ c.args.outside.now changes put (λ told image left. let x = g.met.O.Disk.only_now c.args.outside.now told image left in (x.0, x.1 ∙ ap (λ b. b.told) (g.met.O.Outside.beside_is c.args.outside.now))) at)
-
-pub returns-in-Unended-clause-any_moment : goal.returns-in-Unended-clause-any_moment
-returns-in-Unended-clause-any_moment g c = λ changes put readable at.
-    work_still g.O.Disk.moment g.O.Disk.left_since c.args.outside.now changes put c.args.item (nothing_happens g.O.Disk.moment g.O.Disk.left_since _ (shown g.O.Disk.tells g.O.Disk.reads g.O.Source.left g.O.Sink.taken g.O.Sink.told c.args.outside.now) _ c.args.outside.now changes put (λ told image left. let x = g.met.O.Disk.only_now c.args.outside.now told image left in (x.0, x.1 ∙ ap (λ b. b.told) (g.met.O.Outside.beside_is c.args.outside.now))) at)
-
-pub returns-clause-any_moment : goal.returns-clause-any_moment
-returns-clause-any_moment g c = λ changes put readable at.
-    work_still g.O.Disk.moment g.O.Disk.left_since c.args.outside.now changes put c.args.item (nothing_happens g.O.Disk.moment g.O.Disk.left_since _ (shown g.O.Disk.tells g.O.Disk.reads g.O.Source.left g.O.Sink.taken g.O.Sink.told c.args.outside.now) _ c.args.outside.now changes put (λ told image left. let x = g.met.O.Disk.only_now c.args.outside.now told image left in (x.0, x.1 ∙ ap (λ b. b.told) (g.met.O.Outside.beside_is c.args.outside.now))) at)
+pub returns-in_err-head_answer-in-Chunk-Head-clause-any_moment : goal.returns-in_err-head_answer-in-Chunk-Head-clause-any_moment
+returns-in_err-head_answer-in-Chunk-Head-clause-any_moment g c = λ work put readable at.
+    work_still g.O.Disk.moment g.O.Disk.left_since c.args.outside.now c.args.outside.now work put c.args.item (nothing_happens g.O.Disk.moment g.O.Disk.left_since _ (shown g.O.Disk.tells g.O.Disk.reads g.O.Source.left g.O.Sink.taken g.O.Sink.told c.args.outside.now) _ c.args.outside.now work put (λ told image left. let x = g.met.O.Disk.only_now c.args.outside.now told image left in (x.0, x.1 ∙ ap (λ b. b.told) (g.met.O.Outside.beside_is c.args.outside.now))) at)
 
 pub returns-in_err-tell-in-Query-clause-any_moment : goal.returns-in_err-tell-in-Query-clause-any_moment
-returns-in_err-tell-in-Query-clause-any_moment g c = λ changes put readable at.
-    work_still g.O.Disk.moment g.O.Disk.left_since c.args.outside.now changes put c.args.item (nothing_happens g.O.Disk.moment g.O.Disk.left_since _ (shown g.O.Disk.tells g.O.Disk.reads g.O.Source.left g.O.Sink.taken g.O.Sink.told c.args.outside.now) _ c.args.outside.now changes put (λ told image left. let x = g.met.O.Disk.only_now c.args.outside.now told image left in (x.0, x.1 ∙ ap (λ b. b.told) (g.met.O.Outside.beside_is c.args.outside.now))) at)
+returns-in_err-tell-in-Query-clause-any_moment g c = λ work put readable at.
+    work_still g.O.Disk.moment g.O.Disk.left_since c.args.outside.now c.tell.new.outside work put c.args.item (c.tell.ensures.any_moment work put at)
+
+pub returns-in_ok-keep_text-in-Chunk-Plain-clause-worked : goal.returns-in_ok-keep_text-in-Chunk-Plain-clause-worked
+returns-in_ok-keep_text-in-Chunk-Plain-clause-worked g c = λ work put readable at.
+    let is = c.in-Chunk-Plain.is ∙ ap Chunk c.in-Chunk-Plain.field-0-is in
+    let P : SessionItem → Type 0 = λ i. Worked (Ok c.staying.result) (g.O.Disk.may_leave c.keep_text.new.outside) (shown g.O.Disk.tells g.O.Disk.reads g.O.Source.left g.O.Sink.taken g.O.Sink.told c.keep_text.new.outside) c.keep_text.new.self work put i in
+    subst P (sym is) (worked_plain (g.O.Disk.may_leave c.keep_text.new.outside) (shown g.O.Disk.tells g.O.Disk.reads g.O.Source.left g.O.Sink.taken g.O.Sink.told c.keep_text.new.outside) _ work put c.in-Chunk-Plain.text _ c.staying.result c.staying.ensures (c.in_ok-keep_text-in-Chunk-Plain.ensures.replied work put (subst IsReadable is readable) at))
+
+pub returns-in_ok-keep_text-in-Chunk-Plain-clause-any_moment : goal.returns-in_ok-keep_text-in-Chunk-Plain-clause-any_moment
+returns-in_ok-keep_text-in-Chunk-Plain-clause-any_moment g c = λ work put readable at.
+    let is = c.in-Chunk-Plain.is ∙ ap Chunk c.in-Chunk-Plain.field-0-is in
+    let P : SessionItem → Type 0 = λ i. LeavesOnly g.O.Disk.moment g.O.Disk.left_since c.args.outside.now c.keep_text.new.outside (WorkLeaves work put i) in
+    subst P (sym is) (c.keep_text.ensures.any_moment work put (subst IsReadable is readable) at)
+
+pub returns-in_ok-head_answer-in-Chunk-Head-clause-worked : goal.returns-in_ok-head_answer-in-Chunk-Head-clause-worked
+returns-in_ok-head_answer-in-Chunk-Head-clause-worked g c = λ work put readable at.
+    let is = c.in-Chunk-Head.is ∙ ap Chunk c.in-Chunk-Head.field-0-is in
+    let classes = ap (λ (s : SystemState). s.table.classes) c.system.ensures ∙ at.keeps.system.classes in
+    let P : SessionItem → Type 0 = λ i. Worked (Ok c.in_ok-head_answer-in-Chunk-Head.field-0) (g.O.Disk.may_leave c.args.outside.now) (shown g.O.Disk.tells g.O.Disk.reads g.O.Source.left g.O.Sink.taken g.O.Sink.told c.args.outside.now) c.args.self.now work put i in
+    subst P (sym is) (worked_head (g.O.Disk.may_leave c.args.outside.now) (shown g.O.Disk.tells g.O.Disk.reads g.O.Source.left g.O.Sink.taken g.O.Sink.told c.args.outside.now) _ work put c.in-Chunk-Head.text c.in_ok-head_answer-in-Chunk-Head.field-0 (c.in_ok-head_answer-in-Chunk-Head.ensures.answer work classes (subst IsReadable is readable).1) at)
+
+pub returns-in_ok-head_answer-in-Chunk-Head-clause-any_moment : goal.returns-in_ok-head_answer-in-Chunk-Head-clause-any_moment
+returns-in_ok-head_answer-in-Chunk-Head-clause-any_moment g c = λ work put readable at.
+    work_still g.O.Disk.moment g.O.Disk.left_since c.args.outside.now c.args.outside.now work put c.args.item (nothing_happens g.O.Disk.moment g.O.Disk.left_since _ (shown g.O.Disk.tells g.O.Disk.reads g.O.Source.left g.O.Sink.taken g.O.Sink.told c.args.outside.now) _ c.args.outside.now work put (λ told image left. let x = g.met.O.Disk.only_now c.args.outside.now told image left in (x.0, x.1 ∙ ap (λ b. b.told) (g.met.O.Outside.beside_is c.args.outside.now))) at)
+
+pub returns-in_ok-keep_method-in-Chunk-Method-clause-worked : goal.returns-in_ok-keep_method-in-Chunk-Method-clause-worked
+returns-in_ok-keep_method-in-Chunk-Method-clause-worked g c = λ work put readable at.
+    let is = c.in-Chunk-Method.is ∙ ap Chunk c.in-Chunk-Method.field-0-is in
+    let sound = subst IsReadable is readable in
+    let P : SessionItem → Type 0 = λ i. Worked (Ok c.staying-in-Chunk-Method.result) (g.O.Disk.may_leave c.keep_method.new.outside) (shown g.O.Disk.tells g.O.Disk.reads g.O.Source.left g.O.Sink.taken g.O.Sink.told c.keep_method.new.outside) c.keep_method.new.self work put i in
+    subst P (sym is) (worked_method (g.O.Disk.may_leave c.keep_method.new.outside) (shown g.O.Disk.tells g.O.Disk.reads g.O.Source.left g.O.Sink.taken g.O.Sink.told c.keep_method.new.outside) _ work put c.in-Chunk-Method.text _ c.staying-in-Chunk-Method.result c.staying-in-Chunk-Method.ensures (c.in_ok-keep_method-in-Chunk-Method.ensures.replied work put sound.0 sound.1 at))
+
+pub returns-in_ok-keep_method-in-Chunk-Method-clause-any_moment : goal.returns-in_ok-keep_method-in-Chunk-Method-clause-any_moment
+returns-in_ok-keep_method-in-Chunk-Method-clause-any_moment g c = λ work put readable at.
+    let is = c.in-Chunk-Method.is ∙ ap Chunk c.in-Chunk-Method.field-0-is in
+    let sound = subst IsReadable is readable in
+    let P : SessionItem → Type 0 = λ i. LeavesOnly g.O.Disk.moment g.O.Disk.left_since c.args.outside.now c.keep_method.new.outside (WorkLeaves work put i) in
+    subst P (sym is) (c.keep_method.ensures.any_moment work put sound.0 sound.1 at)
+
+pub returns-in-Chunk-SectionEnd-clause-worked : goal.returns-in-Chunk-SectionEnd-clause-worked
+returns-in-Chunk-SectionEnd-clause-worked g c = λ work put readable at.
+    let is = c.in-Chunk-SectionEnd.is ∙ ap Chunk c.in-Chunk-SectionEnd.field-0-is in
+    let P : SessionItem → Type 0 = λ i. Worked (Ok (record { reply = Silent; section = Some Top })) (g.O.Disk.may_leave c.args.outside.now) (shown g.O.Disk.tells g.O.Disk.reads g.O.Source.left g.O.Sink.taken g.O.Sink.told c.args.outside.now) c.args.self.now work put i in
+    subst P (sym is) (worked_so (g.O.Disk.may_leave c.args.outside.now) (shown g.O.Disk.tells g.O.Disk.reads g.O.Source.left g.O.Sink.taken g.O.Sink.told c.args.outside.now) _ work put (Chunk items.SectionEnd) closes (record { reply = Silent; section = Some Top }) refl (refl, refl) refl at)
+
+pub returns-in-Chunk-SectionEnd-clause-any_moment : goal.returns-in-Chunk-SectionEnd-clause-any_moment
+returns-in-Chunk-SectionEnd-clause-any_moment g c = λ work put readable at.
+    work_still g.O.Disk.moment g.O.Disk.left_since c.args.outside.now c.args.outside.now work put c.args.item (nothing_happens g.O.Disk.moment g.O.Disk.left_since _ (shown g.O.Disk.tells g.O.Disk.reads g.O.Source.left g.O.Sink.taken g.O.Sink.told c.args.outside.now) _ c.args.outside.now work put (λ told image left. let x = g.met.O.Disk.only_now c.args.outside.now told image left in (x.0, x.1 ∙ ap (λ b. b.told) (g.met.O.Outside.beside_is c.args.outside.now))) at)
+
+pub returns-in-Chunk-TooLong-clause-worked : goal.returns-in-Chunk-TooLong-clause-worked
+returns-in-Chunk-TooLong-clause-worked g c = λ work put readable at.
+    let is = c.in-Chunk-TooLong.is ∙ ap Chunk c.in-Chunk-TooLong.field-0-is in
+    let P : SessionItem → Type 0 = λ i. Worked (Ok c.too_long_answer.result) (g.O.Disk.may_leave c.args.outside.now) (shown g.O.Disk.tells g.O.Disk.reads g.O.Source.left g.O.Sink.taken g.O.Sink.told c.args.outside.now) c.args.self.now work put i in
+    subst P (sym is) (worked_too_long (g.O.Disk.may_leave c.args.outside.now) (shown g.O.Disk.tells g.O.Disk.reads g.O.Source.left g.O.Sink.taken g.O.Sink.told c.args.outside.now) _ work put c.in-Chunk-TooLong.role c.in-Chunk-TooLong.length c.too_long_answer.result (c.too_long_answer.ensures work (sym at.section)) at)
+
+pub returns-in-Chunk-TooLong-clause-any_moment : goal.returns-in-Chunk-TooLong-clause-any_moment
+returns-in-Chunk-TooLong-clause-any_moment g c = λ work put readable at.
+    work_still g.O.Disk.moment g.O.Disk.left_since c.args.outside.now c.args.outside.now work put c.args.item (nothing_happens g.O.Disk.moment g.O.Disk.left_since _ (shown g.O.Disk.tells g.O.Disk.reads g.O.Source.left g.O.Sink.taken g.O.Sink.told c.args.outside.now) _ c.args.outside.now work put (λ told image left. let x = g.met.O.Disk.only_now c.args.outside.now told image left in (x.0, x.1 ∙ ap (λ b. b.told) (g.met.O.Outside.beside_is c.args.outside.now))) at)
+
+pub returns-in-Unended-clause-worked : goal.returns-in-Unended-clause-worked
+returns-in-Unended-clause-worked g c = λ work put readable at.
+    let is = c.staying-in-Unended.ensures in
+    let P : SessionItem → Type 0 = λ i. Worked (Ok c.staying-in-Unended.result) (g.O.Disk.may_leave c.args.outside.now) (shown g.O.Disk.tells g.O.Disk.reads g.O.Source.left g.O.Sink.taken g.O.Sink.told c.args.outside.now) c.args.self.now work put i in
+    subst P (sym c.in-Unended.is) (worked_so (g.O.Disk.may_leave c.args.outside.now) (shown g.O.Disk.tells g.O.Disk.reads g.O.Source.left g.O.Sink.taken g.O.Sink.told c.args.outside.now) _ work put Unended (refuses refusals.Unended) c.staying-in-Unended.result refl (ap (λ (a : Answer). a.reply) is, ap (λ (a : Answer). section_or a.section work.section) is) refl at)
+
+pub returns-in-Unended-clause-any_moment : goal.returns-in-Unended-clause-any_moment
+returns-in-Unended-clause-any_moment g c = λ work put readable at.
+    work_still g.O.Disk.moment g.O.Disk.left_since c.args.outside.now c.args.outside.now work put c.args.item (nothing_happens g.O.Disk.moment g.O.Disk.left_since _ (shown g.O.Disk.tells g.O.Disk.reads g.O.Source.left g.O.Sink.taken g.O.Sink.told c.args.outside.now) _ c.args.outside.now work put (λ told image left. let x = g.met.O.Disk.only_now c.args.outside.now told image left in (x.0, x.1 ∙ ap (λ b. b.told) (g.met.O.Outside.beside_is c.args.outside.now))) at)
+
+pub returns-in_ok-tell-in-Query-clause-worked : goal.returns-in_ok-tell-in-Query-clause-worked
+returns-in_ok-tell-in-Query-clause-worked g c = λ work put readable at.
+    let P : SessionItem → Type 0 = λ i. Worked (Ok c.staying-in-Query.result) (g.O.Disk.may_leave c.tell.new.outside) (shown g.O.Disk.tells g.O.Disk.reads g.O.Source.left g.O.Sink.taken g.O.Sink.told c.tell.new.outside) c.tell.new.self work put i in
+    subst P (sym c.in-Query.is) (worked_query (g.O.Disk.may_leave c.tell.new.outside) (shown g.O.Disk.tells g.O.Disk.reads g.O.Source.left g.O.Sink.taken g.O.Sink.told c.tell.new.outside) _ work put c.in-Query.query _ c.staying-in-Query.result c.staying-in-Query.ensures (c.in_ok-tell-in-Query.ensures.replied work put at))
+
+pub returns-in_ok-tell-in-Query-clause-any_moment : goal.returns-in_ok-tell-in-Query-clause-any_moment
+returns-in_ok-tell-in-Query-clause-any_moment g c = λ work put readable at.
+    work_still g.O.Disk.moment g.O.Disk.left_since c.args.outside.now c.tell.new.outside work put c.args.item (c.tell.ensures.any_moment work put at)

@@ -1,0 +1,114 @@
+use Rattle.std.proofs.Common.{◌≡◌, ◌++◌, ◌∷◌, [], ℕ, List, Option, Some, None, Result, Ok, Err, length, refl, ap, sym, subst, ◌∙◌, arith}
+use Rattle.std.proofs.lemmas.Result.{err_from_is_err_and}
+use Rattle.std.specs.FinMap as map
+use Rattle.s80_class.specs.Classes.{Classes}
+use Rattle.s80_class.specs.Table.{IsNumberOf}
+use Rattle.s80_disk.specs.Moments.{LeavesOnly}
+use Rattle.s80_keeper.specs.declared.keep.KeepFault.{KeepFault}
+use Rattle.s80_keeper.specs.Keeper.{KeeperState}
+use Rattle.s80_keeper.specs.Source.{IsThis, after_reading}
+use Rattle.s80_model.specs.declared.item.Query.TheVariants.{Source}
+use Rattle.s80_model.specs.declared.item.SessionItem.TheVariants.{Query}
+use Rattle.s80_model.specs.declared.reply.Reply.{Reply}
+use Rattle.s80_model.specs.declared.reply.Reply.TheVariants as replies
+use Rattle.s80_model.specs.Replies.{Work}
+use Rattle.s80_model.specs.Told.{source_in, source_told}
+use Rattle.s80_state.specs.List.{state_of}
+use Rattle.s80_state.specs.System.{SystemState}
+use Rattle.s80_session.specs.declared.end.SessionEnd.{SessionEnd}
+use Rattle.s80_session.specs.declared.session.Session.{Session}
+use Rattle.s80_session.specs.Ending.{Faults, NoFewer, SourceCounts, faults}
+use Rattle.s80_session.specs.Run.{HasKept, shown}
+use Rattle.s80_session.specs.Working.{IsAt, Replied}
+use Rattle.s80_session.proofs.Keeping.{keeps_knows}
+use Rattle.s80_session.proofs.Lasting.{nothing_happens, quiet_last}
+use Rattle.s80_session.proofs.Reading.{at_read, fault_replied, read_counts}
+use Rattle.s80_session.proofs.Stepping.{replied_told}
+use Rattle.s80_session.proofs.Telling.{source_is_told}
+use Rattle.s80_session.proofs.session.Session.tell_source.Goals as goal
+use Rattle.s80_session.proofs.session.Session.tell_source.Goals.{After-read_source}
+
+-- what the paths behind the reading share
+module _ (g : _) (c : After-read_source g) (work : Work) (put : List ℕ) (at : IsAt (g.O.Disk.may_leave c.args.outside.now) (shown g.O.Disk.tells g.O.Disk.reads g.O.Source.left g.O.Sink.taken g.O.Sink.told c.args.outside.now) c.args.self.now work put) where
+  -- it is the source that the list has
+  this : IsThis (source_in (state_of work.changes) c.in-Some.name c.in-Some.side c.args.selector) c.read_source.result
+  this = c.read_source.ensures.source at.keeps.stands.told work.changes (keeps_knows (g.O.Disk.tells c.args.outside.now) (g.O.Disk.reads c.args.outside.now) (g.O.Disk.may_leave c.args.outside.now) c.args.self.now.keeper work.changes at.keeps) c.in-Some.name (subst (λ (s : SystemState). IsNumberOf s.table.names c.in-Some-find.number c.in-Some.name) c.system.ensures c.in-Some-find.ensures.named)
+
+  run : LeavesOnly g.O.Disk.moment g.O.Disk.left_since c.args.outside.now c.read_source.new.outside (HasKept work.changes (length put))
+  run = quiet_last g.O.Disk.moment g.O.Disk.left_since (g.O.Disk.may_leave c.args.outside.now) (shown g.O.Disk.tells g.O.Disk.reads g.O.Source.left g.O.Sink.taken g.O.Sink.told c.args.outside.now) c.args.self.now c.args.outside.now c.read_source.new.outside work put at c.read_source.ensures.any_moment
+
+  -- where it was read, or isn't there, the session is where it was
+  still : (found : Option (List ℕ)) → c.read_source.result ≡ Ok found → IsAt (g.O.Disk.may_leave c.read_source.new.outside) (shown g.O.Disk.tells g.O.Disk.reads g.O.Source.left g.O.Sink.taken g.O.Sink.told c.read_source.new.outside) (record c.args.self.now { keeper = c.read_source.new.keeper }) work put
+  still found is =
+      let same : c.read_source.new.keeper ≡ c.args.self.now.keeper = c.read_source.ensures.after ∙ ap (λ r. after_reading r c.args.self.now.keeper) is in
+      at_read (g.O.Disk.may_leave c.args.outside.now) (g.O.Disk.may_leave c.read_source.new.outside) (shown g.O.Disk.tells g.O.Disk.reads g.O.Source.left g.O.Sink.taken g.O.Sink.told c.args.outside.now) (shown g.O.Disk.tells g.O.Disk.reads g.O.Source.left g.O.Sink.taken g.O.Sink.told c.read_source.new.outside) c.args.self.now (record c.args.self.now { keeper = c.read_source.new.keeper }) work put same refl c.read_source.ensures.images c.read_source.ensures.same c.read_source.ensures.shown at
+
+  -- the reply to a source that was read, or isn't there
+  is_told : (found : Option (List ℕ)) (reply : Reply) → c.read_source.result ≡ Ok found → reply ≡ source_told c.in-Some.name c.in-Some.side c.args.selector found → Replied (Ok reply) (g.O.Disk.may_leave c.read_source.new.outside) (shown g.O.Disk.tells g.O.Disk.reads g.O.Source.left g.O.Sink.taken g.O.Sink.told c.read_source.new.outside) (record c.args.self.now { keeper = c.read_source.new.keeper }) work put (Query (Source c.args.spec c.args.selector))
+  is_told found reply is reply_is =
+      let P : Result (Option (List ℕ)) KeepFault → Type 0 = λ r. IsThis (source_in (state_of work.changes) c.in-Some.name c.in-Some.side c.args.selector) r in
+      let row = c.in-Some-find.ensures.there in
+      let text = source_is_told (state_of work.changes) (length work.changes) c.args.spec c.args.selector c.in_ok-name.field-0 (c.in-Some.name, c.in-Some.side) c.in_ok-name.ensures c.in-Some.is row.0 found reply (sym (ap (λ (s : SystemState). map.get s.table.classes c.in-Some.name) c.system.ensures ∙ ap (λ (m : Classes). map.get m c.in-Some.name) at.keeps.system.classes) ∙ row.1) (subst P is this) reply_is in
+      replied_told (g.O.Disk.may_leave c.read_source.new.outside) (shown g.O.Disk.tells g.O.Disk.reads g.O.Source.left g.O.Sink.taken g.O.Sink.told c.read_source.new.outside) (record c.args.self.now { keeper = c.read_source.new.keeper }) work put (Source c.args.spec c.args.selector) (Source c.args.spec c.args.selector) (length work.changes) reply refl refl text (still found is)
+
+pub returns-in_err-name-clause-any_moment : goal.returns-in_err-name-clause-any_moment
+returns-in_err-name-clause-any_moment g c = λ work put at.
+    nothing_happens g.O.Disk.moment g.O.Disk.left_since _ (shown g.O.Disk.tells g.O.Disk.reads g.O.Source.left g.O.Sink.taken g.O.Sink.told c.args.outside.now) _ c.args.outside.now work put (λ told image left. let x = g.met.O.Disk.only_now c.args.outside.now told image left in (x.0, x.1 ∙ ap (λ b. b.told) (g.met.O.Outside.beside_is c.args.outside.now))) at
+
+pub returns-in_default-clause-any_moment : goal.returns-in_default-clause-any_moment
+returns-in_default-clause-any_moment g c = λ work put at.
+    nothing_happens g.O.Disk.moment g.O.Disk.left_since _ (shown g.O.Disk.tells g.O.Disk.reads g.O.Source.left g.O.Sink.taken g.O.Sink.told c.args.outside.now) _ c.args.outside.now work put (λ told image left. let x = g.met.O.Disk.only_now c.args.outside.now told image left in (x.0, x.1 ∙ ap (λ b. b.told) (g.met.O.Outside.beside_is c.args.outside.now))) at
+
+pub returns-in_default-find-clause-any_moment : goal.returns-in_default-find-clause-any_moment
+returns-in_default-find-clause-any_moment g c = λ work put at.
+    nothing_happens g.O.Disk.moment g.O.Disk.left_since _ (shown g.O.Disk.tells g.O.Disk.reads g.O.Source.left g.O.Sink.taken g.O.Sink.told c.args.outside.now) _ c.args.outside.now work put (λ told image left. let x = g.met.O.Disk.only_now c.args.outside.now told image left in (x.0, x.1 ∙ ap (λ b. b.told) (g.met.O.Outside.beside_is c.args.outside.now))) at
+
+pub returns-in_err-append-in-Ok-Some-clause-any_moment : goal.returns-in_err-append-in-Ok-Some-clause-any_moment
+returns-in_err-append-in-Ok-Some-clause-any_moment g c = run g (goal.at.returns-in_err-append-in-Ok-Some-clause-any_moment g c).After-read_source
+
+pub returns-in-Ok-Some-clause-any_moment : goal.returns-in-Ok-Some-clause-any_moment
+returns-in-Ok-Some-clause-any_moment g c = run g (goal.at.returns-in-Ok-Some-clause-any_moment g c).After-read_source
+
+pub returns-in-Ok-None-clause-any_moment : goal.returns-in-Ok-None-clause-any_moment
+returns-in-Ok-None-clause-any_moment g c = run g (goal.at.returns-in-Ok-None-clause-any_moment g c).After-read_source
+
+pub returns-clause-any_moment : goal.returns-clause-any_moment
+returns-clause-any_moment g c = run g (goal.at.returns-clause-any_moment g c).After-read_source
+
+pub returns-in-Ok-Some-clause-replied : goal.returns-in-Ok-Some-clause-replied
+returns-in-Ok-Some-clause-replied g c = λ work put at.
+    let after = (goal.at.returns-in-Ok-Some-clause-replied g c).After-read_source in
+    is_told g after work put at (Some c.in-Ok-Some.source) (replies.Told c.append.new.self) (c.in-Ok-Some.is ∙ ap Ok c.in-Ok-Some.field-0-is) (ap replies.Told c.in_ok-append-in-Ok-Some.ensures.ok)
+
+pub returns-in_err-append-in-Ok-Some-clause-replied : goal.returns-in_err-append-in-Ok-Some-clause-replied
+returns-in_err-append-in-Ok-Some-clause-replied g c = λ work put at.
+    let after = (goal.at.returns-in_err-append-in-Ok-Some-clause-replied g c).After-read_source in
+    let p = err_from_is_err_and c.from_residual-in_err-append-in-Ok-Some.result c.from_residual-in_err-append-in-Ok-Some.ensures.1 in
+    rw (p.1, p.2) (still g after work put at (Some c.in-Ok-Some.source) (c.in-Ok-Some.is ∙ ap Ok c.in-Ok-Some.field-0-is))
+
+pub returns-in-Ok-None-clause-replied : goal.returns-in-Ok-None-clause-replied
+returns-in-Ok-None-clause-replied g c = λ work put at.
+    let after = (goal.at.returns-in-Ok-None-clause-replied g c).After-read_source in
+    is_told g after work put at None _ (c.in-Ok-None.is ∙ ap Ok c.in-Ok-None.field-0-is) refl
+
+pub returns-clause-replied : goal.returns-clause-replied
+returns-clause-replied g c = λ work put at.
+    let after = (goal.at.returns-clause-replied g c).After-read_source in
+    let new = c.read_source.new.outside in
+    let now : Session = record c.args.self.now { keeper = c.read_source.new.keeper } in
+    let P : Result Reply SessionEnd → Type 0 = λ r. Replied r (g.O.Disk.may_leave new) (shown g.O.Disk.tells g.O.Disk.reads g.O.Source.left g.O.Sink.taken g.O.Sink.told new) now work put (Query (Source c.args.spec c.args.selector)) in
+    let Q : Result (Option (List ℕ)) KeepFault → Type 0 = λ r. IsThis (source_in (state_of work.changes) c.in-Some.name c.in-Some.side c.args.selector) r in
+    subst P (sym c.reply_to_fault.ensures) (fault_replied c.in-Err.fault (source_in (state_of work.changes) c.in-Some.name c.in-Some.side c.args.selector) (g.O.Disk.may_leave c.args.outside.now) (g.O.Disk.may_leave new) (shown g.O.Disk.tells g.O.Disk.reads g.O.Source.left g.O.Sink.taken g.O.Sink.told c.args.outside.now) (shown g.O.Disk.tells g.O.Disk.reads g.O.Source.left g.O.Sink.taken g.O.Sink.told new) c.args.self.now now work put (Query (Source c.args.spec c.args.selector)) (subst Q c.in-Err.is (this g after work put at)) (c.read_source.ensures.after ∙ ap (λ r. after_reading r c.args.self.now.keeper) c.in-Err.is) refl c.read_source.ensures.images c.read_source.ensures.same c.read_source.ensures.shown at)
+
+pub returns-clause-counts : goal.returns-clause-counts
+returns-clause-counts g c =
+    let counts = c.read_source.ensures.faults in
+    let old = faults g.O.Source.read_faults g.O.Sink.write_faults g.O.Disk.disk_faults c.args.outside.now in
+    let new = faults g.O.Source.read_faults g.O.Sink.write_faults g.O.Disk.disk_faults c.read_source.new.outside in
+    let later : NoFewer old new = record {
+      read = let e = ap (λ (f : Faults). f.read) counts in omega (arith, e);
+      write = let e = ap (λ (f : Faults). f.write) counts in omega (arith, e);
+      disk = c.read_source.ensures.later;
+    } in
+    let P : Result Reply SessionEnd → Type 0 = λ r. SourceCounts old new r in
+    subst P (sym c.reply_to_fault.ensures) (read_counts c.read_source.result c.args.self.now.keeper c.in-Err.fault old new c.in-Err.is later c.read_source.ensures.cause c.read_source.ensures.closed c.requires.faultless)
