@@ -2,7 +2,7 @@
 use Rattle.std.proofs.Common.{◌≡◌, ℕ, List, [], ◌∷◌, Option, Some, None, refl, sym, ap, subst, ◌∙◌}
 use Rattle.std.specs.Prelude.{codes, drop, if◌then◌else◌}
 use Rattle.std.specs.Str.{bytes_eq}
-use Rattle.s80_session.specs.declared.item.Query.TheVariants.{Recover, Classes, Browse}
+use Rattle.s80_model.specs.declared.item.Query.TheVariants.{Recover, Classes, Browse, Source}
 use Rattle.st80.specs.Command.{Command, Run, Tell, command_word, arguments_of}
 use Rattle.st80.specs.Words.{AreOf, Asks}
 
@@ -10,13 +10,15 @@ use Rattle.st80.specs.Words.{AreOf, Asks}
 abbrev command_from : List (List ℕ) → Option Command
 command_from [] = None
 command_from (word ∷ []) = if bytes_eq word (codes "run") then Some Run else (if bytes_eq word (codes "recover") then Some (Tell Recover) else Some (Tell Classes))
-command_from (word ∷ name ∷ rest) = Some (Tell (Browse name))
+command_from (word ∷ name ∷ []) = Some (Tell (Browse name))
+command_from (word ∷ spec ∷ selector ∷ rest) = Some (Tell (Source spec selector))
 
 from_words : (command : Command) → command_from (command_word command ∷ arguments_of command) ≡ Some command
 from_words Run = refl
 from_words (Tell Recover) = refl
 from_words (Tell Classes) = refl
 from_words (Tell (Browse name)) = refl
+from_words (Tell (Source spec selector)) = refl
 
 same_some : (one other : Command) → Some one ≡ Some other → one ≡ other
 same_some one other is = cc is

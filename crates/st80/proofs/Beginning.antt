@@ -1,9 +1,9 @@
 -- The beginning of a command: the folder is chosen, and a session starts.
-use Rattle.std.proofs.Common.{◌≡◌, inl, inr, ⊎_elim, ℕ, List, [], length, refl, sym, ap, subst, ◌∙◌, Err, Some, Bool, arith}
-use Rattle.std.specs.Prelude.{◌<◌}
+use Rattle.std.proofs.Common.{◌≡◌, ◌≢◌, inl, inr, ⊎_elim, ℕ, List, [], length, refl, sym, ap, subst, ◌∙◌, Err, Some, Bool, true, false, take, arith}
+use Rattle.std.specs.Prelude.{◌<◌, ◌==◌, if◌then◌else◌}
 use Rattle.std.proofs.lemmas.List.{append-nil}
 use Rattle.s80_chunk.specs.Chunks.Reads.{stop}
-use Rattle.s80_change.specs.declared.change.Change.{Change}
+use Rattle.s80_block.specs.declared.change.Change.{Change}
 use Rattle.s80_disk.specs.Image.{Image}
 use Rattle.s80_disk.specs.Moments.{LeavesOnly}
 use Rattle.s80_disk.proofs.Run.{joined, weaker}
@@ -11,19 +11,26 @@ use Rattle.s80_mark.specs.Mark.{valid_mark}
 use Rattle.s80_mark.specs.Found.{longer_log}
 use Rattle.s80_keeper.specs.declared.start.Damage.{Damage}
 use Rattle.s80_keeper.specs.declared.start.Damage.TheVariants as damages
-use Rattle.s80_keeper.specs.Keeper.{KeeperState}
+use Rattle.s80_block.specs.Block.{blocks}
+use Rattle.s80_disk.specs.declared.disk.FileId.{FileId}
+use Rattle.s80_disk.specs.declared.disk.FileId.TheVariants.{Mark, Log0, Log1}
+use Rattle.s80_log.specs.Log.{log_file}
+use Rattle.s80_keeper.specs.Keeper.{KeeperState, Knows}
 use Rattle.s80_keeper.specs.Standing.{FilesStandFor, StandsFor, ReadsFor}
 use Rattle.s80_keeper.specs.Start.{IsDamage}
 use Rattle.s80_session.specs.declared.end.SessionEnd.{SessionEnd}
 use Rattle.s80_session.specs.declared.end.SessionEnd.TheVariants as ends
 use Rattle.s80_session.specs.Putting.{IsAsBefore}
+use Rattle.s80_model.specs.Replies.{begun}
+use Rattle.s80_session.specs.declared.session.Session.{Session}
+use Rattle.s80_session.specs.Session.{keeper_of}
 use Rattle.s80_session.specs.Run.{Shown, HasKept}
-use Rattle.s80_session.specs.Working.{IsAt, IsDiskEnd, Starts, IsSessionStart}
+use Rattle.s80_session.specs.Working.{IsAt, Starts, IsSessionStart}
 use Rattle.s80_session.proofs.Keeping.{keeps_stands}
 use Rattle.s80_session.proofs.Lasting.{keeps_at_start}
 use Rattle.st80.specs.declared.status.Status.TheVariants as status
 use Rattle.st80.specs.Command.{Command, Run, Tell}
-use Rattle.st80.specs.Ending.{status_after}
+use Rattle.st80.specs.Ending.{IsDiskEnd, status_after}
 use Rattle.st80.specs.Leaves.{StartsWith, Leaves, CommandKeeps, TellsDamage}
 
 -- every crash of a disk that stands for a list leaves files that do
@@ -97,13 +104,13 @@ no_session command (ends.Damaged damage) may_leave now changes input before h le
 no_session command ends.TooLong may_leave now changes input before h left taken = absurd h
 
 -- memory is wanting before the first item
-pub no_memory : (command : Command) (may_leave : Image → Type 0) (now : Shown) (keeper : KeeperState) (changes : List Change) (input before : List ℕ) → IsAt may_leave now keeper changes before → now.left ≡ Some input → Leaves command (status_after (Err ends.Memory)) may_leave now changes input before
-no_memory command may_leave now keeper changes input before at left =
-    no_session command ends.Memory may_leave now changes input before (keeps_stands now.tells now.files may_leave keeper changes at.keeps) left at.taken
+pub no_memory : (command : Command) (may_leave : Image → Type 0) (now : Shown) (session : Session) (changes : List Change) (input before : List ℕ) → IsAt may_leave now session (begun changes) before → now.left ≡ Some input → Leaves command (status_after (Err ends.Memory)) may_leave now changes input before
+no_memory command may_leave now session changes input before at left =
+    no_session command ends.Memory may_leave now changes input before (keeps_stands now.tells now.files may_leave (keeper_of session) changes at.keeps) left at.taken
 
 -- what is kept before the first item
 pub kept_at_start : (command : Command) (changes : List Change) (input before : List ℕ) (told : ℕ) (c : Image) → HasKept changes (length before) told c → CommandKeeps command changes input before told c
-kept_at_start Run changes input before told c h = keeps_at_start changes input before told c h
+kept_at_start Run changes input before told c h = keeps_at_start (begun changes) input before told c h
 kept_at_start (Tell query) changes input before told c h = inl h
 
 module _ {D : Type 0} (moment : D → ℕ) (left_since : D → ℕ → ℕ → Image → Type 0) (command : Command) (changes : List Change) (input before : List ℕ) where
@@ -115,11 +122,11 @@ module _ {D : Type 0} (moment : D → ℕ) (left_since : D → ℕ → ℕ → I
   chosen tells reads may_leave told old new stands is run = weaker moment left_since old new (IsAsBefore may_leave told 0) P run (λ n c h. kept_at_start command changes input before n c (record { no_more = omega (arith, h.no_more, is); files = stands_leaves tells reads may_leave changes stands c h.was }))
 
   -- a session starts
-  pub begun : (told : ℕ) (old new : D) → told ≡ length before → LeavesOnly moment left_since old new (HasKept changes told) → LeavesOnly moment left_since old new P
-  begun told old new is run = weaker moment left_since old new (HasKept changes told) P run (λ n c h. kept_at_start command changes input before n c (record { no_more = omega (arith, h.no_more, is); files = h.files }))
+  pub session_begins : (told : ℕ) (old new : D) → told ≡ length before → LeavesOnly moment left_since old new (HasKept changes told) → LeavesOnly moment left_since old new P
+  session_begins told old new is run = weaker moment left_since old new (HasKept changes told) P run (λ n c h. kept_at_start command changes input before n c (record { no_more = omega (arith, h.no_more, is); files = h.files }))
 
-  pub then : (old mid new : D) → LeavesOnly moment left_since old mid P → LeavesOnly moment left_since mid new P → LeavesOnly moment left_since old new P
-  then old mid new first second = joined moment left_since old mid new P P first second (λ n c h. h)
+  pub goes_on : (old mid new : D) → LeavesOnly moment left_since old mid P → LeavesOnly moment left_since mid new P → LeavesOnly moment left_since old new P
+  goes_on old mid new first second = joined moment left_since old mid new P P first second (λ n c h. h)
 
 -- a log holds something where files are damaged
 pub damaged_has_log : (files : Image) (damage : Damage) → IsDamage files damage → 0 < longer_log files
@@ -153,3 +160,18 @@ shown_but_files old now same = let P : Shown → Type 0 = λ o. o ≡ record old
 
 pub shown_through : (old mid now : Shown) → mid ≡ old → now ≡ record mid { files = now.files } → now ≡ record old { files = now.files }
 shown_through old mid now same here = let P : Shown → Type 0 = λ o. now ≡ record o { files = now.files } in subst P same here
+
+-- what the files have of the keeper's log, where the mark alone was written
+log_or_log : (b : Bool) → (if b then Log0 else Log1) ≢ Mark
+log_or_log true is = cc is
+log_or_log false is = cc is
+
+no_mark : (number : ℕ) → log_file number ≢ Mark
+no_mark number = log_or_log (number == 0)
+
+pub knows_on : (files now : Image) (keeper : KeeperState) (changes : List Change) → ((other : FileId) → other ≢ Mark → now other ≡ files other) → Knows files keeper changes → Knows now keeper changes
+knows_on files now keeper changes same h = record {
+  log = ap (take keeper.log.end) (same (log_file keeper.log.number) (no_mark keeper.log.number)) ∙ h.log;
+  system = h.system;
+  count = h.count;
+}

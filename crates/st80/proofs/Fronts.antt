@@ -5,15 +5,15 @@ use Rattle.s80_chunk.specs.declared.item.Item.{Item}
 use Rattle.s80_chunk.specs.Chunks.{Reads, IsBlank}
 use Rattle.s80_chunk.proofs.Reading.{one_reading}
 use Rattle.s80_chunk.proofs.Stopping.{reads_prefix}
-use Rattle.s80_change.specs.declared.change.Change.{Change}
+use Rattle.s80_block.specs.declared.change.Change.{Change}
 use Rattle.s80_disk.specs.Image.{Image}
-use Rattle.s80_session.specs.declared.item.SessionItem.{SessionItem}
-use Rattle.s80_session.specs.declared.item.SessionItem.TheVariants.{Chunk, Unended}
-use Rattle.s80_session.specs.Asked.{Ask, tells, AllAsk}
+use Rattle.s80_model.specs.declared.item.SessionItem.{SessionItem}
+use Rattle.s80_model.specs.declared.item.SessionItem.TheVariants.{Chunk, Unended}
+use Rattle.s80_model.specs.Asked.{Ask, tells, AllAsk}
 use Rattle.s80_session.specs.Ending.{Faults}
-use Rattle.s80_session.specs.Replies.{reply_to, reply_text, list_after, list_after_all, replies}
+use Rattle.s80_model.specs.Replies.{Work, begun, reply_to, reply_text, work_after, work_after_all, replies}
 use Rattle.s80_session.specs.Run.{Shown, chunks, ItemsOf, FirstItemsOf, AsksOf, FirstAsksOf, WholeAsksOf, Finished, input_limit}
-use Rattle.s80_session.proofs.Asking.{one_ask}
+use Rattle.s80_model.proofs.Asking.{one_ask}
 use Rattle.s80_session.proofs.Taking.{first_of}
 use Rattle.st80.specs.declared.status.Status.{Status}
 use Rattle.st80.specs.declared.status.Status.TheVariants as status
@@ -25,11 +25,11 @@ chunks_append : (given more : List Item) → chunks (given ++ more) ≡ chunks g
 chunks_append [] more = refl
 chunks_append (item ∷ given) more = ap (λ l. Chunk item ∷ l) (chunks_append given more)
 
-replies_append : (changes : List Change) (asks more : List Ask) → replies changes (asks ++ more) ≡ replies changes asks ++ replies (list_after_all changes asks) more
-replies_append changes [] more = refl
-replies_append changes (ask ∷ asks) more =
-    ap (λ l. reply_text (reply_to changes ask) ++ l) (replies_append (list_after changes ask) asks more)
-    ∙ sym (append_assoc (reply_text (reply_to changes ask)) (replies (list_after changes ask) asks) (replies (list_after_all (list_after changes ask) asks) more))
+replies_append : (work : Work) (asks more : List Ask) → replies work (asks ++ more) ≡ replies work asks ++ replies (work_after_all work asks) more
+replies_append work [] more = refl
+replies_append work (ask ∷ asks) more =
+    ap (λ l. reply_text (reply_to work ask) ++ l) (replies_append (work_after work ask) asks more)
+    ∙ sym (append_assoc (reply_text (reply_to work ask)) (replies (work_after work ask) asks) (replies (work_after_all (work_after work ask) asks) more))
 
 abbrev Begins : {A : Type 0} → List A → List A → Type 0
 Begins {A} items all = (others : List A) × (all ≡ items ++ others)
@@ -80,29 +80,29 @@ first_asks input asks all (items, first, asked) (list, whole, all_asked) =
 
 -- these bytes were put, a front of all replies
 abbrev PutsFront : Shown → List Change → List ℕ → List Ask → Type 0
-PutsFront now changes before all = (put more : List ℕ) × (now.taken ≡ Some (before ++ put)) × (replies changes all ≡ put ++ more)
+PutsFront now changes before all = (put more : List ℕ) × (now.taken ≡ Some (before ++ put)) × (replies (begun changes) all ≡ put ++ more)
 
-front_put : (now : Shown) (changes : List Change) (before : List ℕ) (asks all : List Ask) → Begins asks all → now.taken ≡ Some (before ++ replies changes asks) → PutsFront now changes before all
-front_put now changes before asks all h taken = (replies changes asks, replies (list_after_all changes asks) h.0, taken, ap (replies changes) h.1 ∙ replies_append changes asks h.0)
+front_put : (now : Shown) (changes : List Change) (before : List ℕ) (asks all : List Ask) → Begins asks all → now.taken ≡ Some (before ++ replies (begun changes) asks) → PutsFront now changes before all
+front_put now changes before asks all h taken = (replies (begun changes) asks, replies (work_after_all (begun changes) asks) h.0, taken, ap (replies (begun changes)) h.1 ∙ replies_append (begun changes) asks h.0)
 
 -- the last reply was put in part
 part_put : (now : Shown) (changes : List Change) (before : List ℕ) (asks : List Ask) (last : Ask) (count : ℕ) (all : List Ask) → Begins (asks ++ last ∷ []) all
-    → now.taken ≡ Some ((before ++ replies changes asks) ++ take count (reply_text (reply_to (list_after_all changes asks) last))) → PutsFront now changes before all
+    → now.taken ≡ Some ((before ++ replies (begun changes) asks) ++ take count (reply_text (reply_to (work_after_all (begun changes) asks) last))) → PutsFront now changes before all
 part_put now changes before asks last count all h taken =
-    let line = reply_text (reply_to (list_after_all changes asks) last) in
-    let after = replies (list_after (list_after_all changes asks) last) h.0 in
+    let line = reply_text (reply_to (work_after_all (begun changes) asks) last) in
+    let after = replies (work_after (work_after_all (begun changes) asks) last) h.0 in
     let rest = drop count line ++ after in
-    let whole : replies changes all ≡ replies changes asks ++ (line ++ after) =
-    ap (replies changes) (h.1 ∙ append_assoc asks (last ∷ []) h.0) ∙ replies_append changes asks (last ∷ h.0) in
+    let whole : replies (begun changes) all ≡ replies (begun changes) asks ++ (line ++ after) =
+    ap (replies (begun changes)) (h.1 ∙ append_assoc asks (last ∷ []) h.0) ∙ replies_append (begun changes) asks (last ∷ h.0) in
     let cut : line ++ after ≡ take count line ++ rest =
     ap (λ (l : List ℕ). l ++ after) (sym (take-append-drop count line)) ∙ append_assoc (take count line) (drop count line) after in (
-      replies changes asks ++ take count line,
+      replies (begun changes) asks ++ take count line,
       rest,
-      taken ∙ ap Some (append_assoc before (replies changes asks) (take count line)),
-      whole ∙ ap (λ (l : List ℕ). replies changes asks ++ l) cut ∙ sym (append_assoc (replies changes asks) (take count line) rest),
+      taken ∙ ap Some (append_assoc before (replies (begun changes) asks) (take count line)),
+      whole ∙ ap (λ (l : List ℕ). replies (begun changes) asks ++ l) cut ∙ sym (append_assoc (replies (begun changes) asks) (take count line) rest),
     )
 
-finished_front : (may_leave : Image → Type 0) (now : Shown) (changes : List Change) (input before : List ℕ) (refused : Bool) (all : List Ask) → Finished may_leave now changes input before refused → AsksOf input all → PutsFront now changes before all
+finished_front : (may_leave : Image → Type 0) (now : Shown) (changes : List Change) (input before : List ℕ) (refused : Bool) (all : List Ask) → Finished may_leave now (begun changes) input before refused → AsksOf input all → PutsFront now changes before all
 finished_front may_leave now changes input before refused all h whole =
     let items_first : FirstAsksOf input h.asks = (h.all.0, inr h.all.1, h.all.2) in
     front_put now changes before h.asks all (first_asks input h.asks all items_first whole) h.answered.taken
@@ -126,9 +126,9 @@ item_front status.DoneWithRefusals may_leave now changes ask before h = front_pu
 item_front status.Usage may_leave now changes ask before h = absurd h
 item_front status.ReadFault may_leave now changes ask before h = absurd h
 item_front status.WriteFault may_leave now changes ask before h =
-    let line = reply_text (reply_to changes ask) in
+    let line = reply_text (reply_to (begun changes) ask) in
     (take h.0 line, drop h.0 line, h.2, append-nil line ∙ sym (take-append-drop h.0 line))
-item_front status.DiskFault may_leave now changes ask before h = ([], replies changes (ask ∷ []), h ∙ ap Some (sym (append-nil before)), refl)
+item_front status.DiskFault may_leave now changes ask before h = ([], replies (begun changes) (ask ∷ []), h ∙ ap Some (sym (append-nil before)), refl)
 item_front status.Damaged may_leave now changes ask before h = absurd h
 item_front status.OutOfMemory may_leave now changes ask before h = front_put now changes before [] (ask ∷ []) (ask ∷ [], refl) h.taken
 item_front status.InputTooLong may_leave now changes ask before h = absurd h

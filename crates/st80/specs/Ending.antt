@@ -36,6 +36,11 @@ status_after (Err (ends.Disk failed)) = status.DiskFault
 status_after (Err (ends.Damaged damage)) = status.Damaged
 status_after (Err ends.TooLong) = status.InputTooLong
 
+-- a call of the disk failed
+abbrev pub IsDiskEnd : SessionEnd → Type 0
+IsDiskEnd (ends.Disk failed) = Unit {0}
+IsDiskEnd _ = ⊥
+
 -- all was done, or memory was wanting
 abbrev pub IsWhole : Status → Type 0
 IsWhole status.Done = Unit {0}

@@ -1,5 +1,5 @@
 -- The command that a task is.
-use Rattle.s80_session.specs.declared.item.Query.TheVariants.{Recover, Classes, Browse}
+use Rattle.s80_model.specs.declared.item.Query.TheVariants.{Recover, Classes, Browse, Source}
 use Rattle.st80.specs.declared.words.Task.{Task}
 use Rattle.st80.specs.declared.words.Task.TheVariants as tasks
 use Rattle.st80.specs.Command.{Command, Run, Tell}
@@ -9,3 +9,4 @@ command_of tasks.Run = Run
 command_of tasks.Recover = Tell Recover
 command_of tasks.Classes = Tell Classes
 command_of (tasks.Browse name) = Tell (Browse name.now)
+command_of (tasks.Source spec selector) = Tell (Source spec.now selector.now)

@@ -1,19 +1,20 @@
 // What the program does with its words.
 ghost use Rattle.std.specs.Prelude.{◌≡◌, ◌≢◌, ◌++◌, ℕ, List, IsTrue, false, Some, IfOk, IfErr};
-ghost use Rattle.s80_change.specs.declared.change.Change.{Change};
+ghost use Rattle.s80_block.specs.declared.change.Change.{Change};
 ghost use Rattle.s80_disk.specs.declared.disk.FileId.{FileId};
 ghost use Rattle.s80_disk.specs.Moments.{LeavesOnly};
 ghost use Rattle.s80_keeper.specs.declared.start.Damage.{Damage};
 ghost use Rattle.s80_keeper.specs.Standing.{StandsFor};
 ghost use Rattle.s80_keeper.specs.Start.{IsDamage};
-ghost use Rattle.s80_session.specs.Asked.{Ask, tells};
-ghost use Rattle.s80_session.specs.Ending.{faults, Counts};
-ghost use Rattle.s80_session.specs.Replies.{replies};
+ghost use Rattle.s80_keeper.specs.Keeper.{Knows};
+ghost use Rattle.s80_model.specs.Asked.{Ask, tells};
+ghost use Rattle.s80_model.specs.Replies.{begun, replies};
+ghost use Rattle.s80_session.specs.Ending.{faults, Counts, MeetsNoDamage, SourceCounts};
 ghost use Rattle.s80_session.specs.Putting.{IsAsBefore};
 ghost use Rattle.s80_session.specs.Run.{shown, Keeps};
 ghost use Rattle.s80_session.specs.Session.{keeper_of, troubled_of, IsFaultless};
-ghost use Rattle.s80_session.specs.Working.{IsAt, IsDiskEnd};
-ghost use Rattle.st80.specs.Ending.{NoFault, StatusHasReason, status_after, IsWhole};
+ghost use Rattle.s80_session.specs.Working.{IsAt};
+ghost use Rattle.st80.specs.Ending.{IsDiskEnd, NoFault, StatusHasReason, status_after, IsWhole};
 ghost use Rattle.st80.specs.Leaves.{StartsWith, Leaves, RunLeaves, ItemLeaves, AskLeaves, CommandKeeps, AllAsks, IsWithin, TellsDamage};
 ghost use Rattle.st80.specs.Command.{Command, command_with};
 ghost use Rattle.st80.specs.Words.{Asks};
@@ -24,12 +25,13 @@ use crate::status::Status;
 use crate::words::{Task, request_of};
 use s80_base::{OutOfMemory, Text};
 use s80_disk::Outside;
-use s80_session::{Query, Session, SessionEnd, SessionItem};
+use s80_model::{Query, SessionItem};
+use s80_session::{Session, SessionEnd};
 use std::alloc::Global;
 
 /// Does what the words ask for: the program's name, a folder and a command. `run` keeps each chunk of the input that is a definition of a
-/// class or another doIt in the folder, on the disk, and then answers it by a line of the output; `classes` names all classes, `browse NAME`
-/// shows one, and `recover` says how much there is.
+/// class, a method or a doIt in the folder, on the disk, and then answers it by a line of the output; `classes` names all classes,
+/// `browse NAME` shows one, `source SPEC SELECTOR` shows a method, and `recover` says how much there is.
 pub fn st80<O: Outside>(alloc: Global, words: &[Text], outside: &mut O) -> Status
     // Bad usage is answered exactly where the words ask for nothing, and then the outside isn't called.
     ensures usage { result ≡ Status.Usage
@@ -60,7 +62,7 @@ pub fn st80<O: Outside>(alloc: Global, words: &[Text], outside: &mut O) -> Statu
         → Asks words.now folder command
         → StartsWith (O.may_leave outside.old) (shown O.tells O.reads O.left O.taken O.told outside.old) changes input before
         → AllAsks command input asks
-        → (put more : List ℕ) × (O.taken outside.new ≡ Some (before ++ put)) × (replies changes asks ≡ put ++ more) }
+        → (put more : List ℕ) × (O.taken outside.new ≡ Some (before ++ put)) × (replies (begun changes) asks ≡ put ++ more) }
 
     // With no fault and an input within the limit it comes to the end, or memory is wanting.
     ensures complete { (folder : List ℕ) (command : Command) (changes : List Change) (input before : List ℕ)
@@ -142,15 +144,16 @@ fn do_task<O: Outside>(
     ensures worked { (changes : List Change) (input before : List ℕ) → O.left outside.old ≡ Some input
         → troubled_of session.old ≡ false
         → IsAt (O.may_leave outside.old)
-        (shown O.tells O.reads O.left O.taken O.told outside.old) (keeper_of session.old) changes before
+        (shown O.tells O.reads O.left O.taken O.told outside.old) session.old (begun changes) before
         → Leaves (command_of task.entry) (status_after result) (O.may_leave outside.new)
         (shown O.tells O.reads O.left O.taken O.told outside.new) changes input before }
     ensures any_moment { (changes : List Change) (input before : List ℕ) → O.left outside.old ≡ Some input
         → troubled_of session.old ≡ false
         → IsAt (O.may_leave outside.old)
-        (shown O.tells O.reads O.left O.taken O.told outside.old) (keeper_of session.old) changes before
+        (shown O.tells O.reads O.left O.taken O.told outside.old) session.old (begun changes) before
         → LeavesOnly O.moment O.left_since outside.old outside.new (CommandKeeps (command_of task.entry) changes input before) }
-    ensures counts { Counts (faults O.read_faults O.write_faults O.disk_faults outside.old)
+    ensures sound { IsTrue (O.tells outside.old) → (changes : List Change) → Knows (O.reads outside.old) (keeper_of session.old) changes → MeetsNoDamage result }
+    ensures counts { SourceCounts (faults O.read_faults O.write_faults O.disk_faults outside.old)
         (faults O.read_faults O.write_faults O.disk_faults outside.new) result }
 {
     match query_of(alloc, task)? {
@@ -168,6 +171,10 @@ fn query_of(alloc: Global, task: Task<'_>) -> Result<Option<Query>, OutOfMemory>
         Task::Recover => Ok(Some(Query::Recover)),
         Task::Classes => Ok(Some(Query::Classes)),
         Task::Browse(name) => Ok(Some(Query::Browse(name.copy(alloc)?))),
+        Task::Source(spec, selector) => Ok(Some(Query::Source(
+            spec.copy(alloc)?,
+            selector.copy(alloc)?,
+        ))),
     }
 }
 
@@ -181,14 +188,14 @@ fn run_input<O: Outside>(
     ensures worked { (changes : List Change) (input before : List ℕ) → O.left outside.old ≡ Some input
         → troubled_of session.old ≡ false
         → IsAt (O.may_leave outside.old)
-        (shown O.tells O.reads O.left O.taken O.told outside.old) (keeper_of session.old) changes before
+        (shown O.tells O.reads O.left O.taken O.told outside.old) session.old (begun changes) before
         → RunLeaves (status_after result) (O.may_leave outside.new)
         (shown O.tells O.reads O.left O.taken O.told outside.new) changes input before }
     ensures any_moment { (changes : List Change) (input before : List ℕ) → O.left outside.old ≡ Some input
         → troubled_of session.old ≡ false
         → IsAt (O.may_leave outside.old)
-        (shown O.tells O.reads O.left O.taken O.told outside.old) (keeper_of session.old) changes before
-        → LeavesOnly O.moment O.left_since outside.old outside.new (Keeps changes input before) }
+        (shown O.tells O.reads O.left O.taken O.told outside.old) session.old (begun changes) before
+        → LeavesOnly O.moment O.left_since outside.old outside.new (Keeps (begun changes) input before) }
     ensures counts { Counts (faults O.read_faults O.write_faults O.disk_faults outside.old)
         (faults O.read_faults O.write_faults O.disk_faults outside.new) result }
 {
@@ -206,15 +213,16 @@ fn answer_query<O: Outside>(
     requires faultless { IsFaultless session.old }
     ensures worked { (changes : List Change) (before : List ℕ) → troubled_of session.old ≡ false
         → IsAt (O.may_leave outside.old)
-        (shown O.tells O.reads O.left O.taken O.told outside.old) (keeper_of session.old) changes before
+        (shown O.tells O.reads O.left O.taken O.told outside.old) session.old (begun changes) before
         → ItemLeaves (status_after result) (O.may_leave outside.new)
         (shown O.tells O.reads O.left O.taken O.told outside.new) changes (tells query) before }
     ensures any_moment { (changes : List Change) (before : List ℕ)
         → IsAt (O.may_leave outside.old)
-        (shown O.tells O.reads O.left O.taken O.told outside.old) (keeper_of session.old) changes before
+        (shown O.tells O.reads O.left O.taken O.told outside.old) session.old (begun changes) before
         → LeavesOnly O.moment O.left_since outside.old outside.new (AskLeaves changes before (tells query)) }
     ensures left { O.left outside.new ≡ O.left outside.old }
-    ensures counts { Counts (faults O.read_faults O.write_faults O.disk_faults outside.old)
+    ensures sound { IsTrue (O.tells outside.old) → (changes : List Change) → Knows (O.reads outside.old) (keeper_of session.old) changes → MeetsNoDamage result }
+    ensures counts { SourceCounts (faults O.read_faults O.write_faults O.disk_faults outside.old)
         (faults O.read_faults O.write_faults O.disk_faults outside.new) result }
 {
     session.step(alloc, SessionItem::Query(query), outside)?;

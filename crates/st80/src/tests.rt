@@ -11,6 +11,7 @@ use std::test::Fail;
 mod browsing;
 mod crashes;
 mod damages;
+mod methods;
 mod noting;
 mod recovering;
 
@@ -119,9 +120,9 @@ fn chunks_are_kept_and_answered(rt: HostRuntime) -> Result<(), Fail> {
         (b"! !\n7!", b"ok\n", Status::Done, b"7!\n"),
         (
             ACCOUNT,
-            b"ok\nok\nrefused 13 no section Account methodsFor: 'accessing'\nok\n",
-            Status::DoneWithRefusals,
-            b"'From Smalltalk-80 of 1 April 1983'!\nObject subclass: #Account\n\tinstanceVariableNames: 'balance'\n\tclassVariableNames: ''\n\tpoolDictionaries: ''\n\tcategory: 'Bank'!\nAccount new deposit: 100; deposit: 50; balance!\n",
+            b"ok\nok\nok\nok\nok\n",
+            Status::Done,
+            b"'From Smalltalk-80 of 1 April 1983'!\nObject subclass: #Account\n\tinstanceVariableNames: 'balance'\n\tclassVariableNames: ''\n\tpoolDictionaries: ''\n\tcategory: 'Bank'!\n!Account methodsFor: 'accessing'!\nbalance\r\t^balance! !\n!Account methodsFor: 'accessing'!\ndeposit: amount\r\tbalance _ amount! !\nAccount new deposit: 100; deposit: 50; balance!\n",
         ),
     ];
     for (input, written, status, log) in rows {
@@ -228,7 +229,7 @@ fn an_input_of_more_than_a_gibibyte_is_too_long(rt: HostRuntime) -> Result<(), F
 // Each call on this outside would fail.
 #[test]
 fn bad_usage_calls_nothing(rt: HostRuntime) -> Result<(), Fail> {
-    let rows: [&[&[u8]]; 14] = [
+    let rows: [&[&[u8]]; 18] = [
         &[],
         &[b"st80"],
         &[b"st80", b"F"],
@@ -239,6 +240,10 @@ fn bad_usage_calls_nothing(rt: HostRuntime) -> Result<(), Fail> {
         &[b"st80", b"F", b"browse"],
         &[b"st80", b"F", b"browse", b"A", b"B"],
         &[b"st80", b"F", b"browse", b"-A"],
+        &[b"st80", b"F", b"source"],
+        &[b"st80", b"F", b"source", b"A"],
+        &[b"st80", b"F", b"source", b"-A", b"b"],
+        &[b"st80", b"F", b"source", b"A", b"b", b"c"],
         &[b"st80", b"-x", b"F", b"run"],
         &[b"st80", b"-x", b"run"],
         &[b"st80", b"", b"run"],

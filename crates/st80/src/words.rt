@@ -17,6 +17,8 @@ pub(crate) enum Task<'w> {
     Classes,
     /// Shows the class of this name.
     Browse(&'w Text),
+    /// Shows the source of a method: of the class and side that the first word names, with this selector.
+    Source(&'w Text, &'w Text),
 }
 
 /// A task, and the folder that it is for.
@@ -81,6 +83,18 @@ fn task_on<'w>(word: &Text, name: &'w Text) -> Option<Task<'w>>
     }
 }
 
+/// The task that a word asks for with two words behind it.
+fn task_on_both<'w>(word: &Text, spec: &'w Text, selector: &'w Text) -> Option<Task<'w>>
+    ensures found { IfSome result (λ task. AreOf (word.now ∷ spec.now ∷ selector.now ∷ []) (command_of task)) }
+    ensures none { IfNone result ((command : Command) → AreOf (word.now ∷ spec.now ∷ selector.now ∷ []) command → ⊥) }
+{
+    if word.bytes() == b"source".as_slice() && is_plain(spec) && is_plain(selector) {
+        Some(Task::Source(spec, selector))
+    } else {
+        None
+    }
+}
+
 /// The task that the words behind the folder ask for.
 fn task_of(words: &[Text]) -> Option<Task<'_>>
     ensures found { IfSome result (λ task. AreOf words.now (command_of task)) }
@@ -89,6 +103,7 @@ fn task_of(words: &[Text]) -> Option<Task<'_>>
     match words {
         [word] => task_alone(word),
         [word, name] => task_on(word, name),
+        [word, spec, selector] => task_on_both(word, spec, selector),
         _ => None,
     }
 }

@@ -7,7 +7,7 @@ use std::alloc::Global;
 use std::test::Fail;
 
 /// A folder after a run on this input, and a crash.
-fn folder(alloc: Global, input: &[u8]) -> Result<MemDisk, Fail> {
+pub(super) fn folder(alloc: Global, input: &[u8]) -> Result<MemDisk, Fail> {
     let source = MemSource::make(alloc, input, 4096, &[])?;
     let sink = MemSink::make(alloc, super::ROOM, &[])?;
     let disk = new_disk(alloc, FaultPlan::Never)?;
@@ -19,7 +19,7 @@ fn folder(alloc: Global, input: &[u8]) -> Result<MemDisk, Fail> {
 }
 
 /// Asks a folder. A take from its input would fail.
-fn ask(alloc: Global, disk: &MemDisk, words: &[&[u8]]) -> Result<Ran, Fail> {
+pub(super) fn ask(alloc: Global, disk: &MemDisk, words: &[&[u8]]) -> Result<Ran, Fail> {
     let source = MemSource::make(alloc, b"5!", 4096, &[1])?;
     run_over(alloc, disk.crash(alloc, 1)?, source, &[], words)
 }
@@ -71,7 +71,7 @@ fn a_class_of_the_kernel_is_browsed(rt: HostRuntime) -> Result<(), Fail> {
     assert_eq!(rt; shown.status, Status::Done);
     assert_eq!(rt;
         shown.written.as_slice(),
-        b"nil subclass: #Object\n\tinstanceVariableNames: ''\n\tclassVariableNames: ''\n\tpoolDictionaries: ''\n\tcategory: 'Kernel'\ncomment: ''\nclass instanceVariableNames: ''\n".as_slice()
+        b"nil subclass: #Object\n\tinstanceVariableNames: ''\n\tclassVariableNames: ''\n\tpoolDictionaries: ''\n\tcategory: 'Kernel'\ncomment: ''\nclass instanceVariableNames: ''\n'kernel': = == at: at:put: class error: halt isNil notNil perform: primitiveFailed printString size subclassResponsibility yourself ~= ~~\n".as_slice()
     );
     Ok(())
 }

@@ -1,6 +1,6 @@
 use Rattle.std.proofs.Common.{List, ℕ, ap, sym, subst, ◌∙◌}
 use Rattle.std.proofs.lemmas.Result.{err_from_is_err_and}
-use Rattle.s80_change.specs.declared.change.Change.{Change}
+use Rattle.s80_block.specs.declared.change.Change.{Change}
 use Rattle.s80_disk.specs.Image.{Image}
 use Rattle.s80_disk.specs.Moments.{LeavesOnly}
 use Rattle.s80_keeper.specs.declared.start.Damage.{Damage}
@@ -10,7 +10,7 @@ use Rattle.s80_keeper.proofs.Damages.{no_list}
 use Rattle.s80_session.specs.Run.{Shown, shown}
 use Rattle.st80.specs.Leaves.{StartsWith, CommandKeeps}
 use Rattle.st80.specs.Task.{command_of}
-use Rattle.st80.proofs.Beginning.{starts_on, stands_on, lost_at_start, no_session, chosen, begun, then, damaged_has_log, tells_damage, damage_found, shown_but_files, shown_through}
+use Rattle.st80.proofs.Beginning.{starts_on, stands_on, lost_at_start, no_session, chosen, goes_on, session_begins, damaged_has_log, tells_damage, damage_found, knows_on, shown_but_files, shown_through}
 use Rattle.st80.proofs.Ends.{reason_err, later_reason, starts_reason, undamaged, never_usage, disk_undamaged, disk_tells, no_fewer}
 use Rattle.st80.proofs.program.work.Goals as goal
 use Rattle.st80.proofs.program.work.Goals.{After-open_folder, After-start}
@@ -54,9 +54,9 @@ module _ (g : _) (c : After-start g) where
 
   started : (changes : List Change) (input before : List ℕ) → StartsWith (g.O.Disk.may_leave c.args.outside.now) (shown g.O.Disk.tells g.O.Disk.reads g.O.Source.left g.O.Sink.taken g.O.Sink.told c.args.outside.now) changes input before → StandsFor (g.O.Disk.tells c.args.outside.now) (g.O.Disk.reads c.args.outside.now) (g.O.Disk.may_leave c.args.outside.now) changes → LeavesOnly g.O.Disk.moment g.O.Disk.left_since c.args.outside.now c.start.new.outside (CommandKeeps (command_of c.args.task) changes input before)
   started changes input before start stands =
-      then g.O.Disk.moment g.O.Disk.left_since (command_of c.args.task) changes input before c.args.outside.now c.open_folder.new.outside c.start.new.outside
+      goes_on g.O.Disk.moment g.O.Disk.left_since (command_of c.args.task) changes input before c.args.outside.now c.open_folder.new.outside c.start.new.outside
       (chosen g.O.Disk.moment g.O.Disk.left_since (command_of c.args.task) changes input before _ _ _ _ c.args.outside.now c.open_folder.new.outside stands start.told c.open_folder.ensures.any_moment)
-      (begun g.O.Disk.moment g.O.Disk.left_since (command_of c.args.task) changes input before _ c.open_folder.new.outside c.start.new.outside (starts_mid changes input before start).told (c.start.ensures.any_moment changes (stands_on (shown g.O.Disk.tells g.O.Disk.reads g.O.Source.left g.O.Sink.taken g.O.Sink.told c.args.outside.now) (shown g.O.Disk.tells g.O.Disk.reads g.O.Source.left g.O.Sink.taken g.O.Sink.told c.open_folder.new.outside) c.open_folder.ensures.shown (g.O.Disk.may_leave c.args.outside.now) (g.O.Disk.may_leave c.open_folder.new.outside) c.open_folder.ensures.images changes stands)))
+      (session_begins g.O.Disk.moment g.O.Disk.left_since (command_of c.args.task) changes input before _ c.open_folder.new.outside c.start.new.outside (starts_mid changes input before start).told (c.start.ensures.any_moment changes (stands_on (shown g.O.Disk.tells g.O.Disk.reads g.O.Source.left g.O.Sink.taken g.O.Sink.told c.args.outside.now) (shown g.O.Disk.tells g.O.Disk.reads g.O.Source.left g.O.Sink.taken g.O.Sink.told c.open_folder.new.outside) c.open_folder.ensures.shown (g.O.Disk.may_leave c.args.outside.now) (g.O.Disk.may_leave c.open_folder.new.outside) c.open_folder.ensures.images changes stands)))
 
 pub returns-in_err-session-clause-worked : goal.returns-in_err-session-clause-worked
 returns-in_err-session-clause-worked g c = λ changes input before start.
@@ -103,11 +103,17 @@ returns-clause-any_moment g c = λ changes input before start stands.
     let after = (goal.at.returns-clause-any_moment g c).After-start in
     let at = starts_mid g after changes input before start in
     let same = c.start.ensures.shown in
-    then g.O.Disk.moment g.O.Disk.left_since (command_of c.args.task) changes input before c.args.outside.now c.start.new.outside c.do_task.new.outside (started g after changes input before start stands)
+    goes_on g.O.Disk.moment g.O.Disk.left_since (command_of c.args.task) changes input before c.args.outside.now c.start.new.outside c.do_task.new.outside (started g after changes input before start stands)
     (c.do_task.ensures.any_moment changes input before (ap (λ (o : Shown). o.left) same ∙ at.left) c.in_ok-session.ensures.untroubled (c.in_ok-session.ensures.started changes before at.reads at.taken at.told))
 
 pub returns-clause-found : goal.returns-clause-found
-returns-clause-found g c = λ is tells. absurd (undamaged c.do_task.result _ _ c.do_task.ensures.counts.reason is)
+returns-clause-found g c = λ is tells.
+    let O = g.O in
+    let chosen = c.open_folder.ensures.shown in
+    let begins = c.in_ok-session in
+    let found = begins.ensures.answer (ap (λ (o : Shown). o.tells) chosen ∙ tells) in
+    let knows = knows_on (O.Disk.reads c.open_folder.new.outside) (O.Disk.reads c.start.new.outside) _ found.0 c.start.ensures.others found.2 in
+    absurd (undamaged c.do_task.result (c.do_task.ensures.sound (ap (λ (o : Shown). o.tells) c.start.ensures.shown ∙ ap (λ (o : Shown). o.tells) chosen ∙ tells) found.0 knows) is)
 
 pub returns-clause-damaged : goal.returns-clause-damaged
 returns-clause-damaged g c = λ damage tells h.

@@ -1,9 +1,0 @@
-pub mod Defined
-pub mod Extents
-pub mod Found
-pub mod Seen
-pub mod Looked
-pub mod Refusing
-pub mod Booted
-pub mod Names
-pub mod Lawful

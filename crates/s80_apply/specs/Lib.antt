@@ -1,9 +1,0 @@
-pub mod Kernel
-pub mod Boot
-pub mod Accept
-pub mod List
-pub mod Limits
-pub mod Named
-pub mod System
-pub mod Entry
-pub mod Extent
