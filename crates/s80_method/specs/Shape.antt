@@ -1,0 +1,26 @@
+-- The variables that a class's methods see.
+use Rattle.std.specs.Prelude.{List, map, reverse}
+use Rattle.std.specs.List.{flat_map}
+use Rattle.s80_base.specs.declared.names.Side.{Side}
+use Rattle.s80_base.specs.declared.names.Side.TheVariants.{Instance, Class}
+use Rattle.s80_class.specs.Classes.{Name, ClassRow, Classes, lineage}
+use Rattle.s80_scope.specs.declared.shape.Binding.{Binding}
+use Rattle.s80_scope.specs.declared.shape.Shape.{Shape}
+
+-- those of a class's instances, and on the class side those of the class itself
+abbrev pub own_variables : Side → ClassRow → List Name
+own_variables Instance row = row.inst_vars
+own_variables Class row = row.class_side_vars
+
+abbrev pub bindings_of : Name → ClassRow → List Binding
+bindings_of class row = map (λ word. record { owner = class; name = word }) row.class_vars
+
+-- instance variables from the topmost class down, class variables from the nearest up
+abbrev pub shape_in : Side → List (Name × ClassRow) → Shape
+shape_in side es = record {
+  inst_vars = flat_map (λ e. own_variables side e.1) (reverse es);
+  class_vars = flat_map (λ e. bindings_of e.0 e.1) es;
+}
+
+abbrev pub shape_of : Classes → Name → Side → Shape
+shape_of classes name side = shape_in side (lineage classes name)
