@@ -1,0 +1,41 @@
+// Laws of the machine's steps and runs.
+ghost use Rattle.std.specs.Prelude.{◌≡◌, ◌<◌, ℕ};
+ghost use Rattle.s80_class.specs.Table.{Table};
+ghost use Rattle.s80_code.specs.declared.code.Code.{Code};
+ghost use Rattle.s80_dict.specs.Table.{MethodsValue};
+ghost use Rattle.s80_dict.specs.declared.dict.MethodEntry.{MethodEntry};
+ghost use Rattle.s80_prims.specs.declared.stop.Outcome.{Outcome};
+ghost use Rattle.s80_machine.specs.Turn.{State, Goes};
+ghost use Rattle.s80_machine.specs.Step.{turn};
+ghost use Rattle.s80_machine.specs.Run.{RunsTo, start};
+ghost use Rattle.s80_machine.specs.Sound.{IsSetting, IsSound, IsSoundTurn};
+ghost use Rattle.s80_machine.specs.Measure.{IsWithin, steps_left};
+
+/// A run comes to one outcome.
+pub fn a_run_has_one_outcome()
+    ensures { (t : Table) (methods : MethodsValue (MethodEntry Code)) (code : Code) (budget : ℕ) (one other : Outcome)
+        → RunsTo t methods code budget one → RunsTo t methods code budget other → one ≡ other }
+{}
+
+/// Verified code is never stuck: its run begins soundly, and each step keeps that.
+pub fn verified_code_is_never_stuck()
+    ensures begins { (t : Table) (methods : MethodsValue (MethodEntry Code)) (code : Code) (budget : ℕ) → IsSetting t methods code
+        → IsSoundTurn t methods code (start t methods code budget) }
+    ensures goes_on { (t : Table) (methods : MethodsValue (MethodEntry Code)) (code : Code) (budget : ℕ) → IsSetting t methods code
+        → (s : State) → IsSound t methods code s → IsSoundTurn t methods code (turn t methods code budget s) }
+{}
+
+/// Each step leaves fewer steps, so that a run ends under every budget.
+pub fn each_step_leaves_less()
+    ensures begins { (t : Table) (methods : MethodsValue (MethodEntry Code)) (code : Code) (budget : ℕ) (s : State)
+        → start t methods code budget ≡ Goes s → IsWithin budget s }
+    ensures goes_on { (t : Table) (methods : MethodsValue (MethodEntry Code)) (code : Code) (budget : ℕ) (s next : State)
+        → IsSound t methods code s → IsWithin budget s → turn t methods code budget s ≡ Goes next
+        → IsWithin budget next × (steps_left budget next < steps_left budget s) }
+{}
+
+/// Under every budget a run comes to an outcome.
+pub fn a_run_ends()
+    ensures { (t : Table) (methods : MethodsValue (MethodEntry Code)) (code : Code) (budget : ℕ) → IsSetting t methods code
+        → (outcome : Outcome) × RunsTo t methods code budget outcome }
+{}
