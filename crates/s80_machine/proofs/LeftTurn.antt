@@ -1,5 +1,5 @@
 -- What is left behind one step of a sound state, and behind the first activation.
-use Rattle.std.proofs.Common.{◌≡◌, ◌∙◌, ap, sym, refl, subst, ℕ, ◌+◌, ◌<◌, ◌≤◌, List, [], ◌∷◌, drop, length, slice_get, Option, Some, None, option_and_then, arith, length-drop}
+use Rattle.std.proofs.Common.{◌≡◌, ◌∙◌, ap, sym, refl, subst, ℕ, suc, ◌+◌, ◌*◌, ◌<◌, ◌≤◌, List, [], ◌∷◌, drop, length, slice_get, Option, Some, None, option_and_then, arith, length-drop}
 use Rattle.s80_class.specs.Table.{Table}
 use Rattle.s80_code.specs.declared.code.Code.{Code}
 use Rattle.s80_code.specs.declared.instruction.Instruction.{Instruction}
@@ -7,14 +7,17 @@ use Rattle.s80_code.specs.Table.{decoded}
 use Rattle.s80_code.proofs.TableLemmas.{decodes}
 use Rattle.s80_dict.specs.Table.{MethodsValue}
 use Rattle.s80_dict.specs.declared.dict.MethodEntry.{MethodEntry}
-use Rattle.s80_machine.specs.World.{World, Context}
+use Rattle.s80_object.specs.declared.value.Value.TheVariants.{Nil}
+use Rattle.s80_machine.specs.World.{World, Context, doit, first_world}
 use Rattle.s80_machine.specs.Turn.{State, Turn, Goes, depth_limit}
 use Rattle.s80_machine.specs.Step.{code_at, code_for, turn, turn_at, turn_in, turn_of}
+use Rattle.s80_machine.specs.Run.{start}
 use Rattle.s80_machine.specs.Sound.{AreSound, IsSound}
-use Rattle.s80_machine.specs.Measure.{IsWithin, steps_left}
+use Rattle.s80_machine.specs.Measure.{IsWithin, one_tick_more, steps_left}
 use Rattle.s80_machine.proofs.LeftActs.{by_act}
 use Rattle.s80_machine.proofs.LeftJumps.{decoded_is_forward}
-use Rattle.s80_machine.proofs.LeftParts.{Lowers}
+use Rattle.s80_machine.proofs.LeftParts.{IsPaid, Lowers}
+use Rattle.s80_machine.proofs.LeftSends.{by_activation}
 
 module _ (t : Table) (methods : MethodsValue (MethodEntry Code)) (doit_code : Code) (budget : ℕ) where
   by_code : (c : Context) (rest : List Context) (w : World) (code : Code) → length code.bytes ≤ 1023 → length (c ∷ rest) ≤ depth_limit → w.ticks ≤ budget
@@ -46,3 +49,10 @@ module _ (t : Table) (methods : MethodsValue (MethodEntry Code)) (doit_code : Co
       → IsWithin budget next × (steps_left budget next < steps_left budget s)
   leaves_less s next sound within e =
       lowered (steps_left budget s) (turn t methods doit_code budget s) next e (by_turn s.contexts s.world sound.contexts within.deep within.ticks)
+
+  -- a first activation is within any budget
+  pub begins_within : (s : State) → start t methods doit_code budget ≡ Goes s → IsWithin budget s
+  begins_within s e =
+      let first : IsPaid budget (suc (budget * one_tick_more + depth_limit * 1024)) 0 = (omega arith, omega arith) in
+      (lowered (suc (budget * one_tick_more + depth_limit * 1024)) (start t methods doit_code budget) s e
+      (by_activation t methods doit_code budget (suc (budget * one_tick_more + depth_limit * 1024)) doit doit_code Nil [] [] (first_world t) first)).0

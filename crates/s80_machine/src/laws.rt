@@ -38,4 +38,6 @@ pub fn each_step_leaves_less()
 pub fn a_run_ends()
     ensures { (t : Table) (methods : MethodsValue (MethodEntry Code)) (code : Code) (budget : ℕ) → IsSetting t methods code
         → (outcome : Outcome) × RunsTo t methods code budget outcome }
-{}
+{
+    verified_code_is_never_stuck();
+}
