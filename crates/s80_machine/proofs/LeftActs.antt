@@ -1,5 +1,5 @@
 -- What is left behind each instruction.
-use Rattle.std.proofs.Common.{◌≡◌, ap, sym, refl, ℕ, suc, ◌+◌, ◌-◌, ◌*◌, ◌<◌, ◌≤◌, ◌==◌, ℤ, pos, negsuc, ◌+ℤ◌, List, [], ◌∷◌, drop, get_or, length, codes, nat_le, slice_get, Bool, true, false, Option, Some, None, option_and_then, subst, arith}
+use Rattle.std.proofs.Common.{◌≡◌, ap, sym, refl, ℕ, ◌+◌, ◌-◌, ◌*◌, ◌<◌, ◌≤◌, ◌==◌, ℤ, pos, negsuc, ◌+ℤ◌, List, [], ◌∷◌, get_or, length, codes, nat_le, slice_get, Option, Some, None, option_and_then, subst, arith}
 use Rattle.std.specs.Prelude.{if◌then◌else◌}
 use Rattle.std.specs.Int.{is_negative}
 use Rattle.std.proofs.lemmas.List.Sums.{sum_by-cons}
@@ -18,16 +18,16 @@ use Rattle.s80_object.specs.Literal.{built, is_object, made_before, noted}
 use Rattle.s80_object.specs.Objects.{State as Objects, with_body}
 use Rattle.s80_object.specs.declared.value.Value.{Value}
 use Rattle.s80_object.specs.declared.value.Value.TheVariants.{Small, Character, Nil, True, False, Symbol, Number, ClassRef, Object, Context as ThisContext, Transcript, Smalltalk}
-use Rattle.s80_prims.specs.declared.stop.Stop.TheVariants.{NonBoolean, ObjectsFull}
+use Rattle.s80_prims.specs.declared.stop.Stop.TheVariants.{NonBoolean}
 use Rattle.s80_verify.specs.Effect.{special_arguments}
 use Rattle.s80_machine.specs.World.{World, Context, Frame, home_in, one_tick, receiver_variable, temporary, variable_named, waiting, with_objects, with_receiver_variable, with_temporary, with_variable}
 use Rattle.s80_machine.specs.Lookup.{number}
-use Rattle.s80_machine.specs.Turn.{State, Turn, Goes, Stuck, at_once, block_with, constant_in, decided, depth_limit, fixed, given, goes_on, is_value, place_at, return_from, special_selectors, stops, ticked}
-use Rattle.s80_machine.specs.Step.{act, block_activated, block_made, copy_turn, first_pushed, jump, jump_or_back, literal_pushed, places_above, places_for, push, selector_at, send_turn, sent, special_turn, store, super_turn}
+use Rattle.s80_machine.specs.Turn.{Turn, Goes, at_once, block_with, constant_in, decided, depth_limit, fixed, given, goes_on, is_value, place_at, special_selectors, stops, ticked}
+use Rattle.s80_machine.specs.Step.{act, block_made, copy_turn, first_pushed, jump, jump_or_back, literal_pushed, places_above, places_for, push, selector_at, send_turn, special_turn, store, super_turn}
 use Rattle.s80_machine.specs.Measure.{left_of, left_of_all, one_tick_more, steps_left}
 use Rattle.s80_machine.proofs.LeftJumps.{IsForward}
 use Rattle.s80_machine.proofs.LeftKept.{KeepsTicks, BothKeep, temporary_keeps, variable_keeps}
-use Rattle.s80_machine.proofs.LeftParts.{IsPaid, Lowers, Pays, paid, spent, by_given, by_less, by_map_or, by_message, by_popped, by_return, by_delivery, by_room, by_test, by_tick}
+use Rattle.s80_machine.proofs.LeftParts.{IsPaid, Lowers, Pays, paid, spent, by_given, by_map_or, by_message, by_popped, by_return, by_delivery, by_room, by_test, by_tick}
 use Rattle.s80_machine.proofs.LeftSends.{by_block, by_send}
 
 -- further along a code less is left of it

@@ -1,8 +1,8 @@
 -- A jump that tests a value goes forward.
-use Rattle.std.proofs.Common.{◌≡◌, ap, ℕ, ◌-◌, ℤ, pos, List, [], ◌∷◌, Bool, true, false, cond, Option, Some, None, find, option_and_then, refl, subst, rules}
+use Rattle.std.proofs.Common.{◌≡◌, ℕ, ◌-◌, pos, List, [], ◌∷◌, Bool, true, false, cond, Option, Some, None, find, refl, subst, rules}
 use Rattle.std.specs.List.{AllByRecursion}
 use Rattle.s80_code.specs.declared.instruction.Instruction.{Instruction}
-use Rattle.s80_code.specs.declared.instruction.Instruction.TheVariants.{Push, Store, PopInto, PushFixed, ReturnFixed, ReturnTop, ReturnFromBlock, Send, SendSuper, SendSpecial, Pop, Duplicate, PushContext, Jump, JumpOnTrue, JumpOnFalse}
+use Rattle.s80_code.specs.declared.instruction.Instruction.TheVariants.{JumpOnTrue, JumpOnFalse}
 use Rattle.s80_code.specs.Table.{Form, alone, with_one, with_two, Row, rows, has, row_of, formed, decoded}
 use Rattle.s80_code.proofs.TableLemmas.{value, by_row}
 

@@ -1,6 +1,6 @@
 -- A write to a variable takes no tick.
-use Rattle.std.proofs.Common.{◌≡◌, refl, ℕ, List, Bool, true, false, Option, Some, None, length, nat_lt}
-use Rattle.std.specs.Prelude.{Result, if◌then◌else◌, slice_set}
+use Rattle.std.proofs.Common.{◌≡◌, refl, ℕ, Bool, true, false, Option, Some, None, length, nat_lt}
+use Rattle.std.specs.Prelude.{if◌then◌else◌, slice_set}
 use Rattle.std.specs.Option.{option_map}
 use Rattle.s80_base.specs.declared.names.Side.TheVariants as side
 use Rattle.s80_object.specs.Body.{BodyTree}

@@ -1,5 +1,5 @@
 -- What is left after a turn: less than before, where the turn goes on.
-use Rattle.std.proofs.Common.{◌≡◌, ◌∙◌, ap, refl, ℕ, zero, suc, ◌+◌, ◌-◌, ◌*◌, ◌<◌, ◌≤◌, List, [], ◌∷◌, length, nat_le, nat_lt, Bool, true, false, cond, Option, Some, None, arith, ltb-true}
+use Rattle.std.proofs.Common.{◌≡◌, ◌∙◌, ap, refl, ℕ, zero, suc, ◌+◌, ◌-◌, ◌*◌, ◌<◌, ◌≤◌, List, [], ◌∷◌, length, nat_le, nat_lt, Bool, true, false, Option, Some, None, arith, ltb-true}
 use Rattle.std.specs.Prelude.{if◌then◌else◌}
 use Rattle.std.specs.Option.{option_map_or}
 use Rattle.std.proofs.Math.Nat.{suc-mul}
@@ -7,9 +7,9 @@ use Rattle.std.proofs.lemmas.List.Sums.{sum_by-cons}
 use Rattle.s80_object.specs.Body.{BodyTree, cost, words_of, word_limit}
 use Rattle.s80_object.specs.Objects.{with_body}
 use Rattle.s80_object.specs.declared.value.Value.{Value}
-use Rattle.s80_prims.specs.declared.stop.Stop.TheVariants.{Budget, CannotReturn, Deep, ObjectsFull}
+use Rattle.s80_prims.specs.declared.stop.Stop.TheVariants.{Budget, Deep, ObjectsFull}
 use Rattle.s80_machine.specs.World.{World, Context, Frame, own, home, block, is_home, one_tick, with_objects}
-use Rattle.s80_machine.specs.Turn.{State, Turn, Goes, Ends, Stuck, deeper, deliver, depth_limit, given, goes_on, message_off, popped, return_from, return_home, stops, ticked}
+use Rattle.s80_machine.specs.Turn.{Turn, Goes, Ends, Stuck, deeper, deliver, depth_limit, given, message_off, popped, return_from, return_home, stops, ticked}
 use Rattle.s80_machine.specs.Step.{with_room}
 use Rattle.s80_machine.specs.Measure.{left_of, left_of_all, one_tick_more, steps_left}
 

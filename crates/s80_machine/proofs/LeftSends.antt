@@ -1,7 +1,7 @@
 -- What is left behind a tick: an activation, an answer of a primitive, a message that is sent.
-use Rattle.std.proofs.Common.{ℕ, suc, ◌-◌, ◌<◌, ◌≤◌, ◌++◌, ◌==◌, List, [], ◌∷◌, length, replicate, Option, Some, None, option_and_then, arith}
+use Rattle.std.proofs.Common.{ℕ, suc, ◌-◌, ◌<◌, ◌≤◌, ◌++◌, ◌==◌, List, [], ◌∷◌, length, replicate, Option, Some, None, option_and_then}
 use Rattle.std.specs.Prelude.{if◌then◌else◌}
-use Rattle.std.specs.Option.{option_map, option_map_or, unwrap_or}
+use Rattle.std.specs.Option.{option_map, unwrap_or}
 use Rattle.s80_class.specs.Table.{Table}
 use Rattle.s80_code.specs.declared.code.Code.{Code}
 use Rattle.s80_dict.specs.Table.{MethodsValue}
@@ -18,7 +18,7 @@ use Rattle.s80_prims.specs.declared.stop.Stop.TheVariants.{BlockActive}
 use Rattle.s80_machine.specs.World.{World, Key, method, Context, Frame, block, changed, home, is_active, number_in, numbered, one_tick, own, reached, with_objects}
 use Rattle.s80_machine.specs.Lookup.{Found, Place, first_found}
 use Rattle.s80_machine.specs.Turn.{Turn, Goes, Block, block_with, depth_limit, holds_block, pushed_all, stops, deeper, unary_in}
-use Rattle.s80_machine.specs.Step.{activated, at_home, block_activated, block_started, by_effect, by_primitive, found_turn, looked_up, method_turn, not_understood, performed, places_for, sent, started, with_home, without_home}
+use Rattle.s80_machine.specs.Step.{activated, at_home, block_activated, block_started, by_effect, found_turn, looked_up, method_turn, not_understood, performed, places_for, sent, started, with_home, without_home}
 use Rattle.s80_machine.proofs.LeftParts.{IsPaid, Lowers, Pays, one_above, paid_again, spent, by_delivery, by_depth, by_given, by_map_or, by_room, by_test, by_tick}
 
 module _ (t : Table) (methods : MethodsValue (MethodEntry Code)) (doit_code : Code) (budget most : ℕ) where
