@@ -1,5 +1,5 @@
 -- What is left after a turn: less than before, where the turn goes on.
-use Rattle.std.proofs.Common.{◌≡◌, ◌∙◌, ap, refl, ℕ, zero, suc, ◌+◌, ◌-◌, ◌*◌, ◌<◌, ◌≤◌, List, [], ◌∷◌, length, nat_le, nat_lt, Bool, true, false, Option, Some, None, arith, ltb-true}
+use Rattle.std.proofs.Common.{◌≡◌, ◌∙◌, ap, refl, ℕ, zero, suc, ◌+◌, ◌-◌, ◌*◌, ◌<◌, ◌≤◌, List, [], ◌∷◌, length, nat_le, Bool, true, false, Option, Some, None, arith, ltb-true}
 use Rattle.std.specs.Prelude.{if◌then◌else◌}
 use Rattle.std.specs.Option.{option_map_or}
 use Rattle.std.proofs.Math.Nat.{suc-mul}
@@ -7,7 +7,7 @@ use Rattle.std.proofs.lemmas.List.Sums.{sum_by-cons}
 use Rattle.s80_object.specs.Body.{BodyTree, cost, words_of, word_limit}
 use Rattle.s80_object.specs.Objects.{with_body}
 use Rattle.s80_object.specs.declared.value.Value.{Value}
-use Rattle.s80_prims.specs.declared.stop.Stop.TheVariants.{Budget, Deep, ObjectsFull}
+use Rattle.s80_prims.specs.declared.stop.Stop.TheVariants.{ObjectsFull}
 use Rattle.s80_machine.specs.World.{World, Context, Frame, own, home, block, is_home, one_tick, with_objects}
 use Rattle.s80_machine.specs.Turn.{Turn, Goes, Ends, Stuck, deeper, deliver, depth_limit, given, message_off, popped, return_from, return_home, stops, ticked}
 use Rattle.s80_machine.specs.Step.{with_room}
@@ -88,19 +88,15 @@ module _ (budget most : ℕ) where
   by_test true x y h k = h
   by_test false x y h k = k
 
+  pub by_known : (b : Bool) (x y : Turn) → (b ≡ true → Lowers budget most x) → Lowers budget most y → Lowers budget most (if b then x else y)
+  by_known true x y h k = h refl
+  by_known false x y h k = k
+
   pub by_tick : (w : World) (go : World → Turn) → (w.ticks < budget → Lowers budget most (go (one_tick w))) → Lowers budget most (ticked budget w go)
-  by_tick w go h = test (nat_lt w.ticks budget) refl
-    where
-      test : (b : Bool) → nat_lt w.ticks budget ≡ b → Lowers budget most (if b then go (one_tick w) else stops (Budget budget) w)
-      test true e = h (ltb-true w.ticks budget e)
-      test false e = tt
+  by_tick w go h = by_known _ _ _ (λ e. h (ltb-true w.ticks budget e)) tt
 
   pub by_depth : (alive : List Context) (w : World) (go : Turn) → (length alive < depth_limit → Lowers budget most go) → Lowers budget most (deeper alive w go)
-  by_depth alive w go h = test (nat_lt (length alive) depth_limit) refl
-    where
-      test : (b : Bool) → nat_lt (length alive) depth_limit ≡ b → Lowers budget most (if b then go else stops Deep w)
-      test true e = h (ltb-true (length alive) depth_limit e)
-      test false e = tt
+  by_depth alive w go h = by_known _ _ _ (λ e. h (ltb-true (length alive) depth_limit e)) tt
 
   pub by_room : (w : World) (b : BodyTree) (go : World → Turn) → Lowers budget most (go (with_objects w (with_body w.objects b))) → Lowers budget most (with_room w b go)
   by_room w b go h =
