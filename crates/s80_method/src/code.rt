@@ -7,9 +7,11 @@ ghost use Rattle.s80_section.specs.declared.source_check.SourceCheck.TheVariants
 ghost use Rattle.s80_method.specs.Code.{HasFewVariables, IsMethodCode};
 
 use crate::shape::shape_of;
+use s80_agree::trees_are_well_sent;
 use s80_base::{OutOfMemory, Side, Text};
 use s80_class::ClassTable;
 use s80_compile::compile;
+use s80_scope::places_of_uses_rise;
 use s80_syntax::parse_method;
 use s80_verify::Verified;
 use std::alloc::Global;
@@ -32,6 +34,8 @@ pub fn compile_source(
     let Ok(tree) = parse_method(alloc, source) else {
         return Err(OutOfMemory);
     };
+    places_of_uses_rise();
+    trees_are_well_sent();
     let shape = shape_of(alloc, classes, c, side)?;
     compile(alloc, &tree, &shape, &classes.at(c).class_name, side)
 }
