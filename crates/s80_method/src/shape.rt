@@ -5,7 +5,7 @@ ghost use Rattle.s80_class.specs.Table.{IsClass, IsNumberOf, row_of};
 ghost use Rattle.s80_method.specs.Line.{AreNumbersOf};
 ghost use Rattle.s80_method.specs.Shape.{bindings_in, bindings_of, own_variables, shape_of, variables_in};
 
-use s80_base::{Names, OutOfMemory, Side};
+use s80_base::{Names, OutOfMemory, Side, Text};
 use s80_class::{ClassEntry, ClassTable};
 use s80_scope::{Binding, Bindings, Shape};
 use std::alloc::Global;
@@ -56,8 +56,8 @@ fn variables(
     ensures { (es : List (Name × ClassRow)) → AreNumbersOf classes.now es line.now → IfOk result (λ names. names ≡ variables_in side es) }
 {
     let mut names = Names::empty(alloc);
-    for number in line.iter().rev() {
-        let own = own_variables(classes.at(*number), side);
+    for i in (0..line.len()).rev() {
+        let own = own_variables(classes.at(line[i]), side);
         add_names(alloc, &mut names, own)?;
     }
     Ok(names)
@@ -70,7 +70,8 @@ fn bindings(alloc: Global, classes: &ClassTable, line: &[u32]) -> Result<Binding
 {
     let mut bindings = Bindings::empty(alloc);
     for number in line {
-        add_bindings(alloc, &mut bindings, classes.at(*number))?;
+        let entry = classes.at(*number);
+        add_bindings(alloc, &mut bindings, &entry.class_name, &entry.class_vars)?;
     }
     Ok(bindings)
 }
@@ -94,18 +95,19 @@ fn add_names(alloc: Global, names: &mut Names, more: &Names) -> Result<(), OutOf
     Ok(())
 }
 
-// Adds the class's own class variables.
+// Adds class variables that this class declares.
 fn add_bindings(
     alloc: Global,
     bindings: &mut Bindings,
-    entry: &ClassEntry,
+    class_name: &Text,
+    class_vars: &Names,
 ) -> Result<(), OutOfMemory>
-    ensures { (names : List (Option Name)) → OnOk result (bindings.new ≡ bindings.old ++ bindings_of entry.now.class_name (row_of names entry.now)) }
+    ensures { OnOk result (bindings.new ≡ bindings.old ++ bindings_of class_name.now class_vars.now) }
 {
-    for i in 0..entry.class_vars.count() {
+    for i in 0..class_vars.count() {
         bindings.push(Binding {
-            owner: entry.class_name.copy(alloc)?,
-            name: entry.class_vars.at(i).copy(alloc)?,
+            owner: class_name.copy(alloc)?,
+            name: class_vars.at(i).copy(alloc)?,
         })?;
     }
     Ok(())
