@@ -1,4 +1,4 @@
--- A source that fits has a tree that fits.
+-- A source that fits has a tree that fits, and code of that tree is its code.
 use Rattle.std.proofs.Common.{◌≡◌, ◌<◌, ◌-◌, ◌^◌, ◌∙◌, ℕ, Bool, cond, true, false, nat_lt, refl, sym, ap, subst, List, None, arith}
 use Rattle.std.proofs.lemmas.Bool.Decides.{nat_tests}
 use Rattle.s80_base.specs.declared.names.Side.{Side}
@@ -12,8 +12,14 @@ use Rattle.s80_scope.specs.declared.fit.FitKind.TheVariants as kind
 use Rattle.s80_scope.specs.declared.fit.Measures.{Measures}
 use Rattle.s80_scope.specs.Fit.{fit, measures, cut_measures}
 use Rattle.s80_scope.specs.Walk.{cut}
+use Rattle.s80_scope.specs.declared.shape.Shape.{Shape}
+use Rattle.s80_code.specs.declared.code.Code.{Code}
+use Rattle.s80_agree.specs.Compiles.{Compiles}
+use Rattle.s80_class.specs.Classes.{Name, Classes}
 use Rattle.s80_section.specs.declared.source_check.SourceCheck.TheVariants.{Fits}
 use Rattle.s80_section.specs.Check.{IsCheckOf, too_large}
+use Rattle.s80_method.specs.Shape.{shape_of}
+use Rattle.s80_method.specs.Code.{IsMethodCode}
 
 -- ---- measures that fit where their cuts do
 
@@ -48,5 +54,14 @@ pub tree_fits : (source selector : List ℕ) (m : MethodParts) → IsMethodOf so
 tree_fits source selector m is (n, also, none, same) =
     subst (λ (x : MethodParts). fit (measures x) ≡ fits.Fits) (one_method_of source n m also is) (uncut (measures n) (not_refused (fit (cut_measures (measures n))) none))
 
-pub selector_is : (source selector : List ℕ) (m : MethodParts) → IsMethodOf source m → IsCheckOf source (Fits selector) → m.selector ≡ selector
+selector_is : (source selector : List ℕ) (m : MethodParts) → IsMethodOf source m → IsCheckOf source (Fits selector) → m.selector ≡ selector
 selector_is source selector m is (n, also, none, same) = sym (same ∙ ap (λ (x : MethodParts). x.selector) (one_method_of source n m also is))
+
+pub is_code : (classes : Classes) (name owner : Name) (side : Side) (selector source : List ℕ) (m : MethodParts) (shape : Shape) (code : Code) → IsMethodOf source m → IsCheckOf source (Fits selector)
+    → shape ≡ shape_of classes name side → owner ≡ name → Compiles m shape owner side code → IsMethodCode classes name side selector source code
+is_code classes name owner side selector source m shape code is check sees own compiled = record {
+  tree = m;
+  tree_is = is;
+  selector_is = selector_is source selector m is check;
+  compiles = subst (λ (s : Shape). Compiles m s name side code) sees (subst (λ (n : Name). Compiles m shape n side code) own compiled);
+}

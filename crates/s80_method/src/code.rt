@@ -6,6 +6,7 @@ ghost use Rattle.s80_scope.specs.Fit.{fit, measures};
 ghost use Rattle.s80_scope.specs.Names.{AreInOrder, uses_of};
 ghost use Rattle.s80_scope.specs.declared.fit.Fit.TheVariants.{Fits as TreeFits};
 ghost use Rattle.s80_agree.specs.Sent.{AreWellSent};
+ghost use Rattle.s80_verify.specs.Fault.{IsVerified};
 ghost use Rattle.s80_class.specs.Table.{IsClass, IsNumberOf};
 ghost use Rattle.s80_section.specs.Check.{IsCheckOf};
 ghost use Rattle.s80_section.specs.declared.source_check.SourceCheck.TheVariants.{Fits};
@@ -34,8 +35,9 @@ pub fn compile_source(
     requires few { HasFewVariables classes.now c side }
     requires short { length source.now ≤ 65535 }
     requires fits { (selector : List ℕ) × IsCheckOf source.now (Fits selector) }
-    ensures { (name selector : List ℕ) → IsNumberOf classes.now.names c name → IsCheckOf source.now (Fits selector)
+    ensures code { (name selector : List ℕ) → IsNumberOf classes.now.names c name → IsCheckOf source.now (Fits selector)
         → IfOk result (λ code. IsMethodCode classes.now.classes name side selector source.now code) }
+    ensures verified { IfOk result IsVerified }
 {
     let tree = tree_of(alloc, source)?;
     let shape = shape_of(alloc, classes, c, side)?;
@@ -56,7 +58,9 @@ fn tree_of(alloc: Global, source: &Text) -> Result<MethodTree, OutOfMemory>
     trees_are_well_sent();
     match parse_method(alloc, source) {
         Ok(tree) => Ok(tree),
-        Err(ParseFault::Memory) => Err(OutOfMemory),
-        Err(_) => unreachable!(),
+        Err(fault) => {
+            prove!(fault == ParseFault::Memory);
+            Err(OutOfMemory)
+        }
     }
 }
