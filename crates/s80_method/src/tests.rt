@@ -5,13 +5,24 @@ ghost use Rattle.s80_class.specs.Table.{IsNumberOf};
 mod code;
 mod shape;
 
-use s80_base::{OutOfMemory, Text};
+use s80_base::{OutOfMemory, Side, Text};
 use s80_change::split_names;
 use s80_class::{ClassEntry, ClassTable, Kind};
 use std::alloc::Global;
 
 /// The variables of a class: of its instances, shared, and of itself.
 type Variables = (&'static [u8], &'static [u8], &'static [u8]);
+
+/// A class by its name, and a side of it.
+type ClassSide = (&'static [u8], Side);
+
+const A: ClassSide = (b"A", Side::Instance);
+
+const B: ClassSide = (b"B", Side::Instance);
+
+const A_CLASS: ClassSide = (b"A", Side::Class);
+
+const B_CLASS: ClassSide = (b"B", Side::Class);
 
 /// A, and B under it.
 fn two_classes(alloc: Global) -> Result<ClassTable, OutOfMemory> {

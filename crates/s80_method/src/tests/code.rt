@@ -2,7 +2,7 @@
 ghost use Rattle.std.specs.Prelude.{◌≤◌, length};
 ghost use Rattle.s80_class.specs.Table.{IsClass};
 
-use super::{find, two_classes};
+use super::{A, A_CLASS, B, B_CLASS, ClassSide, find, two_classes};
 use crate::{compile_source, shape_of};
 use s80_base::{Literal, OutOfMemory, Side, Text};
 use s80_class::ClassTable;
@@ -12,61 +12,22 @@ use std::alloc::Global;
 use std::process::Abort;
 use std::test::Fail;
 
-const INSTANCE: Side = Side::Instance;
-
-const CLASS: Side = Side::Class;
-
 #[test]
 fn a_variable_of_the_class_hides_an_outer_name(rt: HostRuntime) -> Result<(), Fail> {
     let classes = two_classes(rt.alloc())?;
     let source = b"c ^c";
-    expect(
-        &rt,
-        rt.alloc(),
-        &classes,
-        (b"A", INSTANCE),
-        source,
-        b"40 7C | c",
-    )?;
-    expect(
-        &rt,
-        rt.alloc(),
-        &classes,
-        (b"B", INSTANCE),
-        source,
-        b"02 7C |",
-    )?;
-    expect(
-        &rt,
-        rt.alloc(),
-        &classes,
-        (b"B", CLASS),
-        source,
-        b"40 7C | c",
-    )
+    expect(&rt, rt.alloc(), &classes, A, source, b"40 7C | c")?;
+    expect(&rt, rt.alloc(), &classes, B, source, b"02 7C |")?;
+    expect(&rt, rt.alloc(), &classes, B_CLASS, source, b"40 7C | c")
 }
 
 #[test]
 fn the_class_side_has_variables_of_its_own(rt: HostRuntime) -> Result<(), Fail> {
     let classes = two_classes(rt.alloc())?;
     let source = b"n ^n";
-    expect(
-        &rt,
-        rt.alloc(),
-        &classes,
-        (b"A", CLASS),
-        source,
-        b"40 7C | n",
-    )?;
-    expect(&rt, rt.alloc(), &classes, (b"B", CLASS), source, b"01 7C |")?;
-    expect(
-        &rt,
-        rt.alloc(),
-        &classes,
-        (b"B", INSTANCE),
-        source,
-        b"40 7C | n",
-    )
+    expect(&rt, rt.alloc(), &classes, A_CLASS, source, b"40 7C | n")?;
+    expect(&rt, rt.alloc(), &classes, B_CLASS, source, b"01 7C |")?;
+    expect(&rt, rt.alloc(), &classes, B, source, b"40 7C | n")
 }
 
 #[test]
@@ -77,7 +38,7 @@ fn a_class_variable_is_that_of_the_nearest_class(rt: HostRuntime) -> Result<(), 
         &rt,
         rt.alloc(),
         &classes,
-        (b"A", INSTANCE),
+        A,
         source,
         b"00 40 41 F2 7C | A.X Q #foo:bar:",
     )?;
@@ -85,7 +46,7 @@ fn a_class_variable_is_that_of_the_nearest_class(rt: HostRuntime) -> Result<(), 
         &rt,
         rt.alloc(),
         &classes,
-        (b"B", INSTANCE),
+        B,
         source,
         b"00 40 41 F2 7C | B.X Q #foo:bar:",
     )?;
@@ -93,7 +54,7 @@ fn a_class_variable_is_that_of_the_nearest_class(rt: HostRuntime) -> Result<(), 
         &rt,
         rt.alloc(),
         &classes,
-        (b"B", CLASS),
+        B_CLASS,
         source,
         b"40 41 42 F3 7C | a B.X Q #foo:bar:",
     )
@@ -107,7 +68,7 @@ fn a_class_variable_of_the_superclass_is_its_own(rt: HostRuntime) -> Result<(), 
         &rt,
         rt.alloc(),
         &classes,
-        (b"B", INSTANCE),
+        B,
         source,
         b"01 40 E1 7C | A.Y #foo:",
     )
@@ -117,27 +78,13 @@ fn a_class_variable_of_the_superclass_is_its_own(rt: HostRuntime) -> Result<(), 
 fn a_message_to_super_names_the_class_and_the_side(rt: HostRuntime) -> Result<(), Fail> {
     let classes = two_classes(rt.alloc())?;
     let source = b"s ^super s";
+    expect(&rt, rt.alloc(), &classes, A, source, b"70 85 00 7C | #s A")?;
+    expect(&rt, rt.alloc(), &classes, B, source, b"70 85 00 7C | #s B")?;
     expect(
         &rt,
         rt.alloc(),
         &classes,
-        (b"A", INSTANCE),
-        source,
-        b"70 85 00 7C | #s A",
-    )?;
-    expect(
-        &rt,
-        rt.alloc(),
-        &classes,
-        (b"B", INSTANCE),
-        source,
-        b"70 85 00 7C | #s B",
-    )?;
-    expect(
-        &rt,
-        rt.alloc(),
-        &classes,
-        (b"B", CLASS),
+        B_CLASS,
         source,
         b"70 85 00 7C | #s B class",
     )
@@ -147,7 +94,7 @@ fn expect(
     rt: &impl Abort,
     alloc: Global,
     classes: &ClassTable,
-    class: (&[u8], Side),
+    class: ClassSide,
     source: &[u8],
     wanted: &[u8],
 ) -> Result<(), Fail> {
