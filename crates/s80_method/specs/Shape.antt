@@ -12,15 +12,17 @@ abbrev pub own_variables : Side → ClassRow → List Name
 own_variables Instance row = row.inst_vars
 own_variables Class row = row.class_side_vars
 
-abbrev pub bindings_of : Name → ClassRow → List Binding
-bindings_of class row = map (λ word. record { owner = class; name = word }) row.class_vars
+-- class variables with the class that declares them
+abbrev pub bindings_of : Name → List Name → List Binding
+bindings_of class words = map (λ word. record { owner = class; name = word }) words
 
--- instance variables from the topmost class down, class variables from the nearest up
-abbrev pub shape_in : Side → List (Name × ClassRow) → Shape
-shape_in side es = record {
-  inst_vars = flat_map (λ e. own_variables side e.1) (reverse es);
-  class_vars = flat_map (λ e. bindings_of e.0 e.1) es;
-}
+-- from the topmost class down
+abbrev pub variables_in : Side → List (Name × ClassRow) → List Name
+variables_in side es = flat_map (λ e. own_variables side e.1) (reverse es)
+
+-- from the nearest class up
+abbrev pub bindings_in : List (Name × ClassRow) → List Binding
+bindings_in es = flat_map (λ e. bindings_of e.0 e.1.class_vars) es
 
 abbrev pub shape_of : Classes → Name → Side → Shape
-shape_of classes name side = shape_in side (lineage classes name)
+shape_of classes name side = record { inst_vars = variables_in side (lineage classes name); class_vars = bindings_in (lineage classes name) }
