@@ -1,5 +1,5 @@
 // The text of what a doIt comes to.
-ghost use Rattle.std.specs.Prelude.{◌≡◌, IfOk};
+ghost use Rattle.std.specs.Prelude.{◌≡◌, ◌++◌, ◌∷◌, [], IfOk, if◌then◌else◌};
 ghost use Rattle.s80_prims.specs.Known.{AreKnown, HasKernel};
 ghost use Rattle.s80_outcome.specs.Outcome.{HasKnownAnswer, line_end, outcome_text, stop_text};
 
@@ -35,7 +35,9 @@ pub fn outcome_text(
 }
 
 // Whether nothing has to stand before the next line.
-fn is_ended(bytes: &[u8]) -> bool {
+fn is_ended(bytes: &[u8]) -> bool
+    ensures { line_end bytes.now ≡ if result then [] else 10 ∷ [] }
+{
     match bytes {
         [.., last] => *last == b'\n',
         [] => true,
@@ -71,7 +73,9 @@ fn not_understood_text(
     class: &Text,
     side: Side,
     selector: &Text,
-) -> Result<Text, OutOfMemory> {
+) -> Result<Text, OutOfMemory>
+    ensures { IfOk result (λ text. text ≡ stop_text (Stop.NotUnderstood class.now side selector.now)) }
+{
     let mut text = named(alloc, b"stopped 2 not understood ", class)?;
     match side {
         Side::Instance => text.append(b" ")?,
@@ -82,7 +86,9 @@ fn not_understood_text(
 }
 
 // Words, and a text behind them.
-fn named(alloc: Global, words: &[u8], text: &Text) -> Result<Text, OutOfMemory> {
+fn named(alloc: Global, words: &[u8], text: &Text) -> Result<Text, OutOfMemory>
+    ensures { IfOk result (λ all. all ≡ words.now ++ text.now) }
+{
     let mut all = Text::from_bytes(alloc, words)?;
     all.append(text.bytes())?;
     Ok(all)
