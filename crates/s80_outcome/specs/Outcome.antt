@@ -1,7 +1,5 @@
 -- The text of what a doIt comes to.
 use Rattle.std.specs.Prelude.{ℕ, List, [], ◌∷◌, ◌++◌, ◌==◌, codes, decimal, if◌then◌else◌}
-use Rattle.s80_base.specs.declared.names.Side.{Side}
-use Rattle.s80_base.specs.declared.names.Side.TheVariants.{Instance, Class}
 use Rattle.s80_class.specs.Table.{Table}
 use Rattle.s80_object.specs.Objects.{State}
 use Rattle.s80_prims.specs.Known.{IsKnown}
