@@ -1,0 +1,43 @@
+// Why a step doesn't go on.
+use s80_base::OutOfMemory;
+use s80_object::Value;
+use s80_prims::{End, Stop};
+use std::alloc::{AllocError, AllocFailed};
+
+/// Why a step doesn't go on.
+#[derive(Debug, Drop)]
+pub(crate) enum Halt {
+    Memory,
+    /// The run has ended.
+    Ended(End),
+    /// A part is wanted that isn't there; verified code never wants one.
+    Stuck,
+}
+
+impl Halt {
+    pub(crate) fn stop(stop: Stop) -> Self {
+        Halt::Ended(End::Stopped(stop))
+    }
+
+    pub(crate) fn answer(value: Value) -> Self {
+        Halt::Ended(End::Answer(value))
+    }
+}
+
+impl From<OutOfMemory> for Halt {
+    fn from(_: OutOfMemory) -> Self {
+        Halt::Memory
+    }
+}
+
+impl From<AllocError> for Halt {
+    fn from(_: AllocError) -> Self {
+        Halt::Memory
+    }
+}
+
+impl<T: Drop> From<AllocFailed<T>> for Halt {
+    fn from(_: AllocFailed<T>) -> Self {
+        Halt::Memory
+    }
+}

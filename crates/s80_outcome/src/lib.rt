@@ -1,0 +1,9 @@
+//! What a doIt comes to, as text.
+#![tactic(auto)]
+
+mod outcome;
+
+pub use outcome::outcome_text;
+
+#[cfg(test)]
+mod tests;
