@@ -1,0 +1,2 @@
+use Rattle.s80_machine.proofs.SoundLists.{numbered_there}
+use Rattle.s80_machine.proofs.laws.verified_code_is_never_stuck.Goals as goal
