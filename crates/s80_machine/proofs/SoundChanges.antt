@@ -150,3 +150,6 @@ module _ (t : Table) (methods : MethodsValue (MethodEntry Code)) (code : Code) w
         | inr last ↦ inr (subst (IsSoundLiteral t methods code new) last.1 (literal_stays t methods code w new on made sound))
       ])
       (λ v. value_stays t w new on (w.variables v) (h.variables v))
+
+  pub same_follows : (w : World) → IsSoundWorld t methods code w → Follows w w
+  same_follows w h = aside w w.transcript w.ticks w.keys w.variables h (λ m key e. e) h.variables

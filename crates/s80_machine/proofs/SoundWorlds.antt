@@ -87,12 +87,12 @@ known_stays t old new on (block_body whole start count) h = value_stays t old ne
 
 -- ---- variables of a receiver
 
-some_place : {A : Type 0} (xs : List A) (i : ℕ) → i < length xs → IsSome (slice_get xs i)
+pub some_place : {A : Type 0} (xs : List A) (i : ℕ) → i < length xs → IsSome (slice_get xs i)
 some_place [] i h = absurd (omega (arith, h))
 some_place (x ∷ xs) zero h = refl
 some_place (x ∷ xs) (suc i) h = some_place xs i (omega (arith, h))
 
-place_below : {A : Type 0} (xs : List A) (i : ℕ) → IsSome (slice_get xs i) → i < length xs
+pub place_below : {A : Type 0} (xs : List A) (i : ℕ) → IsSome (slice_get xs i) → i < length xs
 place_below [] i h = absurd (true≢false (sym h))
 place_below (x ∷ xs) zero h = omega arith
 place_below (x ∷ xs) (suc i) h = omega (arith, place_below xs i h)
@@ -100,7 +100,7 @@ place_below (x ∷ xs) (suc i) h = omega (arith, place_below xs i h)
 pub some_same : (xs ys : List Value) (i : ℕ) → length ys ≡ length xs → IsSome (slice_get xs i) → IsSome (slice_get ys i)
 some_same xs ys i same h = some_place ys i (omega (arith, same, place_below xs i h))
 
-abbrev HasField : Option BodyTree → ℕ → Type 0
+abbrev pub HasField : Option BodyTree → ℕ → Type 0
 HasField o i = IsSome (option_and_then (λ fields. slice_get fields i) (option_and_then fields_of o))
 
 field_stays : (b c : BodyTree) (i : ℕ) → IsSameAs b c → HasField (Some b) i → HasField (Some c) i
