@@ -5,4 +5,6 @@ use Rattle.s80_machine.proofs.SoundClasses.{found_at}
 use Rattle.s80_machine.proofs.SoundWorlds.{literal_stays}
 use Rattle.s80_machine.proofs.SoundChanges.{literal_follows}
 use Rattle.s80_machine.proofs.SoundFields.{temporary_written}
+use Rattle.s80_machine.proofs.SoundValues.{at_once_known}
+use Rattle.s80_machine.proofs.SoundLiterals.{noted_follows}
 use Rattle.s80_machine.proofs.laws.verified_code_is_never_stuck.Goals as goal
