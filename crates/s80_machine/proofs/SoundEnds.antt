@@ -38,7 +38,7 @@ module _ (t : Table) (methods : MethodsValue (MethodEntry Code)) (code : Code) w
   pub stops_sound : (stop : Stop) (w : World) → IsSoundWorld t methods code w → IsSoundTurn t methods code (stops stop w)
   stops_sound stop w h = (tt, h.known)
 
-  if_sound : (b : Bool) (x y : Turn) → IsSoundTurn t methods code x → IsSoundTurn t methods code y → IsSoundTurn t methods code (if b then x else y)
+  pub if_sound : (b : Bool) (x y : Turn) → IsSoundTurn t methods code x → IsSoundTurn t methods code y → IsSoundTurn t methods code (if b then x else y)
   if_sound true x y h g = h
   if_sound false x y h g = g
 
