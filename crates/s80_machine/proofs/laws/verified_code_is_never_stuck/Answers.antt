@@ -12,4 +12,5 @@ use Rattle.s80_machine.proofs.SoundEnds.{activated_sound}
 use Rattle.s80_machine.proofs.SoundSends.{sent_sound}
 use Rattle.s80_machine.proofs.SoundMoves.{message_sound}
 use Rattle.s80_machine.proofs.SoundPushes.{store_sound}
+use Rattle.s80_machine.proofs.SoundCalls.{specials_sound}
 use Rattle.s80_machine.proofs.laws.verified_code_is_never_stuck.Goals as goal
