@@ -1,16 +1,8 @@
-use Rattle.s80_machine.proofs.SoundLists.{numbered_there}
-use Rattle.s80_machine.proofs.SoundPlaces.{holds_it}
-use Rattle.s80_machine.proofs.SoundOperands.{special_there}
-use Rattle.s80_machine.proofs.SoundClasses.{found_at}
-use Rattle.s80_machine.proofs.SoundWorlds.{literal_stays}
-use Rattle.s80_machine.proofs.SoundChanges.{literal_follows}
-use Rattle.s80_machine.proofs.SoundFields.{temporary_written}
-use Rattle.s80_machine.proofs.SoundValues.{at_once_known}
-use Rattle.s80_machine.proofs.SoundLiterals.{noted_follows}
-use Rattle.s80_machine.proofs.SoundPrims.{primitive_good}
-use Rattle.s80_machine.proofs.SoundEnds.{activated_sound}
-use Rattle.s80_machine.proofs.SoundSends.{sent_sound}
-use Rattle.s80_machine.proofs.SoundMoves.{message_sound}
-use Rattle.s80_machine.proofs.SoundPushes.{store_sound}
-use Rattle.s80_machine.proofs.SoundCalls.{specials_sound}
+use Rattle.s80_machine.proofs.SoundTurns.{start_sound, turn_sound}
 use Rattle.s80_machine.proofs.laws.verified_code_is_never_stuck.Goals as goal
+
+pub returns-clause-begins : goal.returns-clause-begins
+returns-clause-begins c = λ t methods code budget setting. start_sound t methods code setting (λ n r arguments w. c.primitives_keep_known.ensures t n r arguments w setting.numbers) budget
+
+pub returns-clause-goes_on : goal.returns-clause-goes_on
+returns-clause-goes_on c = λ t methods code budget setting s h. turn_sound t methods code setting (λ n r arguments w. c.primitives_keep_known.ensures t n r arguments w setting.numbers) budget s h
