@@ -1,12 +1,15 @@
 -- What a run of verified code keeps: each activation stands at a place that its code comes to, with as many values as that place has, and
 -- whatever is named is there.
-use Rattle.std.specs.Prelude.{◌≡◌, ◌≢◌, ℕ, ◌+◌, ◌<◌, ◌≤◌, List, [], ◌∷◌, Bool, true, false, length, slice_get, codes, Option, Some, None, IsSome, All}
+use Rattle.std.specs.Prelude.{◌≡◌, ◌≢◌, ℕ, pos, ◌+◌, ◌<◌, ◌≤◌, List, [], ◌∷◌, Bool, true, false, length, slice_get, codes, Option, Some, None, IsSome, All}
 use Rattle.std.specs.FinMap as map_of
 use Rattle.s80_base.specs.declared.names.Side.{Side}
 use Rattle.s80_base.specs.declared.names.Side.TheVariants.{Instance, Class}
 use Rattle.s80_kernel.specs.Rows.{is_kernel_class}
 use Rattle.s80_class.specs.Classes.{Name, inherited_of, is_bits}
+use Rattle.s80_class.specs.Known.{IsKnown as IsKnownTable}
 use Rattle.s80_class.specs.Table.{Table, IsClass}
+use Rattle.s80_base.specs.Literal.{LiteralTree}
+use Rattle.s80_code.specs.Entries.{constant, entries_of}
 use Rattle.s80_code.specs.declared.code.Code.{Code}
 use Rattle.s80_code.specs.declared.instruction.Instruction.{Instruction}
 use Rattle.s80_code.specs.declared.instruction.Instruction.TheVariants.{Push, Store, PopInto}
@@ -14,10 +17,11 @@ use Rattle.s80_code.specs.declared.instruction.Storage.{Storage}
 use Rattle.s80_code.specs.declared.instruction.Storage.TheVariants.{Receiver}
 use Rattle.s80_dict.specs.Table.{MethodsValue, methods_at}
 use Rattle.s80_dict.specs.declared.dict.MethodEntry.{MethodEntry}
-use Rattle.s80_object.specs.Body.{pointers, home as home_body, block as block_body}
+use Rattle.s80_object.specs.Body.{BodyTree, pointers, bytes, words, home as home_body, block as block_body}
+use Rattle.s80_object.specs.Literal.{is_object}
 use Rattle.s80_object.specs.Objects.{Made}
 use Rattle.s80_object.specs.declared.value.Value.{Value}
-use Rattle.s80_object.specs.declared.value.Value.TheVariants.{Object}
+use Rattle.s80_object.specs.declared.value.Value.TheVariants.{Object, Small}
 use Rattle.s80_prims.specs.Classes.{class_name, kind_of_class, variables_of}
 use Rattle.s80_prims.specs.Kept.{HasNumbers}
 use Rattle.s80_prims.specs.Known.{AreKnown, HasKernel, IsKnown}
@@ -26,7 +30,7 @@ use Rattle.s80_prims.specs.declared.stop.End.TheVariants.{Answer, Stopped}
 use Rattle.s80_verify.specs.declared.stack.Stack.{Stack}
 use Rattle.s80_verify.specs.declared.stack.Stack.TheVariants.{OfHome, OfBlock}
 use Rattle.s80_verify.specs.Fault.{RunsAt}
-use Rattle.s80_verify.specs.Reach.{Reached}
+use Rattle.s80_verify.specs.Reach.{Begins, Reached}
 use Rattle.s80_verify.specs.Record.{HasDepths}
 use Rattle.s80_verify.specs.Selector.{IsSelectorOf}
 use Rattle.s80_machine.specs.World.{World, Key, doit, method, Variable, Context, Frame, own, home, block, receiver_variable}
@@ -62,9 +66,11 @@ pub record SuitsMethod (t : Table) (c : ℕ) (side : Side) (selector : List ℕ)
   pub suits : Suits (variables_on t c side) code
   pub selector_is : IsSelectorOf code.arguments selector
 
--- The classes of the kernel are there, and have a number each; of them Message alone has variables. No class of bytes or words has any. The
--- code of each method is that of one of its class and selector, and the doIt's is that of a method without arguments of a class without variables.
+-- The classes are those of a table, with a number each. The classes of the kernel are there; of them Message alone has variables. No class of
+-- bytes or words has any. The code of each method is that of one of its class and selector, and the doIt's is that of a method without
+-- arguments of a class without variables.
 pub record IsSetting (t : Table) (methods : MethodsValue (MethodEntry Code)) (code : Code) : Type 0 where
+  pub classes : IsKnownTable t
   pub kernel : HasKernel t
   pub numbers : HasNumbers t
   pub plain : (word : Name) → is_kernel_class word ≡ true → word ≢ codes "Message" → (inherited_of t.classes word).inst_vars ≡ 0
@@ -86,6 +92,15 @@ stack_kind (block b h) = OfBlock
 abbrev pub variables_for : Table → Key → ℕ
 variables_for t doit = 0
 variables_for t (method c side selector) = variables_on t c side
+
+-- this number is on top
+abbrev pub HasCount : ℕ → List Value → Type 0
+HasCount n (Small (pos m) ∷ stack) = m ≡ n
+HasCount n _ = ⊥
+
+-- no 200 of a block's beginning stands at a place
+abbrev pub IsNoCopy : Code → ℕ → Type 0
+IsNoCopy of at = (arguments start : ℕ) → Begins of at arguments start → ⊥
 
 module _ (t : Table) (methods : MethodsValue (MethodEntry Code)) (code : Code) where
   -- a method that was activated, with its code
@@ -111,22 +126,50 @@ module _ (t : Table) (methods : MethodsValue (MethodEntry Code)) (code : Code) w
   IsFrameOf w (block b h) m r of =
       IsHomeOf w h m r of × ((start : ℕ) × (count : ℕ) × (slice_get w.objects.bodies b ≡ Some (block_body (Object h) start count)))
 
-  -- an activation that waits for so many values
+  -- an activation that waits for so many values; at a 200 it waits for none, and the number that the push before it left is on top
   pub record IsSoundContext (w : World) (awaited : ℕ) (c : Context) : Type 0 where
     pub of : Code
     pub method : IsMethod w c.method c.receiver of
     pub frame : IsFrameOf w c.frame c.method c.receiver of
     pub reached : Reached of c.place (stack_kind c.frame) (length c.stack + awaited)
+    pub counted : (arguments start : ℕ) → Begins of c.place arguments start → (awaited ≡ 0) × HasCount arguments c.stack
     pub values : All (IsKnown t w.objects) c.stack
+
+  -- a block, whose home is the object of a method's home, begins where its code comes to
+  pub record IsBlockOf (w : World) (whole : Value) (start count : ℕ) : Type 0 where
+    pub home : ℕ
+    pub number : ℕ
+    pub receiver : Value
+    pub of : Code
+    pub whole_is : whole ≡ Object home
+    pub method : IsMethod w number receiver of
+    pub is_home : IsHomeOf w home number receiver of
+    pub reached : Reached of start OfBlock count
+    pub plain : IsNoCopy of start
+
+  -- an object has as many fields as its class has variables, and a home as many temporaries as its method
+  abbrev pub IsSoundBody : World → BodyTree → Type 0
+  IsSoundBody w (pointers class fields items) = length fields ≡ variables_of t class
+  IsSoundBody w (bytes class items) = variables_of t class ≡ 0
+  IsSoundBody w (words class items) = variables_of t class ≡ 0
+  IsSoundBody w (home_body m r temporaries) = (of : Code) × IsMethod w m r of × (length temporaries ≡ of.temporaries)
+  IsSoundBody w (block_body whole start count) = IsBlockOf w whole start count
+
+  -- a literal that was made: an object, of its entry in the code of its method
+  pub record IsSoundLiteral (w : World) (made : Made) : Type 0 where
+    pub known : IsKnown t w.objects made.value
+    pub key : Key
+    pub of : Code
+    pub literal : LiteralTree
+    pub key_is : slice_get w.keys made.method ≡ Some key
+    pub code_is : code_for methods code key ≡ Some of
+    pub entry_is : slice_get (entries_of of.literals) made.entry ≡ Some (constant literal)
+    pub object : is_object literal ≡ true
 
   pub record IsSoundWorld (w : World) : Type 0 where
     pub known : AreKnown t w.objects
-    pub fields : (n class : ℕ) (fields items : List Value) → slice_get w.objects.bodies n ≡ Some (pointers class fields items) → length fields ≡ variables_of t class
-    pub homes : (n m : ℕ) (r : Value) (temporaries : List Value) → slice_get w.objects.bodies n ≡ Some (home_body m r temporaries)
-        → (of : Code) × IsMethod w m r of × (length temporaries ≡ of.temporaries)
-    pub blocks : (n start count : ℕ) (whole : Value) → slice_get w.objects.bodies n ≡ Some (block_body whole start count)
-        → (h m : ℕ) × (r : Value) × (of : Code) × (whole ≡ Object h) × IsMethod w m r of × IsHomeOf w h m r of × Reached of start OfBlock count
-    pub literals : (i : ℕ) (made : Made) → slice_get w.objects.literals i ≡ Some made → IsKnown t w.objects made.value
+    pub bodies : (n : ℕ) (b : BodyTree) → slice_get w.objects.bodies n ≡ Some b → IsSoundBody w b
+    pub literals : (i : ℕ) (made : Made) → slice_get w.objects.literals i ≡ Some made → IsSoundLiteral w made
     pub variables : (v : Variable) → IsKnown t w.objects (w.variables v)
 
   -- the active context waits for nothing, and each other for an answer

@@ -218,10 +218,11 @@ module _ (t : Table) (methods : MethodsValue (MethodEntry Code)) (doit_code : Co
   send_turn code c next rest w k r arguments stack =
       given (selector_at code k) (λ selector. sent (places_for w r) selector r arguments (waiting c next stack ∷ rest) w)
 
+  -- its receiver is that of the method itself, whatever lies below the arguments
   abbrev pub super_turn : Code → Context → ℕ → List Context → World → ℕ → Value → List Value → List Value → Turn
   super_turn code c next rest w k r arguments stack =
       given (selector_at code k) (λ selector.
-          given (slice_get w.keys c.method) (λ key. sent (places_above key) selector r arguments (waiting c next stack ∷ rest) w))
+          given (slice_get w.keys c.method) (λ key. sent (places_above key) selector c.receiver arguments (waiting c next stack ∷ rest) w))
 
   -- ---- instructions
 

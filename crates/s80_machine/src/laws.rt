@@ -11,6 +11,8 @@ ghost use Rattle.s80_machine.specs.Run.{RunsTo, start};
 ghost use Rattle.s80_machine.specs.Sound.{IsSetting, IsSound, IsSoundTurn};
 ghost use Rattle.s80_machine.specs.Measure.{IsWithin, steps_left};
 
+use s80_prims::primitives_keep_known;
+
 /// A run comes to one outcome.
 pub fn a_run_has_one_outcome()
     ensures { (t : Table) (methods : MethodsValue (MethodEntry Code)) (code : Code) (budget : ℕ) (one other : Outcome)
@@ -23,7 +25,9 @@ pub fn verified_code_is_never_stuck()
         → IsSoundTurn t methods code (start t methods code budget) }
     ensures goes_on { (t : Table) (methods : MethodsValue (MethodEntry Code)) (code : Code) (budget : ℕ) → IsSetting t methods code
         → (s : State) → IsSound t methods code s → IsSoundTurn t methods code (turn t methods code budget s) }
-{}
+{
+    primitives_keep_known();
+}
 
 /// Each step leaves fewer steps, so that a run ends under every budget.
 pub fn each_step_leaves_less()

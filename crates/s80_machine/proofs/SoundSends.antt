@@ -1,0 +1,195 @@
+-- Messages: each method that is found may be activated with the receiver.
+use Rattle.std.proofs.Common.{◌≡◌, ◌∙◌, ap, sym, subst, refl, ℕ, zero, suc, ◌+◌, ◌-◌, ◌<◌, ◌≤◌, ◌==◌, List, [], ◌∷◌, ◌++◌, codes, drop, Option, Some, None, IfSome, Bool, true, false, length, slice_get, unwrap_or, All, arith, inl, cond, if◌then◌else◌, option_and_then}
+use Rattle.std.specs.FinMap as map_of
+use Rattle.std.specs.Option.{IsSome, option_map, option_map_or}
+use Rattle.std.proofs.lemmas.List.Elements.{All-nil, All-drop}
+use Rattle.s80_base.specs.declared.names.Side.{Side}
+use Rattle.s80_base.specs.declared.names.Side.TheVariants.{Instance, Class}
+use Rattle.s80_kernel.specs.Rows as rows
+use Rattle.s80_class.specs.Table.{Table}
+use Rattle.s80_code.specs.declared.code.Code.{Code}
+use Rattle.s80_dict.specs.Table.{MethodsValue, methods_at}
+use Rattle.s80_dict.specs.declared.dict.MethodEntry.{MethodEntry}
+use Rattle.s80_object.specs.Objects.{text_of}
+use Rattle.s80_object.specs.declared.value.Value.{Value}
+use Rattle.s80_object.specs.declared.value.Value.TheVariants.{ClassRef, Symbol}
+use Rattle.s80_prims.specs.declared.applied.Applied.{Applied}
+use Rattle.s80_prims.specs.declared.applied.Applied.TheVariants.{Done, Fails, Stops}
+use Rattle.s80_prims.specs.declared.stop.Stop.TheVariants.{NotUnderstood}
+use Rattle.s80_prims.specs.Classes.{class_name, class_of}
+use Rattle.s80_prims.specs.Kept.{AnswersKnown, KeepsKnown}
+use Rattle.s80_prims.specs.Known.{AreKnown, IsKnown}
+use Rattle.s80_prims.specs.Primitives.{World as ReachedWorld, primitive}
+use Rattle.s80_verify.specs.Selector.{IsSelectorOf, is_name}
+use Rattle.s80_verify.proofs.SelectorLemmas.{name_is}
+use Rattle.s80_machine.specs.World.{World, Key, doit, method, Context, changed, one_tick, reached, receiver_variable}
+use Rattle.s80_machine.specs.Lookup.{Found, Place, first_found, number, places_up}
+use Rattle.s80_machine.specs.Turn.{Turn, Block, Stuck, block_with, if_unary, stops, ticked, unary_in}
+use Rattle.s80_machine.specs.Step.{activated, block_activated, by_effect, by_primitive, code_for, found_turn, looked_up, method_turn, not_understood, performed, places_above, places_for, places_of, sent}
+use Rattle.s80_machine.specs.Sound.{IsSetting, IsMethod, IsSoundTurn, IsSoundWorld, SuitsMethod, variables_for, variables_on}
+use Rattle.s80_machine.proofs.SoundClasses.{HasAtMost, IsFound, found_at, kernel_number, kernel_plain, places_within}
+use Rattle.s80_machine.proofs.SoundOperands.{one_selector}
+use Rattle.s80_machine.proofs.SoundWorlds.{Onward, value_stays, values_stay, variable_stays}
+use Rattle.s80_machine.proofs.SoundChanges.{Follows}
+use Rattle.s80_machine.proofs.SoundValues.{has_class}
+use Rattle.s80_machine.proofs.SoundPrims.{primitive_good}
+use Rattle.s80_machine.proofs.SoundEnds.{AllWait, CanRun, Takes, activated_sound, block_sound, block_takes, deliver_sound, if_sound, stops_sound, ticked_sound, wait_on}
+use Rattle.s80_code.proofs.TableLemmas.{value}
+
+-- the receiver has the variables of all these places
+pub record Serves (t : Table) (w : World) (r : Value) (places : List Place) : Type 0 where
+  pub most : ℕ
+  pub within : All (HasAtMost t most) places
+  pub variables : (i : ℕ) → i < most → IsSome (receiver_variable w r i)
+
+pub serves_on : (t : Table) (w w1 : World) → Onward w w1 → (r : Value) (places : List Place) → Serves t w r places → Serves t w1 r places
+serves_on t w w1 on r places h = record { most = h.most; within = h.within; variables = λ i below. variable_stays w w1 on r i (h.variables i below) }
+
+mapped_from : {X Y : Type 0} (f : X → Y) (o : Option X) (y : Y) → option_map f o ≡ Some y → (x : X) × (o ≡ Some x) × (f x ≡ y)
+mapped_from f None y e = cc
+mapped_from f (Some x) y e = (x, refl, value e)
+
+-- what is told of primitives
+abbrev pub PrimitivesKeep : Table → Type 0
+PrimitivesKeep t = (n : ℕ) (r : Value) (arguments : List Value) (w : ReachedWorld) → IsKnown t w.objects r → All (IsKnown t w.objects) arguments → AreKnown t w.objects → KeepsKnown t w.objects (primitive t n r arguments w)
+
+module _ (t : Table) (methods : MethodsValue (MethodEntry Code)) (code : Code) (setting : IsSetting t methods code) (keeps : PrimitivesKeep t) (budget : ℕ) where
+  -- ---- the places of a receiver's class, and above a method's own
+
+  pub serves_class : (w : World) (r : Value) → IsSoundWorld t methods code w → IsKnown t w.objects r → Serves t w r (places_for t methods code budget w r)
+  serves_class w r h known =
+      let c = has_class t methods code setting w h r known in
+      subst (λ v. Serves t w r (places_of t methods code budget v)) (sym c.is)
+      (record { most = variables_on t c.number c.side; within = places_within t methods code setting c.number c.side (variables_on t c.number c.side) c.there (omega arith); variables = c.variables })
+
+  method_class : (c : ℕ) (side : Side) (selector : List ℕ) (of : Code) → code_for methods code (method c side selector) ≡ Some of → SuitsMethod t c side selector of
+  method_class c side selector of e =
+      let r = mapped_from (λ (e : MethodEntry Code). e.code) (map_of.get (methods_at methods c side) selector) of e in
+      subst (SuitsMethod t c side selector) r.2 (setting.methods_suit c side selector r.0 r.1)
+
+  pub serves_above : (w : World) (m : ℕ) (r : Value) (of : Code) (h : IsMethod t methods code w m r of) → Serves t w r (places_above t methods code budget h.key)
+  unfolding rows.is_kernel_class
+  serves_above w m r of h = by_key h.key h.code_is h.variables
+    where
+      by_key : (key : Key) → code_for methods code key ≡ Some of → ((i : ℕ) → i < variables_for t key → IsSome (receiver_variable w r i)) → Serves t w r (places_above t methods code budget key)
+      by_key doit is variables =
+          let nil : ℕ = number t (codes "UndefinedObject") in
+          let few : variables_on t nil Instance ≤ 0 = omega (arith, kernel_plain t methods code setting (codes "UndefinedObject") refl refl) in
+          record {
+            most = 0;
+            within = All-drop (HasAtMost t 0) 1 (places_up t nil Instance)
+            (places_within t methods code setting nil Instance 0 (codes "UndefinedObject", kernel_number t methods code setting (codes "UndefinedObject") refl) few);
+            variables = variables;
+          }
+      by_key (method c side selector) is variables =
+          let suits = method_class c side selector of is in
+          record {
+            most = variables_on t c side;
+            within = All-drop (HasAtMost t (variables_on t c side)) 1 (places_up t c side) (places_within t methods code setting c side (variables_on t c side) suits.class (omega arith));
+            variables = variables;
+          }
+
+  -- ---- a method that was found
+
+  effect_sound : (applied : Applied) (after w : World) (otherwise : Turn) (below : List Context) → IsSoundWorld t methods code after → IsSoundWorld t methods code w → AnswersKnown t after.objects applied
+      → IsSoundTurn t methods code otherwise → AllWait t methods code after below → IsSoundTurn t methods code (by_effect t methods code budget applied after otherwise below w)
+  effect_sound (Done v) after w otherwise below h old answer run wait = deliver_sound t methods code v below after answer h wait
+  effect_sound Fails after w otherwise below h old answer run wait = run
+  effect_sound (Stops stop) after w otherwise below h old answer run wait = stops_sound t methods code stop w old
+
+  primitive_sound : (n : ℕ) (r : Value) (arguments : List Value) (otherwise : Turn) (below : List Context) (w : World) → IsSoundWorld t methods code w → IsKnown t w.objects r → All (IsKnown t w.objects) arguments
+      → IsSoundTurn t methods code otherwise → AllWait t methods code w below → IsSoundTurn t methods code (by_primitive t methods code budget n r arguments otherwise below w)
+  primitive_sound n r arguments otherwise below w h known all run wait =
+      let effect = primitive t n r arguments (reached w) in
+      let f = primitive_good t methods code setting w h n r arguments known all in
+      effect_sound effect.applied (changed w effect.world) w otherwise below f.sound h (keeps n r arguments (reached w) known all h.known).answer run (wait_on t methods code w (changed w effect.world) f below wait)
+
+  method_sound : (other : Option Turn) (key : Key) (of : Code) (r : Value) (arguments : List Value) (below : List Context) (w : World) → IsSoundWorld t methods code w → IfSome other (IsSoundTurn t methods code)
+      → CanRun t methods code w key of r → All (IsKnown t w.objects) arguments → length arguments ≤ of.temporaries → AllWait t methods code w below
+      → IsSoundTurn t methods code (method_turn t methods code budget other key of r arguments below w)
+  method_sound other key of r arguments below w h fine can all few wait =
+      if_sound t methods code (of.primitive == 81) (option_map_or (λ b. block_activated t methods code budget b arguments below w) (block_with w.objects r (length arguments)) run)
+      (if of.primitive == 83 then unwrap_or other run else by_primitive t methods code budget of.primitive r arguments run below w)
+      (by_block (block_with w.objects r (length arguments)) refl)
+      (if_sound t methods code (of.primitive == 83) (unwrap_or other run) (by_primitive t methods code budget of.primitive r arguments run below w) (by_other other fine)
+      (primitive_sound of.primitive r arguments run below w h can.known all runs wait))
+    where
+      run : Turn
+      run = activated t methods code budget key of r arguments below w
+
+      runs : IsSoundTurn t methods code (activated t methods code budget key of r arguments below w)
+      runs = activated_sound t methods code budget key of r arguments below w h can all few wait
+
+      by_block : (o : Option Block) → block_with w.objects r (length arguments) ≡ o
+          → IsSoundTurn t methods code (option_map_or (λ b. block_activated t methods code budget b arguments below w) o (activated t methods code budget key of r arguments below w))
+      by_block None e = runs
+      by_block (Some b) e = block_sound t methods code budget b arguments below w h (block_takes t methods code w.objects r (length arguments) b e) all wait
+
+      by_other : (o : Option Turn) → IfSome o (IsSoundTurn t methods code) → IsSoundTurn t methods code (unwrap_or o (activated t methods code budget key of r arguments below w))
+      by_other None fine = runs
+      by_other (Some turn) fine = fine
+
+  -- ---- the look-up
+
+  none_sound : (w : World) (r : Value) (selector : List ℕ) → IsSoundWorld t methods code w → IsKnown t w.objects r → IsSoundTurn t methods code (not_understood t methods code budget (class_of t w.objects r) selector w)
+  none_sound w r selector h known =
+      let c = has_class t methods code setting w h r known in
+      subst (λ v. IsSoundTurn t methods code (not_understood t methods code budget v selector w)) (sym c.is) (stops_sound t methods code (NotUnderstood (class_name t c.number) c.side selector) w h)
+
+  found_sound : (o : Option (Found (MethodEntry Code))) (other : World → Option Turn) (places : List Place) (selector : List ℕ) (r : Value) (arguments : List Value) (below : List Context) (w : World)
+      → first_found methods selector places ≡ o → IsSoundWorld t methods code w → IfSome (other w) (IsSoundTurn t methods code) → IsKnown t w.objects r → Serves t w r places → All (IsKnown t w.objects) arguments
+      → IsSelectorOf (length arguments) selector → AllWait t methods code w below → IsSoundTurn t methods code (found_turn t methods code budget o other selector r arguments below w)
+  found_sound None other places selector r arguments below w e h fine known serves all takes wait = none_sound w r selector h known
+  found_sound (Some f) other places selector r arguments below w e h fine known serves all takes wait =
+      let found = found_at methods selector (HasAtMost t serves.most) places f serves.within e in
+      let suits = setting.methods_suit f.class f.side selector f.entry found.entry in
+      let same : f.entry.code.arguments ≡ length arguments = one_selector selector f.entry.code.arguments (length arguments) suits.selector_is takes in
+      let few : length arguments ≤ f.entry.code.temporaries = omega (arith, same, suits.suits.depths.header.arguments) in
+      let fits : variables_on t f.class f.side ≤ serves.most = found.place in
+      let can : CanRun t methods code w (method f.class f.side selector) f.entry.code r = record {
+        code_is = ap (option_map (λ (e : MethodEntry Code). e.code)) found.entry;
+        suits = suits.suits;
+        known = known;
+        variables = λ i below. serves.variables i (omega (arith, below, fits));
+      } in
+      method_sound (other w) (method f.class f.side selector) f.entry.code r arguments below w h fine can all few wait
+
+  looked_sound : (other : World → Option Turn) (places : List Place) (selector : List ℕ) (r : Value) (arguments : List Value) (below : List Context) (w : World) → IsSoundWorld t methods code w
+      → (Follows t methods code w (one_tick w) → IfSome (other (one_tick w)) (IsSoundTurn t methods code)) → IsKnown t w.objects r → Serves t w r places → All (IsKnown t w.objects) arguments
+      → IsSelectorOf (length arguments) selector → AllWait t methods code w below → IsSoundTurn t methods code (looked_up t methods code budget other places selector r arguments below w)
+  looked_sound other places selector r arguments below w h fine known serves all takes wait =
+      ticked_sound t methods code budget w (found_turn t methods code budget (first_found methods selector places) other selector r arguments below) h
+      (λ f.
+          let w1 : World = one_tick w in
+          found_sound (first_found methods selector places) other places selector r arguments below w1 refl f.sound (fine f) known (serves_on t w w1 f.onward r places serves) all takes (wait_on t methods code w w1 f below wait))
+
+  -- ---- a message that a primitive sends
+
+  named_unary : (o : Option (List ℕ)) (selector : List ℕ) → option_and_then if_unary o ≡ Some selector → is_name selector ≡ true
+  named_unary None selector e = cc
+  named_unary (Some text) selector e = go (is_name text) refl e
+    where
+      go : (b : Bool) → is_name text ≡ b → (if b then Some text else None) ≡ Some selector → is_name selector ≡ true
+      go true is e = subst (λ s. is_name s ≡ true) (value e) is
+      go false is e = cc
+
+  performed_sound : (r : Value) (arguments : List Value) (below : List Context) (w : World) → IsSoundWorld t methods code w → IsKnown t w.objects r → AllWait t methods code w below
+      → IfSome (performed t methods code budget r arguments below w) (IsSoundTurn t methods code)
+  performed_sound r arguments below w h known wait = go (unary_in w.objects arguments) (λ selector e. unary_is arguments selector e)
+    where
+      unary_is : (arguments : List Value) (selector : List ℕ) → unary_in w.objects arguments ≡ Some selector → is_name selector ≡ true
+      unary_is (Symbol n ∷ []) selector e = named_unary (text_of w.objects (Symbol n)) selector e
+      unary_is _ selector e = cc
+
+      go : (o : Option (List ℕ)) → ((selector : List ℕ) → o ≡ Some selector → is_name selector ≡ true)
+          → IfSome (option_map (λ selector. looked_up t methods code budget (λ _. None) (places_for t methods code budget w r) selector r [] below w) o) (IsSoundTurn t methods code)
+      go None named = tt
+      go (Some selector) named =
+          looked_sound (λ _. None) (places_for t methods code budget w r) selector r [] below w h (λ f. tt) known (serves_class w r h known) (All-nil (IsKnown t w.objects))
+          (inl (name_is selector (named selector refl), refl)) wait
+
+  pub sent_sound : (places : List Place) (selector : List ℕ) (r : Value) (arguments : List Value) (below : List Context) (w : World) → IsSoundWorld t methods code w → IsKnown t w.objects r → Serves t w r places
+      → All (IsKnown t w.objects) arguments → IsSelectorOf (length arguments) selector → AllWait t methods code w below → IsSoundTurn t methods code (sent t methods code budget places selector r arguments below w)
+  sent_sound places selector r arguments below w h known serves all takes wait =
+      looked_sound (performed t methods code budget r arguments below) places selector r arguments below w h
+      (λ f. performed_sound r arguments below (one_tick w) f.sound known (wait_on t methods code w (one_tick w) f below wait)) known serves all takes wait
