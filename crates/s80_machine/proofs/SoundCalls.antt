@@ -1,12 +1,11 @@
 -- Messages of the active context, and the blocks that it makes.
-use Rattle.std.proofs.Common.{◌≡◌, ◌≢◌, ◌∙◌, ap, sym, subst, refl, ℕ, zero, suc, ◌+◌, ◌-◌, ◌<◌, ◌≤◌, ◌==◌, pos, List, [], ◌∷◌, Option, Some, None, IfSome, Bool, true, false, length, slice_get, get_or, All, arith, cond, if◌then◌else◌, option_and_then, true≢false}
+use Rattle.std.proofs.Common.{◌≡◌, ◌∙◌, ap, sym, subst, refl, ℕ, ◌+◌, ◌≤◌, ◌==◌, pos, List, [], ◌∷◌, Option, Some, None, IfSome, Bool, true, false, length, slice_get, get_or, All, arith, if◌then◌else◌, option_and_then, true≢false}
 use Rattle.std.specs.Option.{option_map_or}
-use Rattle.std.proofs.lemmas.List.Elements.{All-cons, All-nil, All-head, All-tail}
+use Rattle.std.proofs.lemmas.List.Elements.{All-cons, All-nil, All-tail}
 use Rattle.s80_class.specs.Table.{Table}
 use Rattle.s80_code.specs.declared.code.Code.{Code}
 use Rattle.s80_code.specs.declared.instruction.Instruction.{Instruction}
 use Rattle.s80_code.specs.declared.instruction.Instruction.TheVariants as instruction
-use Rattle.s80_code.specs.Entries.{entries_of}
 use Rattle.s80_code.specs.Table.{Stands}
 use Rattle.s80_dict.specs.Table.{MethodsValue}
 use Rattle.s80_dict.specs.declared.dict.MethodEntry.{MethodEntry}
@@ -30,12 +29,11 @@ use Rattle.s80_machine.proofs.SoundLists.{same_number}
 use Rattle.s80_machine.proofs.SoundOperands.{in_range, special_there}
 use Rattle.s80_machine.proofs.SoundPlaces.{holds_it, none_at_start, reach_block, starts_behind}
 use Rattle.s80_machine.proofs.SoundWorlds.{frame_stays, values_stay}
-use Rattle.s80_machine.proofs.SoundChanges.{Follows, last_known, same_follows}
+use Rattle.s80_machine.proofs.SoundChanges.{last_known, same_follows}
 use Rattle.s80_machine.proofs.SoundValues.{at_once_known, class_of_known}
 use Rattle.s80_machine.proofs.SoundEnds.{AllWait, block_sound, block_takes, room_sound}
-use Rattle.s80_machine.proofs.SoundSends.{PrimitivesKeep, Serves, sent_sound, serves_above, serves_class}
-use Rattle.s80_machine.proofs.SoundMoves.{IsBehind, behind, fits, goes_sound, message_sound}
-use Rattle.s80_code.proofs.TableLemmas.{value}
+use Rattle.s80_machine.proofs.SoundSends.{PrimitivesKeep, sent_sound, serves_above, serves_class}
+use Rattle.s80_machine.proofs.SoundMoves.{behind, fits, goes_sound, message_sound}
 
 module _ (t : Table) (methods : MethodsValue (MethodEntry Code)) (code : Code) (setting : IsSetting t methods code) (keeps : PrimitivesKeep t) (budget : ℕ)
     (c : Context) (rest : List Context) (w : World) (sound : IsSoundWorld t methods code w) (context : IsSoundContext t methods code w 0 c) (wait : AllWait t methods code w rest) where
@@ -109,9 +107,9 @@ module _ (t : Table) (methods : MethodsValue (MethodEntry Code)) (code : Code) (
   send_sound count k next s h =
       call_sound (instruction.Send count k) count next s (send_call count k) (send_turn t methods code budget context.of c next rest w k)
       (λ r all below taken left known args stack.
-          subst (λ o. Turns (given o (λ selector. sent t methods code budget (places_for t methods code budget w r) selector r all (waiting c next below ∷ rest) w))) (sym (selector_there count k h))
-          (sent_sound t methods code setting keeps budget (places_for t methods code budget w r) h.0 r all (waiting c next below ∷ rest) w sound known (serves_class t methods code setting keeps budget w r sound known) args
-          (subst (λ n. IsSelectorOf n h.0) (sym taken) h.2) (waits (instruction.Send count k) count next s (send_call count k) below left stack)))
+      subst (λ o. Turns (given o (λ selector. sent t methods code budget (places_for t methods code budget w r) selector r all (waiting c next below ∷ rest) w))) (sym (selector_there count k h))
+      (sent_sound t methods code setting keeps budget (places_for t methods code budget w r) h.0 r all (waiting c next below ∷ rest) w sound known (serves_class t methods code setting keeps budget w r sound known) args
+      (subst (λ n. IsSelectorOf n h.0) (sym taken) h.2) (waits (instruction.Send count k) count next s (send_call count k) below left stack)))
 
   pub super_sound : (count k next : ℕ) → Stands context.of.bytes c.place (instruction.SendSuper count k) next → Sends context.of count k → Turns (message_off count [] c.stack (super_turn t methods code budget context.of c next rest w k))
   super_sound count k next s h =
@@ -119,18 +117,18 @@ module _ (t : Table) (methods : MethodsValue (MethodEntry Code)) (code : Code) (
       let places = places_above t methods code budget key in
       call_sound (instruction.SendSuper count k) count next s (super_call count k) (super_turn t methods code budget context.of c next rest w k)
       (λ r all below taken left known args stack.
-          subst (λ o. Turns (given o (λ selector. given (slice_get w.keys c.method) (λ key. sent t methods code budget (places_above t methods code budget key) selector c.receiver all (waiting c next below ∷ rest) w)))) (sym (selector_there count k h))
-          (subst (λ o. Turns (given o (λ key. sent t methods code budget (places_above t methods code budget key) h.0 c.receiver all (waiting c next below ∷ rest) w))) (sym context.method.key_is)
-          (sent_sound t methods code setting keeps budget places h.0 c.receiver all (waiting c next below ∷ rest) w sound context.method.known
-          (serves_above t methods code setting keeps budget w c.method c.receiver context.of context.method) args
-          (subst (λ n. IsSelectorOf n h.0) (sym taken) h.2) (waits (instruction.SendSuper count k) count next s (super_call count k) below left stack))))
+      subst (λ o. Turns (given o (λ selector. given (slice_get w.keys c.method) (λ key. sent t methods code budget (places_above t methods code budget key) selector c.receiver all (waiting c next below ∷ rest) w)))) (sym (selector_there count k h))
+      (subst (λ o. Turns (given o (λ key. sent t methods code budget (places_above t methods code budget key) h.0 c.receiver all (waiting c next below ∷ rest) w))) (sym context.method.key_is)
+      (sent_sound t methods code setting keeps budget places h.0 c.receiver all (waiting c next below ∷ rest) w sound context.method.known
+      (serves_above t methods code setting keeps budget w c.method c.receiver context.of context.method) args
+      (subst (λ n. IsSelectorOf n h.0) (sym taken) h.2) (waits (instruction.SendSuper count k) count next s (super_call count k) below left stack))))
 
   special_sound : (n next : ℕ) → Stands context.of.bytes c.place (instruction.SendSpecial n) next → Turns (message_off (get_or special_arguments n 0) [] c.stack (special_turn t methods code budget n c next rest w))
   special_sound n next s =
       call_sound (instruction.SendSpecial n) (get_or special_arguments n 0) next s (special_call n) (special_turn t methods code budget n c next rest w)
       (λ r all below taken left known args stack.
-          let wait_below = waits (instruction.SendSpecial n) (get_or special_arguments n 0) next s (special_call n) below left stack in
-          by_answer r all below taken left known args stack wait_below (at_once t w.objects n r all) (at_once_known t w.objects n r all (class_of_known t methods code setting w sound r known)))
+      let wait_below = waits (instruction.SendSpecial n) (get_or special_arguments n 0) next s (special_call n) below left stack in
+      by_answer r all below taken left known args stack wait_below (at_once t w.objects n r all) (at_once_known t w.objects n r all (class_of_known t methods code setting w sound r known)))
     where
       by_test : (test : Bool) (r : Value) (all : List Value) (b : Block) → (if test then block_with w.objects r (length all) else None) ≡ Some b → block_with w.objects r (length all) ≡ Some b
       by_test true r all b e = e
@@ -139,7 +137,7 @@ module _ (t : Table) (methods : MethodsValue (MethodEntry Code)) (code : Code) (
       by_block : (r : Value) (all below : List Value) → length all ≡ get_or special_arguments n 0 → IsKnown t w.objects r → AreKnownAll all → AllWait t methods code w (waiting c next below ∷ rest)
           → (o : Option Block) → (if is_value n then block_with w.objects r (length all) else None) ≡ o
           → Turns (option_map_or (λ b. block_activated t methods code budget b all (waiting c next below ∷ rest) w) o
-              (given (slice_get special_selectors n) (λ selector. sent t methods code budget (places_for t methods code budget w r) selector r all (waiting c next below ∷ rest) w)))
+          (given (slice_get special_selectors n) (λ selector. sent t methods code budget (places_for t methods code budget w r) selector r all (waiting c next below ∷ rest) w)))
       by_block r all below taken known args wait_below None e =
           let word = special_there n (in_range context.of.bytes c.place next (instruction.SendSpecial n) s) in
           subst (λ o. Turns (given o (λ selector. sent t methods code budget (places_for t methods code budget w r) selector r all (waiting c next below ∷ rest) w))) (sym word.1)
@@ -151,9 +149,9 @@ module _ (t : Table) (methods : MethodsValue (MethodEntry Code)) (code : Code) (
       by_answer : (r : Value) (all below : List Value) → length all ≡ get_or special_arguments n 0 → length c.stack ≡ get_or special_arguments n 0 + 1 + length below → IsKnown t w.objects r → AreKnownAll all → AreKnownAll below
           → AllWait t methods code w (waiting c next below ∷ rest) → (o : Option Value) → IfSome o (IsKnown t w.objects)
           → Turns (option_map_or (λ v. goes_on c next (v ∷ below) rest w) o
-              (option_map_or (λ b. block_activated t methods code budget b all (waiting c next below ∷ rest) w)
-                  (if is_value n then block_with w.objects r (length all) else None)
-                  (given (slice_get special_selectors n) (λ selector. sent t methods code budget (places_for t methods code budget w r) selector r all (waiting c next below ∷ rest) w))))
+          (option_map_or (λ b. block_activated t methods code budget b all (waiting c next below ∷ rest) w)
+          (if is_value n then block_with w.objects r (length all) else None)
+          (given (slice_get special_selectors n) (λ selector. sent t methods code budget (places_for t methods code budget w r) selector r all (waiting c next below ∷ rest) w))))
       by_answer r all below taken left known args stack wait_below None fine = by_block r all below taken known args wait_below (if is_value n then block_with w.objects r (length all) else None) refl
       by_answer r all below taken left known args stack wait_below (Some v) fine = at_once_sound (instruction.SendSpecial n) (get_or special_arguments n 0) next s (special_call n) v below left fine stack
 
@@ -187,16 +185,16 @@ module _ (t : Table) (methods : MethodsValue (MethodEntry Code)) (code : Code) (
       } in
       room_sound t methods code w body (goes_on c next (Object (length w.objects.bodies) ∷ stack) rest) sound (get_within w.objects.bodies h _ is_home.there) is
       (λ f.
-          goes_sound t methods code c rest w sound context wait (instruction.SendSpecial 24) next s w1 c.frame (Object (length w.objects.bodies) ∷ stack)
-          (record {
-            follows = f;
-            frame = frame_stays t methods code w w1 f.onward c.frame c.method c.receiver context.of context.frame;
-            kind = refl;
-            known = All-cons (IsKnown t w1.objects) (Object (length w.objects.bodies)) stack (last_known t methods code w body) (values_stay t w w1 f.onward stack known);
-            goes = refl;
-            depth = omega (arith, left);
-            counts = λ n is. absurd is;
-          }))
+      goes_sound t methods code c rest w sound context wait (instruction.SendSpecial 24) next s w1 c.frame (Object (length w.objects.bodies) ∷ stack)
+      (record {
+        follows = f;
+        frame = frame_stays t methods code w w1 f.onward c.frame c.method c.receiver context.of context.frame;
+        kind = refl;
+        known = All-cons (IsKnown t w1.objects) (Object (length w.objects.bodies)) stack (last_known t methods code w body) (values_stay t w w1 f.onward stack known);
+        goes = refl;
+        depth = omega (arith, left);
+        counts = λ n is. absurd is;
+      }))
 
   copy_sound : (next : ℕ) → Stands context.of.bytes c.place (instruction.SendSpecial 24) next → Turns (copy_turn t methods code budget c next rest w c.stack)
   copy_sound next s =

@@ -1,17 +1,17 @@
 -- The changes of a world, each of which leaves a sound one that goes on from it.
-use Rattle.std.proofs.Common.{◌≡◌, ◌∙◌, ap, sym, subst, refl, ℕ, zero, suc, ◌+◌, ◌<◌, ◌≤◌, ◌⊎◌, inl, inr, List, [], ◌∷◌, ◌++◌, Option, Some, None, Bool, true, false, length, slice_get, slice_set, All, arith, true≢false, cond, if◌then◌else◌, length-append}
+use Rattle.std.proofs.Common.{◌≡◌, ◌∙◌, ap, sym, subst, ℕ, suc, ◌≤◌, ◌⊎◌, inl, inr, List, [], ◌∷◌, ◌++◌, Some, Bool, true, false, length, slice_get, slice_set, arith, if◌then◌else◌, length-append}
 use Rattle.s80_class.specs.Table.{Table}
 use Rattle.s80_code.specs.declared.code.Code.{Code}
 use Rattle.s80_dict.specs.Table.{MethodsValue}
 use Rattle.s80_dict.specs.declared.dict.MethodEntry.{MethodEntry}
 use Rattle.s80_object.specs.Body.{BodyTree}
-use Rattle.s80_object.specs.Objects.{State as Objects, Made, Opaque, with_body, with_body_at}
+use Rattle.s80_object.specs.Objects.{Made, Opaque, with_body, with_body_at}
 use Rattle.s80_object.specs.declared.value.Value.{Value}
 use Rattle.s80_object.specs.declared.value.Value.TheVariants.{Object}
 use Rattle.s80_prims.specs.Known.{AreKnown, BodyIsKnown, IsKnown}
-use Rattle.s80_verify.proofs.ListLemmas.{get_front, get_last, get_within, set_here, set_there, same_or_not}
-use Rattle.s80_machine.specs.World.{World, Key, Variable, same_key, same_variable, one_tick, numbered, changed, with_objects, with_variable, reached}
-use Rattle.s80_machine.specs.Sound.{IsMethod, IsSoundBody, IsSoundLiteral, IsSoundWorld}
+use Rattle.s80_verify.proofs.ListLemmas.{get_front, get_within, set_here, set_there, same_or_not}
+use Rattle.s80_machine.specs.World.{World, Key, Variable, same_key, same_variable, one_tick, numbered, with_objects, with_variable}
+use Rattle.s80_machine.specs.Sound.{IsSoundBody, IsSoundLiteral, IsSoundWorld}
 use Rattle.s80_machine.proofs.SoundLists.{set_either, get_either_last, once_front}
 use Rattle.s80_machine.proofs.SoundWorlds.{IsSameAs, same_self, Onward, onward_then, value_stays, known_stays, body_stays, literal_stays}
 use Rattle.s80_code.proofs.TableLemmas.{value}

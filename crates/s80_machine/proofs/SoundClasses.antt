@@ -1,16 +1,15 @@
 -- Classes by number, and what they inherit: a class above has no more variables.
-use Rattle.std.proofs.Common.{◌≡◌, ◌≢◌, ◌∙◌, ap, sym, subst, refl, ℕ, zero, suc, ◌+◌, ◌<◌, ◌≤◌, cond, List, [], ◌∷◌, ◌++◌, map, codes, drop, Option, Some, None, Bool, true, false, unwrap_or, All, length, arith, true≢false, slice_get, option_and_then}
+use Rattle.std.proofs.Common.{◌≡◌, ◌∙◌, ap, sym, subst, refl, ℕ, zero, suc, ◌≤◌, cond, List, [], ◌∷◌, map, codes, Option, Some, None, Bool, true, false, unwrap_or, All, length, arith, option_and_then}
 use Rattle.std.specs.FinMap as map_of
 use Rattle.std.specs.Option.{option_map}
-use Rattle.std.specs.List.{sum_by}
 use Rattle.std.specs.Str.{bytes_eq}
 use Rattle.std.specs.Cmp.Lexicographic.{bytes_decides}
-use Rattle.std.proofs.lemmas.List.Elements.{All-nil, All-cons, All-head, All-tail, All-append, All-map, All-drop, All-weaker}
+use Rattle.std.proofs.lemmas.List.Elements.{All-nil, All-cons, All-head, All-tail, All-append, All-map}
 use Rattle.std.proofs.lemmas.List.Sums.{sum_by-cons}
 use Rattle.s80_base.specs.declared.names.Side.{Side}
 use Rattle.s80_base.specs.declared.names.Side.TheVariants.{Instance, Class}
 use Rattle.s80_kernel.specs.Rows as rows
-use Rattle.s80_class.specs.Classes.{Name, ClassRow, Classes, IsLine, inherited_in, inherited_of, lineage}
+use Rattle.s80_class.specs.Classes.{Name, ClassRow, IsLine, inherited_in, inherited_of, lineage}
 use Rattle.s80_class.specs.Known.{IsKnown as IsKnownTable}
 use Rattle.s80_class.specs.Table.{Table, IsClass, IsNumberOf}
 use Rattle.s80_class.proofs.Lines.{lineage_line, not_eq}

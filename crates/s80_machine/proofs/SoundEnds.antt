@@ -1,6 +1,6 @@
 -- Turns that are sound: stops, answers, returns, and new activations.
-use Rattle.std.proofs.Common.{◌≡◌, ◌∙◌, ap, sym, subst, refl, ℕ, zero, suc, ◌+◌, ◌-◌, ◌<◌, ◌≤◌, ◌==◌, List, [], ◌∷◌, ◌++◌, Option, Some, None, Bool, true, false, length, slice_get, nat_le, nat_lt, replicate, All, arith, true≢false, cond, if◌then◌else◌, option_and_then, length-append}
-use Rattle.std.specs.Option.{IsSome, option_map, option_map_or}
+use Rattle.std.proofs.Common.{◌≡◌, ◌∙◌, ap, sym, subst, refl, ℕ, suc, ◌+◌, ◌-◌, ◌<◌, ◌≤◌, ◌==◌, List, [], ◌∷◌, ◌++◌, Option, Some, None, Bool, true, false, length, slice_get, nat_le, nat_lt, replicate, All, arith, if◌then◌else◌, option_and_then, length-append}
+use Rattle.std.specs.Option.{IsSome}
 use Rattle.std.proofs.lemmas.List.{length-replicate}
 use Rattle.std.proofs.lemmas.List.Elements.{All-nil, All-cons, All-head, All-tail, All-append, All-replicate}
 use Rattle.s80_class.specs.Table.{Table}
@@ -8,9 +8,9 @@ use Rattle.s80_code.specs.declared.code.Code.{Code}
 use Rattle.s80_dict.specs.Table.{MethodsValue}
 use Rattle.s80_dict.specs.declared.dict.MethodEntry.{MethodEntry}
 use Rattle.s80_object.specs.Body.{BodyTree, pointers, bytes, words, home as home_body, block as block_body, cost, word_limit, words_of}
-use Rattle.s80_object.specs.Objects.{State as Objects, body_at, home_parts_of, with_body}
+use Rattle.s80_object.specs.Objects.{State as Objects, home_parts_of, with_body}
 use Rattle.s80_object.specs.declared.value.Value.{Value}
-use Rattle.s80_object.specs.declared.value.Value.TheVariants.{Small, Character, Nil, True, False, Symbol, Number, ClassRef, Object, Context as ContextValue, Transcript, Smalltalk}
+use Rattle.s80_object.specs.declared.value.Value.TheVariants.{Nil, Object}
 use Rattle.s80_prims.specs.Known.{BodyIsKnown, IsKnown}
 use Rattle.s80_prims.specs.declared.stop.Stop.{Stop}
 use Rattle.s80_prims.specs.declared.stop.Stop.TheVariants.{BlockActive, Budget, CannotReturn, Deep, ObjectsFull}
@@ -18,12 +18,12 @@ use Rattle.s80_verify.specs.declared.stack.Stack.TheVariants.{OfHome, OfBlock}
 use Rattle.s80_verify.specs.Reach.{Reached}
 use Rattle.s80_verify.proofs.ListLemmas.{get_last}
 use Rattle.s80_machine.specs.World.{World, Key, Context, Frame, own, home, block, is_active, is_home, number_in, numbered, one_tick, receiver_variable, with_objects}
-use Rattle.s80_machine.specs.Turn.{Turn, State, Block, Goes, Ends, Stuck, block_at, block_in, block_with, deeper, deliver, depth_limit, goes_on, given, holds_block, if_takes, pushed_all, return_from, return_home, stops, ticked}
+use Rattle.s80_machine.specs.Turn.{Turn, Block, Goes, block_in, block_with, deeper, deliver, depth_limit, given, holds_block, if_takes, pushed_all, return_from, return_home, stops, ticked}
 use Rattle.s80_machine.specs.Step.{activated, at_home, block_activated, block_started, code_for, started, with_home, with_room, without_home}
-use Rattle.s80_machine.specs.Sound.{IsSetting, AreSound, IsBlockOf, IsFrameOf, IsHomeOf, IsMethod, IsSound, IsSoundBody, IsSoundContext, IsSoundTurn, IsSoundWorld, Suits, stack_kind, variables_for}
+use Rattle.s80_machine.specs.Sound.{IsBlockOf, IsFrameOf, IsHomeOf, IsMethod, IsSoundBody, IsSoundContext, IsSoundTurn, IsSoundWorld, Suits, stack_kind, variables_for}
 use Rattle.s80_machine.proofs.SoundLists.{numbered_there, same_number}
 use Rattle.s80_machine.proofs.SoundPlaces.{none_first}
-use Rattle.s80_machine.proofs.SoundWorlds.{contexts_stay, frame_stays, method_stays, value_stays, values_stay, variable_stays}
+use Rattle.s80_machine.proofs.SoundWorlds.{contexts_stay, method_stays, variable_stays}
 use Rattle.s80_machine.proofs.SoundChanges.{Follows, body_follows, numbered_follows, tick_follows}
 use Rattle.s80_code.proofs.TableLemmas.{value}
 
@@ -118,14 +118,14 @@ module _ (t : Table) (methods : MethodsValue (MethodEntry Code)) (code : Code) w
           (λ w1. Goes (record { contexts = record { method = number_in w key; receiver = r; frame = home (length w.objects.bodies); place = 0; stack = [] } ∷ below; world = w1 })) h
           (method.known, all) (of, method, count)
           (λ f.
-              let w1 : World = with_objects w (with_body w.objects (home_body (number_in w key) r temporaries)) in
-              record {
-                world = f.sound;
-                contexts = (
-                  begun w1 (number_in w key) r of (home (length w.objects.bodies)) refl (method_stays t methods code w w1 f.onward (number_in w key) r of method) f.sound (at_end f),
-                  wait_on w w1 f below wait,
-                );
-              })
+          let w1 : World = with_objects w (with_body w.objects (home_body (number_in w key) r temporaries)) in
+          record {
+            world = f.sound;
+            contexts = (
+              begun w1 (number_in w key) r of (home (length w.objects.bodies)) refl (method_stays t methods code w w1 f.onward (number_in w key) r of method) f.sound (at_end f),
+              wait_on w w1 f below wait,
+            );
+          })
       by_block false e = record { world = h; contexts = (begun w (number_in w key) r of (own temporaries) refl method h (count, (all, e)), wait) }
 
   pub activated_sound : (budget : ℕ) (key : Key) (of : Code) (r : Value) (arguments : List Value) (below : List Context) (w : World) → IsSoundWorld t methods code w → CanRun w key of r
@@ -211,8 +211,8 @@ module _ (t : Table) (methods : MethodsValue (MethodEntry Code)) (code : Code) w
   block_sound budget b arguments below w h takes all wait =
       ticked_sound budget w (λ w1. if is_active b.object below then stops BlockActive w1 else deeper below w1 (at_home t methods code budget b arguments below w1 b.home)) h
       (λ f.
-          let w1 : World = one_tick w in
-          if_sound (is_active b.object below) (stops BlockActive w1) (deeper below w1 (at_home t methods code budget b arguments below w1 b.home)) (stops_sound BlockActive w1 f.sound)
-          (deeper_sound below w1 (at_home t methods code budget b arguments below w1 b.home) f.sound
-          (home_started b arguments below w1 f.sound takes all (wait_on w w1 f below wait) budget b.home
-          (f.sound.bodies b.object (block_body b.home b.start b.arguments) takes.there) refl)))
+      let w1 : World = one_tick w in
+      if_sound (is_active b.object below) (stops BlockActive w1) (deeper below w1 (at_home t methods code budget b arguments below w1 b.home)) (stops_sound BlockActive w1 f.sound)
+      (deeper_sound below w1 (at_home t methods code budget b arguments below w1 b.home) f.sound
+      (home_started b arguments below w1 f.sound takes all (wait_on w w1 f below wait) budget b.home
+      (f.sound.bodies b.object (block_body b.home b.start b.arguments) takes.there) refl)))

@@ -1,5 +1,5 @@
 -- Fields and temporaries: each that is named is there, and is known.
-use Rattle.std.proofs.Common.{◌≡◌, ◌∙◌, ap, sym, subst, refl, ℕ, zero, suc, ◌+◌, ◌<◌, ◌≤◌, List, [], ◌∷◌, ◌++◌, Option, Some, None, Bool, true, false, length, slice_get, slice_set, nat_lt, All, Ok, Err, Result, arith, true≢false, cond, if◌then◌else◌, option_and_then}
+use Rattle.std.proofs.Common.{◌≡◌, ◌∙◌, ap, sym, subst, refl, ℕ, ◌<◌, List, Option, Some, None, true, length, slice_get, slice_set, nat_lt, All, Ok, Err, arith, true≢false, if◌then◌else◌, option_and_then}
 use Rattle.std.specs.Option.{IsSome, option_map, option_map_or}
 use Rattle.std.proofs.lemmas.Bool.Decides.{nat_tests}
 use Rattle.std.proofs.lemmas.List.{length-set}
@@ -14,13 +14,12 @@ use Rattle.s80_object.specs.Objects.{field_put, with_body_at}
 use Rattle.s80_object.specs.declared.value.ObjectFault.TheVariants.{Kind, Range}
 use Rattle.s80_object.specs.declared.value.Value.{Value}
 use Rattle.s80_object.specs.declared.value.Value.TheVariants.{Small, Character, Nil, True, False, Symbol, Number, ClassRef, Object, Context as ContextValue, Transcript, Smalltalk}
-use Rattle.s80_prims.specs.Known.{AreKnown, BodyIsKnown, IsKnown}
+use Rattle.s80_prims.specs.Known.{BodyIsKnown, IsKnown}
 use Rattle.s80_machine.specs.World.{World, Frame, own, home, block, class_side, field_read, field_set, in_frame, ok_of, receiver_variable, temporary, with_objects, with_receiver_variable, with_temporary, with_variable}
 use Rattle.s80_machine.specs.Sound.{IsFrameOf, IsHomeOf, IsSoundWorld, stack_kind}
 use Rattle.s80_machine.proofs.SoundLists.{got_there, all_got}
-use Rattle.s80_machine.proofs.SoundWorlds.{IsSameAs, HasField, some_place, place_below, Onward, frame_stays, home_stays, values_stay}
+use Rattle.s80_machine.proofs.SoundWorlds.{IsSameAs, HasField, some_place, place_below, frame_stays}
 use Rattle.s80_machine.proofs.SoundChanges.{Follows, put_follows, same_follows, variable_follows}
-use Rattle.s80_code.proofs.TableLemmas.{value}
 
 pub is_below : (i n : ℕ) → i < n → nat_lt i n ≡ true
 is_below i n h = grind (arith, nat_tests)

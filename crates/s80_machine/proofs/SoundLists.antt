@@ -1,5 +1,5 @@
 -- Lists with an element more, or with one set, and keys by their numbers.
-use Rattle.std.proofs.Common.{◌≡◌, ◌≢◌, ◌∙◌, ap, sym, subst, refl, ℕ, zero, suc, ◌+◌, ◌<◌, ◌≤◌, ◌⊎◌, inl, inr, ◌==◌, ◌&&◌, ◌||◌, not, cond, List, [], ◌∷◌, ◌++◌, Option, Some, None, Bool, true, false, length, slice_get, slice_set, All, arith, if◌then◌else◌, nat_lt, true≢false}
+use Rattle.std.proofs.Common.{◌≡◌, ◌∙◌, ap, sym, subst, refl, ℕ, zero, suc, ◌+◌, ◌<◌, ◌⊎◌, inl, inr, ◌==◌, ◌&&◌, ◌||◌, not, cond, List, [], ◌∷◌, ◌++◌, Some, Bool, true, false, length, slice_get, slice_set, All, arith, if◌then◌else◌, true≢false}
 use Rattle.std.specs.List.{list_any, position_or_len}
 use Rattle.std.specs.Str.{bytes_eq}
 use Rattle.std.specs.Cmp.Lexicographic.{bytes_decides}
@@ -10,7 +10,7 @@ use Rattle.s80_base.specs.declared.names.Side.TheVariants.{Instance, Class}
 use Rattle.s80_object.specs.Literal.{added_once}
 use Rattle.s80_prims.specs.Primitives.{same_side}
 use Rattle.s80_code.proofs.TableLemmas.{value}
-use Rattle.s80_verify.proofs.ListLemmas.{get_front, get_last, get_within, set_here, set_there, same_or_not, set_long}
+use Rattle.s80_verify.proofs.ListLemmas.{get_front}
 use Rattle.s80_machine.specs.World.{World, Key, doit, method, same_key, numbered, number_in}
 
 -- ---- what stands at a place

@@ -1,30 +1,29 @@
 -- A literal becomes a known value, in a sound world that goes on.
-use Rattle.std.proofs.Common.{◌≡◌, ◌∙◌, ap, sym, subst, refl, ℕ, zero, suc, ◌+◌, ◌<◌, ◌≤◌, ◌==◌, ◌&&◌, ◌||◌, not, ◌⊎◌, inl, inr, List, [], ◌∷◌, ◌++◌, codes, find, Option, Some, None, Bool, true, false, length, slice_get, All, arith, true≢false, cond, if◌then◌else◌, IfSome, length-append}
+use Rattle.std.proofs.Common.{◌≡◌, ◌∙◌, ap, sym, subst, refl, ℕ, suc, ◌+◌, ◌<◌, ◌≤◌, ◌==◌, ◌||◌, not, List, [], ◌∷◌, ◌++◌, codes, find, Option, Some, None, Bool, true, false, length, slice_get, All, arith, true≢false, cond, if◌then◌else◌, IfSome, length-append}
 use Rattle.std.specs.Option.{option_map}
 use Rattle.std.specs.List.{list_any, position_or_len}
 use Rattle.std.specs.Str.{bytes_eq}
 use Rattle.std.proofs.lemmas.List.Elements.{All-nil, All-cons}
 use Rattle.s80_base.specs.Literal.{LiteralTree, LiteralTrees, small, character, str, symbol, array, true_literal, false_literal, nil_literal, number as number_literal, no_literals, literals}
-use Rattle.s80_base.specs.declared.literal.NumberKind.{NumberKind}
 use Rattle.s80_kernel.specs.Rows as rows
 use Rattle.s80_class.specs.Table.{Table}
 use Rattle.s80_code.specs.declared.code.Code.{Code}
 use Rattle.s80_code.specs.Entries.{constant, entries_of}
 use Rattle.s80_dict.specs.Table.{MethodsValue}
 use Rattle.s80_dict.specs.declared.dict.MethodEntry.{MethodEntry}
-use Rattle.s80_object.specs.Body.{BodyTree, pointers, bytes}
-use Rattle.s80_object.specs.Literal.{Built, added_once, built, built_all, is_made_at, is_object, is_opaque, made_before, noted, with_first}
+use Rattle.s80_object.specs.Body.{pointers, bytes}
+use Rattle.s80_object.specs.Literal.{Built, added_once, built, built_all, is_made_at, is_object, is_opaque, made_before, noted}
 use Rattle.s80_object.specs.Objects.{State as Objects, Made, Opaque, with_body}
 use Rattle.s80_object.specs.declared.value.Value.{Value}
-use Rattle.s80_object.specs.declared.value.Value.TheVariants.{Small, Character, Nil, True, False, Symbol, Number, Object}
+use Rattle.s80_object.specs.declared.value.Value.TheVariants.{Small, Character, Nil, True, False, Object}
 use Rattle.s80_prims.specs.Known.{IsKnown}
-use Rattle.s80_machine.specs.World.{World, Key, with_objects}
+use Rattle.s80_machine.specs.World.{World, with_objects}
 use Rattle.s80_machine.specs.Lookup.{number}
 use Rattle.s80_machine.specs.Sound.{IsSetting, IsMethod, IsSoundLiteral, IsSoundWorld}
 use Rattle.s80_machine.specs.Step.{code_for}
 use Rattle.s80_machine.proofs.SoundLists.{both_true, same_number}
 use Rattle.s80_machine.proofs.SoundClasses.{kernel_number, kernel_plain}
-use Rattle.s80_machine.proofs.SoundWorlds.{values_stay, value_stays}
+use Rattle.s80_machine.proofs.SoundWorlds.{value_stays}
 use Rattle.s80_machine.proofs.SoundChanges.{Follows, body_follows, follows_then, last_known, literal_follows, same_follows, words_follow}
 use Rattle.s80_code.proofs.TableLemmas.{value}
 
@@ -88,7 +87,7 @@ module _ (t : Table) (methods : MethodsValue (MethodEntry Code)) (code : Code) (
   unfolding rows.is_kernel_class
   array_plain w values h known = record {
     follows = body_follows t methods code w (pointers arrays [] values) h
-    ((codes "Array", kernel_number t methods code setting (codes "Array") refl), (All-nil (IsKnown t w.objects), known)) (sym (kernel_plain t methods code setting (codes "Array") refl refl));
+        ((codes "Array", kernel_number t methods code setting (codes "Array") refl), (All-nil (IsKnown t w.objects), known)) (sym (kernel_plain t methods code setting (codes "Array") refl refl));
     known = last_known t methods code w (pointers arrays [] values);
   }
 

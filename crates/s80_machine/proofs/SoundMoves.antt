@@ -1,5 +1,5 @@
 -- The active context goes on: behind an instruction, and where it jumps.
-use Rattle.std.proofs.Common.{◌≡◌, ◌≢◌, ◌∙◌, ap, sym, subst, refl, ℕ, zero, suc, ◌+◌, ◌-◌, ◌<◌, ◌≤◌, ℤ, pos, ◌+ℤ◌, List, [], ◌∷◌, Option, Some, None, Bool, true, false, length, slice_get, All, arith}
+use Rattle.std.proofs.Common.{◌≡◌, ap, sym, subst, refl, ℕ, zero, suc, ◌+◌, ◌-◌, ◌≤◌, ℤ, List, [], ◌∷◌, Some, true, length, All, arith}
 use Rattle.std.proofs.lemmas.List.Elements.{All-head, All-tail, All-cons}
 use Rattle.s80_class.specs.Table.{Table}
 use Rattle.s80_code.specs.declared.code.Code.{Code}
@@ -10,8 +10,8 @@ use Rattle.s80_dict.specs.declared.dict.MethodEntry.{MethodEntry}
 use Rattle.s80_object.specs.declared.value.Value.{Value}
 use Rattle.s80_prims.specs.Known.{IsKnown}
 use Rattle.s80_verify.specs.declared.stack.Stack.{Stack}
-use Rattle.s80_verify.specs.Effect.{takes, leaves, goes_on as goes_behind, distance_of, Jumps}
-use Rattle.s80_verify.specs.Reach.{Counts, Begins, Reached}
+use Rattle.s80_verify.specs.Effect.{takes, leaves, goes_on as goes_behind, distance_of}
+use Rattle.s80_verify.specs.Reach.{Counts, Reached}
 use Rattle.s80_verify.proofs.LawLemmas.{FitsRun, fits_as, fits_there}
 use Rattle.s80_verify.proofs.JumpLemmas.{does_jump, jump_is}
 use Rattle.s80_machine.specs.World.{World, Context, Frame}
@@ -22,7 +22,6 @@ use Rattle.s80_machine.proofs.SoundPlaces.{counts_before, none_at_target, reach_
 use Rattle.s80_machine.proofs.SoundWorlds.{frame_stays, method_stays}
 use Rattle.s80_machine.proofs.SoundChanges.{Follows}
 use Rattle.s80_machine.proofs.SoundEnds.{AllWait, wait_on}
-use Rattle.s80_code.proofs.TableLemmas.{value}
 
 module _ (t : Table) (methods : MethodsValue (MethodEntry Code)) (code : Code) where
   -- ---- values off the stack

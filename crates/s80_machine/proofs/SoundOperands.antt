@@ -1,5 +1,5 @@
 -- Operands within their range, selectors of special messages, and one number of parameters for each selector.
-use Rattle.std.proofs.Common.{◌≡◌, ◌≢◌, ◌∙◌, ap, sym, subst, refl, ℕ, zero, suc, ◌+◌, ◌-◌, ◌<◌, ◌≤◌, ◌==◌, ◌&&◌, ◌⊎◌, inl, inr, cond, find, List, [], ◌∷◌, Option, Some, None, Bool, true, false, drop, get_or, slice_get, nat_le, arith, length, if◌then◌else◌}
+use Rattle.std.proofs.Common.{◌≡◌, ◌∙◌, ap, sym, subst, refl, ℕ, ◌-◌, ◌≤◌, ◌==◌, inl, inr, cond, find, List, [], ◌∷◌, Option, Some, None, Bool, true, false, drop, get_or, slice_get, nat_le, arith, if◌then◌else◌}
 use Rattle.std.specs.Option.{option_map_or}
 use Rattle.std.specs.List.{AllByRecursion}
 use Rattle.std.proofs.lemmas.Bool.Decides.{nat_tests}
@@ -7,12 +7,11 @@ use Rattle.s80_code.specs.declared.instruction.Instruction.{Instruction}
 use Rattle.s80_code.specs.declared.instruction.Instruction.TheVariants.{PushFixed, ReturnFixed, SendSpecial}
 use Rattle.s80_code.specs.Table.{Form, alone, with_one, with_two, Row, rows, has, row_of, formed, decoded, Stands}
 use Rattle.s80_code.proofs.TableLemmas.{value, by_row, holds_below, below_holds}
-use Rattle.s80_lex.specs.Spelling.{IsName, IsBinary}
 use Rattle.s80_verify.specs.Effect.{special_arguments}
-use Rattle.s80_verify.specs.Selector.{AreKeywords, IsSelectorOf, is_name, is_binary, keywords_of}
+use Rattle.s80_verify.specs.Selector.{IsSelectorOf, is_name, is_binary, keywords_of}
 use Rattle.s80_verify.proofs.SelectorLemmas.{name_is, binary_is, keywords_then, keywords_when, name_no_binary, name_is_none, binary_is_none, none_some}
 use Rattle.s80_machine.specs.Turn.{special_selectors}
-use Rattle.s80_machine.proofs.SoundLists.{both_true, same_number, got_there}
+use Rattle.s80_machine.proofs.SoundLists.{both_true, same_number}
 
 abbrev pub IsInRange : Instruction → Type 0
 IsInRange (PushFixed n) = n ≤ 7

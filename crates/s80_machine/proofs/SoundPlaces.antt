@@ -1,5 +1,5 @@
 -- Places of verified code: where a step leads, and where a 200 may stand.
-use Rattle.std.proofs.Common.{◌≡◌, ◌≢◌, ◌∙◌, ap, sym, subst, refl, ℕ, zero, suc, ◌+◌, ◌-◌, ◌<◌, ◌≤◌, ◌⊎◌, inl, inr, ◌==◌, ◌||◌, ℤ, pos, ◌+ℤ◌, ◌-ℤ◌, ◌*ℤ◌, List, [], ◌∷◌, Option, Some, None, Bool, true, false, length, drop, slice_get, arith, true≢false}
+use Rattle.std.proofs.Common.{◌≡◌, ◌∙◌, ap, sym, subst, refl, ℕ, zero, suc, ◌+◌, ◌-◌, ◌≤◌, inl, inr, ◌||◌, pos, ◌+ℤ◌, ◌-ℤ◌, ◌*ℤ◌, List, [], ◌∷◌, Some, Bool, true, false, length, drop, arith}
 use Rattle.std.specs.Option.{option_map_or}
 use Rattle.std.proofs.lemmas.List.{drop-drop}
 use Rattle.std.specs.List.{list_any}
@@ -9,9 +9,9 @@ use Rattle.s80_code.specs.declared.instruction.Instruction.TheVariants.{PushCont
 use Rattle.s80_code.specs.Table.{Stands, decoded, formed, with_one, row}
 use Rattle.s80_code.proofs.TableLemmas.{value, row_law}
 use Rattle.s80_verify.specs.declared.stack.Stack.{Stack}
-use Rattle.s80_verify.specs.declared.stack.Stack.TheVariants.{OfHome, OfBlock}
-use Rattle.s80_verify.specs.Effect.{takes, leaves, goes_on, distance_of, Jumps, Goes}
-use Rattle.s80_verify.specs.Reach.{IsPlaceAfter, IsPlace, IsInstruction, Counts, Begins, Continues, Leads, ReachedIn, Reached}
+use Rattle.s80_verify.specs.declared.stack.Stack.TheVariants.{OfBlock}
+use Rattle.s80_verify.specs.Effect.{takes, leaves, goes_on, Jumps, Goes}
+use Rattle.s80_verify.specs.Reach.{IsPlaceAfter, IsPlace, Counts, Begins, Leads, ReachedIn, Reached}
 use Rattle.s80_verify.specs.Record.{HasDepths}
 use Rattle.s80_verify.proofs.LawLemmas.{all_marked, fits_there, fits_as, marked_is_some}
 use Rattle.s80_verify.proofs.JumpLemmas.{same_place, jump_is, does_jump}

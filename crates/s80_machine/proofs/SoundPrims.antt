@@ -1,11 +1,11 @@
 -- A primitive leaves a sound world that goes on.
-use Rattle.std.proofs.Common.{◌≡◌, ◌∙◌, ap, sym, subst, refl, ℕ, zero, suc, ◌+◌, ◌<◌, ◌≤◌, ◌==◌, pos, List, [], ◌∷◌, ◌++◌, codes, find, map, Option, Some, None, Bool, true, false, length, slice_get, slice_set, nat_le, nat_lt, replicate, All, Ok, Err, Result, IfOk, arith, cond, if◌then◌else◌, option_and_then, unwrap_or}
+use Rattle.std.proofs.Common.{◌≡◌, ◌∙◌, ap, sym, subst, refl, ℕ, zero, suc, ◌+◌, ◌==◌, pos, List, [], ◌∷◌, ◌++◌, codes, find, Option, Some, None, Bool, true, false, length, slice_get, slice_set, nat_le, nat_lt, replicate, All, Ok, Err, Result, IfOk, arith, cond, if◌then◌else◌, option_and_then, unwrap_or}
 use Rattle.std.specs.Option.{option_map, option_map_or}
 use Rattle.std.specs.List.{AllByRecursion}
 use Rattle.std.specs.Str.{bytes_eq}
-use Rattle.std.proofs.lemmas.List.{length-set, length-replicate}
+use Rattle.std.proofs.lemmas.List.{length-replicate}
 use Rattle.std.proofs.lemmas.List.Elements.{All-head, All-tail, All-nil, All-replicate, All-set}
-use Rattle.s80_base.specs.declared.names.Side.TheVariants.{Instance, Class}
+use Rattle.s80_base.specs.declared.names.Side.TheVariants.{Instance}
 use Rattle.s80_change.specs.declared.definition.Kind.{Kind}
 use Rattle.s80_change.specs.declared.definition.Kind.TheVariants as kind
 use Rattle.s80_kernel.specs.Rows as rows
@@ -15,21 +15,20 @@ use Rattle.s80_code.specs.declared.code.Code.{Code}
 use Rattle.s80_dict.specs.Table.{MethodsValue}
 use Rattle.s80_dict.specs.declared.dict.MethodEntry.{MethodEntry}
 use Rattle.s80_object.specs.Body.{BodyTree, pointers, bytes, words, home as home_body, block as block_body, blank, bytes_of, cost, number_to, word_limit, words_of}
-use Rattle.s80_object.specs.Literal.{added_once, named}
-use Rattle.s80_object.specs.Objects.{State as Objects, body_at, item_put, placed, with_body, with_body_at}
+use Rattle.s80_object.specs.Literal.{added_once}
+use Rattle.s80_object.specs.Objects.{State as Objects, body_at, item_put, placed, with_body}
 use Rattle.s80_object.specs.declared.value.BodyKind.TheVariants as body
 use Rattle.s80_object.specs.declared.value.ObjectFault.{ObjectFault}
 use Rattle.s80_object.specs.declared.value.ObjectFault.TheVariants as fault
 use Rattle.s80_object.specs.declared.value.Value.{Value}
 use Rattle.s80_object.specs.declared.value.Value.TheVariants.{Small, Character, Nil, ClassRef, Object}
 use Rattle.s80_prims.specs.declared.stop.Stop.TheVariants.{Error, ObjectsFull, TranscriptFull}
-use Rattle.s80_prims.specs.Arithmetic.{arithmetic, ranged, truth}
-use Rattle.s80_prims.specs.Classes.{can_be_new, class_of, kind_of_class, number_of, variables_of}
+use Rattle.s80_prims.specs.Arithmetic.{arithmetic, ranged}
+use Rattle.s80_prims.specs.Classes.{can_be_new, kind_of_class, number_of, variables_of}
 use Rattle.s80_prims.specs.Known.{BodyIsKnown, IsKnown}
-use Rattle.s80_prims.specs.Primitives.{Alone, Effect, WithOne, WithTwo, at_place, character_of, done, fails, gives, makes, names, new_indexed, new_plain, new_with, number_of_character, of_class, primitive, prints, put_at, put_character_at, put_done, puts, puts_character, readable, readable_bytes, rows_alone, rows_with_one, rows_with_two, same, stops, string_of, text_bytes, transcript_limit, two_numbers, with_text, writes}
+use Rattle.s80_prims.specs.Primitives.{Alone, Effect, WithOne, WithTwo, at_place, character_of, done, fails, gives, makes, names, new_indexed, new_plain, new_with, number_of_character, of_class, primitive, prints, put_at, put_character_at, put_done, puts, puts_character, readable, readable_bytes, rows_alone, rows_with_one, rows_with_two, stops, string_of, text_bytes, transcript_limit, two_numbers, with_text, writes}
 use Rattle.s80_prims.specs.Printed.{printed}
-use Rattle.s80_machine.specs.World.{World, changed, reached, with_objects}
-use Rattle.s80_machine.specs.Lookup.{number}
+use Rattle.s80_machine.specs.World.{World, changed, reached}
 use Rattle.s80_machine.specs.Sound.{IsSetting, IsSoundBody, IsSoundWorld}
 use Rattle.s80_machine.proofs.SoundClasses.{kernel_number, kernel_plain}
 use Rattle.s80_machine.proofs.SoundWorlds.{IsSameAs}

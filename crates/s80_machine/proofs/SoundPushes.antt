@@ -1,5 +1,5 @@
 -- Pushes and stores.
-use Rattle.std.proofs.Common.{◌≡◌, ◌≢◌, ◌∙◌, ap, sym, subst, refl, ℕ, zero, suc, ◌+◌, ◌-◌, ◌<◌, ◌≤◌, ◌⊎◌, inl, inr, ℤ, pos, negsuc, List, [], ◌∷◌, Option, Some, None, IfSome, Bool, true, false, length, slice_get, nat_le, All, arith, cond, if◌then◌else◌, option_and_then, codes, true≢false}
+use Rattle.std.proofs.Common.{◌≡◌, ◌∙◌, ap, sym, subst, refl, ℕ, zero, suc, ◌+◌, ◌-◌, ◌≤◌, inl, inr, ℤ, pos, negsuc, List, ◌∷◌, Option, Some, None, IfSome, true, false, length, slice_get, nat_le, All, arith, option_and_then, codes, true≢false}
 use Rattle.std.specs.Option.{IsSome, option_map_or}
 use Rattle.std.proofs.lemmas.List.Elements.{All-cons, All-from_recursion}
 use Rattle.s80_base.specs.Literal.{LiteralTree, small}
@@ -9,7 +9,7 @@ use Rattle.s80_code.specs.declared.instruction.Instruction.{Instruction}
 use Rattle.s80_code.specs.declared.instruction.Instruction.TheVariants as instruction
 use Rattle.s80_code.specs.declared.instruction.Storage.{Storage}
 use Rattle.s80_code.specs.declared.instruction.Storage.TheVariants.{Receiver, Temporary, Constant, Variable}
-use Rattle.s80_code.specs.Entries.{EntryTree, constant, class_variable, outer, entries_of}
+use Rattle.s80_code.specs.Entries.{EntryTree, constant, entries_of}
 use Rattle.s80_code.specs.Table.{Stands}
 use Rattle.s80_dict.specs.Table.{MethodsValue}
 use Rattle.s80_dict.specs.declared.dict.MethodEntry.{MethodEntry}
@@ -21,7 +21,7 @@ use Rattle.s80_prims.specs.Known.{IsKnown}
 use Rattle.s80_prims.specs.declared.stop.Stop.TheVariants.{ObjectsFull}
 use Rattle.s80_verify.specs.Effect.{takes, leaves, goes_on as goes_behind}
 use Rattle.s80_verify.specs.Fault.{RunsAt}
-use Rattle.s80_verify.specs.Operands.{HasConstant, HasVariable, IsReadable, IsWritable}
+use Rattle.s80_verify.specs.Operands.{HasVariable, IsReadable, IsWritable}
 use Rattle.s80_verify.specs.Reach.{Counts}
 use Rattle.s80_machine.specs.World.{World, Context, Frame, Variable as VariableName, receiver_variable, temporary, variable_named, with_objects, with_receiver_variable, with_temporary, with_variable}
 use Rattle.s80_machine.specs.World as world
@@ -36,7 +36,7 @@ use Rattle.s80_machine.proofs.SoundChanges.{Follows, follows_then, same_follows,
 use Rattle.s80_machine.proofs.SoundFields.{IsThere, receiver_there, receiver_written, temporary_there, temporary_written}
 use Rattle.s80_machine.proofs.SoundLiterals.{WasMade, is_built, noted_follows, was_made}
 use Rattle.s80_machine.proofs.SoundEnds.{AllWait, if_sound, stops_sound}
-use Rattle.s80_machine.proofs.SoundMoves.{IsBehind, fits, goes_sound}
+use Rattle.s80_machine.proofs.SoundMoves.{goes_sound}
 use Rattle.s80_code.proofs.TableLemmas.{value}
 
 -- ---- fixed values

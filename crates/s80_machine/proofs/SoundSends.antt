@@ -1,10 +1,10 @@
 -- Messages: each method that is found may be activated with the receiver.
-use Rattle.std.proofs.Common.{◌≡◌, ◌∙◌, ap, sym, subst, refl, ℕ, zero, suc, ◌+◌, ◌-◌, ◌<◌, ◌≤◌, ◌==◌, List, [], ◌∷◌, ◌++◌, codes, drop, Option, Some, None, IfSome, Bool, true, false, length, slice_get, unwrap_or, All, arith, inl, cond, if◌then◌else◌, option_and_then}
+use Rattle.std.proofs.Common.{◌≡◌, ap, sym, subst, refl, ℕ, ◌<◌, ◌≤◌, ◌==◌, List, [], ◌∷◌, codes, Option, Some, None, IfSome, Bool, true, false, length, unwrap_or, All, arith, inl, if◌then◌else◌, option_and_then}
 use Rattle.std.specs.FinMap as map_of
 use Rattle.std.specs.Option.{IsSome, option_map, option_map_or}
 use Rattle.std.proofs.lemmas.List.Elements.{All-nil, All-drop}
 use Rattle.s80_base.specs.declared.names.Side.{Side}
-use Rattle.s80_base.specs.declared.names.Side.TheVariants.{Instance, Class}
+use Rattle.s80_base.specs.declared.names.Side.TheVariants.{Instance}
 use Rattle.s80_kernel.specs.Rows as rows
 use Rattle.s80_class.specs.Table.{Table}
 use Rattle.s80_code.specs.declared.code.Code.{Code}
@@ -12,7 +12,7 @@ use Rattle.s80_dict.specs.Table.{MethodsValue, methods_at}
 use Rattle.s80_dict.specs.declared.dict.MethodEntry.{MethodEntry}
 use Rattle.s80_object.specs.Objects.{text_of}
 use Rattle.s80_object.specs.declared.value.Value.{Value}
-use Rattle.s80_object.specs.declared.value.Value.TheVariants.{ClassRef, Symbol}
+use Rattle.s80_object.specs.declared.value.Value.TheVariants.{Symbol}
 use Rattle.s80_prims.specs.declared.applied.Applied.{Applied}
 use Rattle.s80_prims.specs.declared.applied.Applied.TheVariants.{Done, Fails, Stops}
 use Rattle.s80_prims.specs.declared.stop.Stop.TheVariants.{NotUnderstood}
@@ -24,16 +24,16 @@ use Rattle.s80_verify.specs.Selector.{IsSelectorOf, is_name}
 use Rattle.s80_verify.proofs.SelectorLemmas.{name_is}
 use Rattle.s80_machine.specs.World.{World, Key, doit, method, Context, changed, one_tick, reached, receiver_variable}
 use Rattle.s80_machine.specs.Lookup.{Found, Place, first_found, number, places_up}
-use Rattle.s80_machine.specs.Turn.{Turn, Block, Stuck, block_with, if_unary, stops, ticked, unary_in}
+use Rattle.s80_machine.specs.Turn.{Turn, Block, block_with, if_unary, unary_in}
 use Rattle.s80_machine.specs.Step.{activated, block_activated, by_effect, by_primitive, code_for, found_turn, looked_up, method_turn, not_understood, performed, places_above, places_for, places_of, sent}
 use Rattle.s80_machine.specs.Sound.{IsSetting, IsMethod, IsSoundTurn, IsSoundWorld, SuitsMethod, variables_for, variables_on}
-use Rattle.s80_machine.proofs.SoundClasses.{HasAtMost, IsFound, found_at, kernel_number, kernel_plain, places_within}
+use Rattle.s80_machine.proofs.SoundClasses.{HasAtMost, found_at, kernel_number, kernel_plain, places_within}
 use Rattle.s80_machine.proofs.SoundOperands.{one_selector}
-use Rattle.s80_machine.proofs.SoundWorlds.{Onward, value_stays, values_stay, variable_stays}
+use Rattle.s80_machine.proofs.SoundWorlds.{Onward, variable_stays}
 use Rattle.s80_machine.proofs.SoundChanges.{Follows}
 use Rattle.s80_machine.proofs.SoundValues.{has_class}
 use Rattle.s80_machine.proofs.SoundPrims.{primitive_good}
-use Rattle.s80_machine.proofs.SoundEnds.{AllWait, CanRun, Takes, activated_sound, block_sound, block_takes, deliver_sound, if_sound, stops_sound, ticked_sound, wait_on}
+use Rattle.s80_machine.proofs.SoundEnds.{AllWait, CanRun, activated_sound, block_sound, block_takes, deliver_sound, if_sound, stops_sound, ticked_sound, wait_on}
 use Rattle.s80_code.proofs.TableLemmas.{value}
 
 -- the receiver has the variables of all these places
@@ -78,7 +78,7 @@ module _ (t : Table) (methods : MethodsValue (MethodEntry Code)) (code : Code) (
           record {
             most = 0;
             within = All-drop (HasAtMost t 0) 1 (places_up t nil Instance)
-            (places_within t methods code setting nil Instance 0 (codes "UndefinedObject", kernel_number t methods code setting (codes "UndefinedObject") refl) few);
+                (places_within t methods code setting nil Instance 0 (codes "UndefinedObject", kernel_number t methods code setting (codes "UndefinedObject") refl) few);
             variables = variables;
           }
       by_key (method c side selector) is variables =
@@ -160,8 +160,8 @@ module _ (t : Table) (methods : MethodsValue (MethodEntry Code)) (code : Code) (
   looked_sound other places selector r arguments below w h fine known serves all takes wait =
       ticked_sound t methods code budget w (found_turn t methods code budget (first_found methods selector places) other selector r arguments below) h
       (λ f.
-          let w1 : World = one_tick w in
-          found_sound (first_found methods selector places) other places selector r arguments below w1 refl f.sound (fine f) known (serves_on t w w1 f.onward r places serves) all takes (wait_on t methods code w w1 f below wait))
+      let w1 : World = one_tick w in
+      found_sound (first_found methods selector places) other places selector r arguments below w1 refl f.sound (fine f) known (serves_on t w w1 f.onward r places serves) all takes (wait_on t methods code w w1 f below wait))
 
   -- ---- a message that a primitive sends
 

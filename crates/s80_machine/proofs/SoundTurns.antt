@@ -1,20 +1,18 @@
 -- A run begins soundly, and each step keeps that.
-use Rattle.std.proofs.Common.{◌≡◌, ◌≢◌, ◌∙◌, ap, sym, subst, refl, ℕ, zero, suc, ◌+◌, ◌-◌, ◌<◌, ◌≤◌, ℤ, pos, ◌+ℤ◌, List, [], ◌∷◌, Option, Some, None, Bool, true, false, codes, length, slice_get, All, arith, cond, if◌then◌else◌, option_and_then, drop}
+use Rattle.std.proofs.Common.{◌≡◌, ◌∙◌, ap, sym, subst, refl, ℕ, ◌+◌, ◌-◌, ◌≤◌, ℤ, List, [], ◌∷◌, Option, Some, None, Bool, true, false, codes, length, All, arith, if◌then◌else◌, option_and_then}
 use Rattle.std.specs.Int.{is_negative}
 use Rattle.std.specs.Str.{bytes_eq}
 use Rattle.std.proofs.lemmas.List.Elements.{All-cons, All-nil}
-use Rattle.s80_base.specs.declared.names.Side.TheVariants.{Instance}
 use Rattle.s80_class.specs.Table.{Table}
 use Rattle.s80_code.specs.declared.code.Code.{Code}
 use Rattle.s80_code.specs.declared.instruction.Instruction.{Instruction}
 use Rattle.s80_code.specs.declared.instruction.Instruction.TheVariants.{Push, Store, PopInto, PushFixed, ReturnFixed, ReturnTop, ReturnFromBlock, Send, SendSuper, SendSpecial, Pop, Duplicate, PushContext, Jump, JumpOnTrue, JumpOnFalse}
 use Rattle.s80_code.specs.declared.instruction.Storage.{Storage}
-use Rattle.s80_code.specs.declared.instruction.Storage.TheVariants.{Receiver, Temporary, Constant, Variable}
-use Rattle.s80_code.specs.Table.{Stands, decoded}
+use Rattle.s80_code.specs.Table.{Stands}
 use Rattle.s80_dict.specs.Table.{MethodsValue}
 use Rattle.s80_dict.specs.declared.dict.MethodEntry.{MethodEntry}
 use Rattle.s80_object.specs.declared.value.Value.{Value}
-use Rattle.s80_object.specs.declared.value.Value.TheVariants.{Small, Character, Nil, True, False, Symbol, Number, ClassRef, Object, Context as ContextValue, Transcript, Smalltalk}
+use Rattle.s80_object.specs.declared.value.Value.TheVariants.{Nil, True, False, Context as ContextValue, Transcript, Smalltalk}
 use Rattle.s80_prims.specs.Classes.{number_of}
 use Rattle.s80_prims.specs.Known.{IsKnown}
 use Rattle.s80_prims.specs.declared.stop.Stop.TheVariants.{NonBoolean}
@@ -22,8 +20,8 @@ use Rattle.s80_verify.specs.Effect.{takes, leaves, goes_on as goes_behind}
 use Rattle.s80_verify.specs.Reach.{Counts}
 use Rattle.s80_verify.proofs.LawLemmas.{fits_there}
 use Rattle.s80_machine.specs.World.{World, Context, one_tick, Variable as VariableName, class_variable, outer, class_side, doit, first_value, first_world, outer_value}
-use Rattle.s80_machine.specs.Turn.{Turn, State, decided, deliver, fixed, given, goes_on, popped, return_from, stops, ticked}
-use Rattle.s80_machine.specs.Step.{act, code_at, code_for, jump, jump_or_back, store, turn, turn_at, turn_in, turn_of}
+use Rattle.s80_machine.specs.Turn.{Turn, State, decided, deliver, fixed, given, goes_on, return_from, stops, ticked}
+use Rattle.s80_machine.specs.Step.{act, code_at, code_for, jump, store, turn, turn_at, turn_in, turn_of}
 use Rattle.s80_machine.specs.Run.{start}
 use Rattle.s80_machine.specs.Sound.{AreSound, IsSetting, IsSound, IsSoundContext, IsSoundTurn, IsSoundWorld, of_receiver, stack_kind}
 use Rattle.s80_machine.proofs.SoundLists.{all_got, got_there}
@@ -34,7 +32,7 @@ use Rattle.s80_machine.proofs.SoundChanges.{Follows, same_follows}
 use Rattle.s80_machine.proofs.SoundEnds.{AllWait, CanRun, activated_sound, deliver_sound, if_sound, return_sound, stops_sound, ticked_sound}
 use Rattle.s80_machine.proofs.SoundSends.{PrimitivesKeep}
 use Rattle.s80_machine.proofs.SoundMoves.{fits, goes_sound, jump_sound, popped_sound}
-use Rattle.s80_machine.proofs.SoundPushes.{IsPush, IsStore, all_fixed, fixed_sound, push_sound, pushes, store_sound}
+use Rattle.s80_machine.proofs.SoundPushes.{all_fixed, fixed_sound, push_sound, store_sound}
 use Rattle.s80_machine.proofs.SoundCalls.{send_sound, specials_sound, super_sound}
 
 module _ (t : Table) (methods : MethodsValue (MethodEntry Code)) (code : Code) (setting : IsSetting t methods code) (keeps : PrimitivesKeep t) (budget : ℕ) where
@@ -52,16 +50,16 @@ module _ (t : Table) (methods : MethodsValue (MethodEntry Code)) (code : Code) (
         let here = fits t methods code c rest w sound context wait (Store storage) next s in
         popped_sound t methods code w c.stack (λ v stack. store t methods code budget context.of c next rest w storage v (v ∷ stack)) (omega (arith, here.enough)) context.values
         (λ v stack left known all.
-            store_sound t methods code setting budget c rest w sound context wait (Store storage) storage next v (v ∷ stack) s known
-            (record { goes = refl; depth = omega (arith, left); counts = λ n is. is; names = λ k is. ap of_receiver is; writable = here.suits; known = All-cons (IsKnown t w.objects) v stack known all }))
+        store_sound t methods code setting budget c rest w sound context wait (Store storage) storage next v (v ∷ stack) s known
+        (record { goes = refl; depth = omega (arith, left); counts = λ n is. is; names = λ k is. ap of_receiver is; writable = here.suits; known = All-cons (IsKnown t w.objects) v stack known all }))
 
     pops_into : (storage : Storage) (next : ℕ) → Stands context.of.bytes c.place (PopInto storage) next → Turns (act t methods code budget context.of c next rest w (PopInto storage))
     pops_into storage next s =
         let here = fits t methods code c rest w sound context wait (PopInto storage) next s in
         popped_sound t methods code w c.stack (store t methods code budget context.of c next rest w storage) (omega (arith, here.enough)) context.values
         (λ v stack left known all.
-            store_sound t methods code setting budget c rest w sound context wait (PopInto storage) storage next v stack s known
-            (record { goes = refl; depth = omega (arith, left); counts = λ n is. is; names = λ k is. ap of_receiver is; writable = here.suits; known = all }))
+        store_sound t methods code setting budget c rest w sound context wait (PopInto storage) storage next v stack s known
+        (record { goes = refl; depth = omega (arith, left); counts = λ n is. is; names = λ k is. ap of_receiver is; writable = here.suits; known = all }))
 
     -- it goes on behind an instruction that changes the stack alone
     stays : (i : Instruction) (next : ℕ) → Stands context.of.bytes c.place i next → (stack : List Value) → All (IsKnown t w.objects) stack → goes_behind i ≡ true → length stack + 0 ≡ (length c.stack - takes i) + leaves i
@@ -79,7 +77,7 @@ module _ (t : Table) (methods : MethodsValue (MethodEntry Code)) (code : Code) (
     doubles next s =
         popped_sound t methods code w c.stack (λ v stack. goes_on c next (v ∷ v ∷ stack) rest w) (omega (arith, (fits t methods code c rest w sound context wait Duplicate next s).enough)) context.values
         (λ v stack left known all.
-            stays Duplicate next s (v ∷ v ∷ stack) (All-cons (IsKnown t w.objects) v (v ∷ stack) known (All-cons (IsKnown t w.objects) v stack known all)) refl (omega (arith, left)) (λ n is. is))
+        stays Duplicate next s (v ∷ v ∷ stack) (All-cons (IsKnown t w.objects) v (v ∷ stack) known (All-cons (IsKnown t w.objects) v stack known all)) refl (omega (arith, left)) (λ n is. is))
 
     -- ---- returns
 
@@ -119,18 +117,18 @@ module _ (t : Table) (methods : MethodsValue (MethodEntry Code)) (code : Code) (
         popped_sound t methods code w c.stack (λ v stack. decided v (jump t methods code budget distance c next stack rest w) (goes_on c next stack rest w) (stops NonBoolean w))
         (omega (arith, (fits t methods code c rest w sound context wait (JumpOnTrue distance) next s).enough)) context.values
         (λ v stack left known all.
-            decided_sound v (jump t methods code budget distance c next stack rest w) (goes_on c next stack rest w) (stops NonBoolean w)
-            (jump_sound t methods code c rest w sound context wait (JumpOnTrue distance) distance next s refl w stack budget same all (omega (arith, left)))
-            (stays (JumpOnTrue distance) next s stack all refl (omega (arith, left)) (λ n is. is)) (stops_sound t methods code NonBoolean w sound))
+        decided_sound v (jump t methods code budget distance c next stack rest w) (goes_on c next stack rest w) (stops NonBoolean w)
+        (jump_sound t methods code c rest w sound context wait (JumpOnTrue distance) distance next s refl w stack budget same all (omega (arith, left)))
+        (stays (JumpOnTrue distance) next s stack all refl (omega (arith, left)) (λ n is. is)) (stops_sound t methods code NonBoolean w sound))
 
     jumps_on_false : (distance : ℤ) (next : ℕ) → Stands context.of.bytes c.place (JumpOnFalse distance) next → Turns (act t methods code budget context.of c next rest w (JumpOnFalse distance))
     jumps_on_false distance next s =
         popped_sound t methods code w c.stack (λ v stack. decided v (goes_on c next stack rest w) (jump t methods code budget distance c next stack rest w) (stops NonBoolean w))
         (omega (arith, (fits t methods code c rest w sound context wait (JumpOnFalse distance) next s).enough)) context.values
         (λ v stack left known all.
-            decided_sound v (goes_on c next stack rest w) (jump t methods code budget distance c next stack rest w) (stops NonBoolean w)
-            (stays (JumpOnFalse distance) next s stack all refl (omega (arith, left)) (λ n is. is))
-            (jump_sound t methods code c rest w sound context wait (JumpOnFalse distance) distance next s refl w stack budget same all (omega (arith, left))) (stops_sound t methods code NonBoolean w sound))
+        decided_sound v (goes_on c next stack rest w) (jump t methods code budget distance c next stack rest w) (stops NonBoolean w)
+        (stays (JumpOnFalse distance) next s stack all refl (omega (arith, left)) (λ n is. is))
+        (jump_sound t methods code c rest w sound context wait (JumpOnFalse distance) distance next s refl w stack budget same all (omega (arith, left))) (stops_sound t methods code NonBoolean w sound))
 
     -- ---- each instruction
 

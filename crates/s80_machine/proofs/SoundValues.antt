@@ -1,5 +1,5 @@
 -- Each known value has a class with the variables that the class's methods name, and special messages answer known values.
-use Rattle.std.proofs.Common.{◌≡◌, ◌∙◌, ap, sym, subst, refl, ℕ, zero, suc, ◌+◌, ◌-◌, ◌<◌, ◌≤◌, ◌==◌, not, ◌&&◌, ◌^◌, ℤ, pos, negsuc, ◌+ℤ◌, ◌-ℤ◌, ◌*ℤ◌, neg_ℤ, List, [], ◌∷◌, codes, find, Option, Some, None, Bool, true, false, length, slice_get, get_or, arith, true≢false, cond, if◌then◌else◌, option_and_then, IfSome}
+use Rattle.std.proofs.Common.{◌≡◌, sym, subst, refl, ℕ, suc, ◌<◌, ◌==◌, not, ◌&&◌, ◌^◌, ℤ, pos, negsuc, ◌+ℤ◌, ◌-ℤ◌, ◌*ℤ◌, neg_ℤ, List, [], ◌∷◌, codes, find, Option, Some, None, Bool, true, false, slice_get, get_or, arith, cond, if◌then◌else◌, option_and_then, IfSome}
 use Rattle.std.specs.Option.{IsSome, option_map, option_map_or}
 use Rattle.std.specs.List.{AllByRecursion}
 use Rattle.std.specs.Int.{w32, int_bit_and, int_bit_or, int_bit_xor, int_shr}
@@ -19,7 +19,7 @@ use Rattle.s80_object.specs.Objects.{State as Objects, Opaque}
 use Rattle.s80_object.specs.declared.value.Value.{Value}
 use Rattle.s80_object.specs.declared.value.Value.TheVariants.{Small, Character, Nil, True, False, Symbol, Number, ClassRef, Object, Context as ContextValue, Transcript, Smalltalk}
 use Rattle.s80_prims.specs.Arithmetic.{Row, arithmetic, divided, exact, floor_quotient, floor_rest, is_less, is_zero, ranged, rows as number_rows, shifted, truth}
-use Rattle.s80_prims.specs.Classes.{body_class, class_of, kernel_class, number_class, variables_of}
+use Rattle.s80_prims.specs.Classes.{body_class, class_of, kernel_class, number_class}
 use Rattle.s80_prims.specs.Known.{BodyIsKnown, IsKnown}
 use Rattle.s80_prims.specs.Primitives.{same}
 use Rattle.s80_machine.specs.World.{World, receiver_variable}
@@ -29,7 +29,6 @@ use Rattle.s80_machine.specs.Sound.{IsSetting, IsSoundBody, IsSoundWorld, variab
 use Rattle.s80_machine.proofs.SoundLists.{got_there}
 use Rattle.s80_machine.proofs.SoundClasses.{kernel_number, kernel_plain}
 use Rattle.s80_machine.proofs.SoundWorlds.{HasField, some_place}
-use Rattle.s80_code.proofs.TableLemmas.{value}
 
 module _ (t : Table) (methods : MethodsValue (MethodEntry Code)) (code : Code) (setting : IsSetting t methods code) (w : World) (sound : IsSoundWorld t methods code w) where
   -- this is the class of a value, which has the variables that its methods name

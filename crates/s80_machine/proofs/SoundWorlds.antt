@@ -1,5 +1,5 @@
 -- What is known of a world holds on in one that goes on from it.
-use Rattle.std.proofs.Common.{◌≡◌, ◌∙◌, ap, sym, subst, refl, ℕ, zero, suc, ◌+◌, ◌<◌, ◌≤◌, ◌⊎◌, inl, inr, List, [], ◌∷◌, ◌++◌, Option, Some, None, Bool, true, false, length, slice_get, All, arith, true≢false, option_and_then}
+use Rattle.std.proofs.Common.{◌≡◌, ◌∙◌, ap, sym, subst, refl, ℕ, zero, suc, ◌<◌, ◌≤◌, List, [], ◌∷◌, Option, Some, None, length, slice_get, All, arith, true≢false, option_and_then}
 use Rattle.std.specs.Option.{IsSome}
 use Rattle.std.proofs.lemmas.List.Elements.{All-weaker}
 use Rattle.s80_base.specs.declared.names.Side.TheVariants.{Instance, Class}
@@ -8,15 +8,14 @@ use Rattle.s80_code.specs.declared.code.Code.{Code}
 use Rattle.s80_dict.specs.Table.{MethodsValue}
 use Rattle.s80_dict.specs.declared.dict.MethodEntry.{MethodEntry}
 use Rattle.s80_object.specs.Body.{BodyTree, pointers, bytes, words, home as home_body, block as block_body, fields_of}
-use Rattle.s80_object.specs.Objects.{State as Objects, Made}
+use Rattle.s80_object.specs.Objects.{Made}
 use Rattle.s80_object.specs.declared.value.Value.{Value}
 use Rattle.s80_object.specs.declared.value.Value.TheVariants.{Small, Character, Nil, True, False, Symbol, Number, ClassRef, Object, Context as ContextValue, Transcript, Smalltalk}
-use Rattle.s80_prims.specs.Known.{AreKnown, BodyIsKnown, IsKnown}
+use Rattle.s80_prims.specs.Known.{BodyIsKnown, IsKnown}
 use Rattle.s80_verify.proofs.ListLemmas.{get_within}
 use Rattle.s80_machine.specs.World.{World, Key, Context, Frame, own, home, block, receiver_variable}
-use Rattle.s80_machine.specs.Sound.{IsMethod, IsHomeOf, IsFrameOf, IsSoundContext, IsBlockOf, IsSoundBody, IsSoundLiteral, IsSoundWorld}
+use Rattle.s80_machine.specs.Sound.{IsMethod, IsHomeOf, IsFrameOf, IsSoundContext, IsBlockOf, IsSoundBody, IsSoundLiteral}
 use Rattle.s80_machine.proofs.SoundLists.{got_there}
-use Rattle.s80_code.proofs.TableLemmas.{value}
 
 -- ---- bodies that stand for others
 

@@ -1,14 +1,14 @@
 -- What a run of verified code keeps: each activation stands at a place that its code comes to, with as many values as that place has, and
 -- whatever is named is there.
-use Rattle.std.specs.Prelude.{◌≡◌, ◌≢◌, ℕ, pos, ◌+◌, ◌<◌, ◌≤◌, List, [], ◌∷◌, Bool, true, false, length, slice_get, codes, Option, Some, None, IsSome, All}
+use Rattle.std.specs.Prelude.{◌≡◌, ◌≢◌, ℕ, pos, ◌+◌, ◌<◌, List, [], ◌∷◌, true, false, length, slice_get, codes, Option, Some, None, IsSome, All}
 use Rattle.std.specs.FinMap as map_of
+use Rattle.s80_base.specs.Literal.{LiteralTree}
 use Rattle.s80_base.specs.declared.names.Side.{Side}
 use Rattle.s80_base.specs.declared.names.Side.TheVariants.{Instance, Class}
 use Rattle.s80_kernel.specs.Rows.{is_kernel_class}
 use Rattle.s80_class.specs.Classes.{Name, inherited_of, is_bits}
 use Rattle.s80_class.specs.Known.{IsKnown as IsKnownTable}
 use Rattle.s80_class.specs.Table.{Table, IsClass}
-use Rattle.s80_base.specs.Literal.{LiteralTree}
 use Rattle.s80_code.specs.Entries.{constant, entries_of}
 use Rattle.s80_code.specs.declared.code.Code.{Code}
 use Rattle.s80_code.specs.declared.instruction.Instruction.{Instruction}
