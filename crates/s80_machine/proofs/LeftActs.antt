@@ -134,7 +134,7 @@ module _ (t : Table) (methods : MethodsValue (MethodEntry Code)) (doit_code code
   by_super_turn k r arguments stack =
       by_given budget now (selector_at t methods doit_code budget code k) _
       (λ selector. by_given budget now (slice_get w.keys c.method) _
-      (λ key. by_send t methods doit_code budget now (places_above t methods doit_code budget key) selector r arguments (waiting c next stack ∷ rest) w pays few))
+      (λ key. by_send t methods doit_code budget now (places_above t methods doit_code budget key) selector c.receiver arguments (waiting c next stack ∷ rest) w pays few))
 
   -- ---- jumps
 
