@@ -1,0 +1,9 @@
+//! What no list of changes alters: laws of all states.
+#![tactic(auto)]
+
+mod laws;
+
+pub use laws::{
+    classes_of_bits_have_no_variables, classes_have_few_variables, kernel_classes_last,
+    kernel_classes_have_their_variables,
+};
