@@ -150,10 +150,10 @@ module _ (t : Table) (methods : MethodsValue (MethodEntry Code)) (doit_code : Co
   abbrev pub special_turn : ℕ → Context → ℕ → List Context → World → Value → List Value → List Value → Turn
   special_turn n c next rest w r arguments stack =
       option_map_or (λ v. goes_on c next (v ∷ stack) rest w)
-          (at_once t w.objects n r arguments)
-          (option_map_or (λ b. block_activated b arguments (waiting c next stack ∷ rest) w)
-              (if is_value n then block_with w.objects r (length arguments) else None)
-              (given (slice_get special_selectors n) (λ selector. sent (places_for w r) selector r arguments (waiting c next stack ∷ rest) w)))
+      (at_once t w.objects n r arguments)
+      (option_map_or (λ b. block_activated b arguments (waiting c next stack ∷ rest) w)
+      (if is_value n then block_with w.objects r (length arguments) else None)
+      (given (slice_get special_selectors n) (λ selector. sent (places_for w r) selector r arguments (waiting c next stack ∷ rest) w)))
 
   -- ---- real blocks
 
@@ -179,8 +179,8 @@ module _ (t : Table) (methods : MethodsValue (MethodEntry Code)) (doit_code : Co
   abbrev pub literal_pushed : Context → ℕ → List Context → World → ℕ → LiteralTree → Turn
   literal_pushed c next rest w k l =
       option_map_or (λ v. goes_on c next (v ∷ c.stack) rest w)
-          (made_before c.method k w.objects)
-          (first_pushed c next rest w k l (built (number t (codes "String")) (number t (codes "Array")) l w.objects))
+      (made_before c.method k w.objects)
+      (first_pushed c next rest w k l (built (number t (codes "String")) (number t (codes "Array")) l w.objects))
 
   abbrev pub push : Code → Context → ℕ → List Context → World → Storage → Turn
   push code c next rest w (Receiver i) = given (receiver_variable w c.receiver i) (λ v. goes_on c next (v ∷ c.stack) rest w)
@@ -222,7 +222,7 @@ module _ (t : Table) (methods : MethodsValue (MethodEntry Code)) (doit_code : Co
   abbrev pub super_turn : Code → Context → ℕ → List Context → World → ℕ → Value → List Value → List Value → Turn
   super_turn code c next rest w k r arguments stack =
       given (selector_at code k) (λ selector.
-          given (slice_get w.keys c.method) (λ key. sent (places_above key) selector c.receiver arguments (waiting c next stack ∷ rest) w))
+      given (slice_get w.keys c.method) (λ key. sent (places_above key) selector c.receiver arguments (waiting c next stack ∷ rest) w))
 
   -- ---- instructions
 
