@@ -1,5 +1,5 @@
 -- What an accepted definition meets, and what it leaves of the other classes.
-use Rattle.std.proofs.Common.{◌≡◌, ◌≤◌, ◌∙◌, ℕ, Bool, cond, true, false, nat_le, refl, sym, subst, List, [], ◌∷◌, length, Option, Some, None, map as list_map, arith}
+use Rattle.std.proofs.Common.{◌≡◌, ◌≤◌, ℕ, Bool, cond, true, false, nat_le, refl, subst, List, [], ◌∷◌, length, Some, None, map as list_map, arith}
 use Rattle.std.specs.FinMap as map
 use Rattle.std.proofs.lemmas.Bool.Decides.{nat_tests}
 use Rattle.s80_kernel.specs.Rows.{is_kernel_class}

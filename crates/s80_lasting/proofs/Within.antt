@@ -1,5 +1,5 @@
 -- The classes of each list keep within the limits, and those of bytes and words have no variables.
-use Rattle.std.proofs.Common.{◌≡◌, ◌≤◌, ℕ, Bool, cond, true, false, ap, List, Option, Some, None, arith}
+use Rattle.std.proofs.Common.{◌≡◌, ◌≤◌, ℕ, Bool, cond, true, false, List, Some, None, arith}
 use Rattle.std.specs.FinMap as map
 use Rattle.s80_block.specs.declared.change.Change.{Change}
 use Rattle.s80_change.specs.declared.definition.Definition.{Definition}
