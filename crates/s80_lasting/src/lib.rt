@@ -4,6 +4,6 @@
 mod laws;
 
 pub use laws::{
-    classes_of_bits_have_no_variables, classes_have_few_variables, kernel_classes_last,
-    kernel_classes_have_their_variables,
+    classes_have_few_variables, classes_of_bits_have_no_variables,
+    kernel_classes_have_their_variables, kernel_classes_last,
 };

@@ -1,0 +1,4 @@
+pub mod Lists
+pub mod Defined
+pub mod Kernel
+pub mod Within
