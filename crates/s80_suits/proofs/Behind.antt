@@ -5,8 +5,8 @@ use Rattle.s80_code.specs.declared.instruction.Instruction.{Instruction}
 use Rattle.s80_code.specs.declared.instruction.Instruction.TheVariants.{PushContext, SendSpecial, Jump}
 use Rattle.s80_code.specs.Table.{Stands}
 use Rattle.s80_verify.specs.declared.stack.Stack.{Stack}
-use Rattle.s80_verify.specs.Effect.{distance_of, Goes, Jumps}
-use Rattle.s80_verify.specs.Reach.{IsPlaceAfter, IsPlace, Begins, Continues, ReachedIn}
+use Rattle.s80_verify.specs.Effect.{distance_of, Goes}
+use Rattle.s80_verify.specs.Reach.{IsPlaceAfter, IsPlace, Begins, ReachedIn}
 use Rattle.s80_verify.specs.Fault.{RunsAt}
 use Rattle.s80_verify.specs.Record.{HasDepths}
 use Rattle.s80_verify.proofs.PlaceLemmas.{same_instruction, goes_forward, ends_within, place_behind}
@@ -54,6 +54,7 @@ module _ (code : Code) (h : HasDepths code) where
       let run = fits_as code at stack depth (fits_there code h at stack depth (n, reached)) i next s in
       let (other, jumps, there) = run.lands (is_some (distance_of i) distance is) in
       subst (λ (p : ℕ). IsPlace code.bytes p) (sym (one_target i next other to jumps (distance, is, lands))) there.0
+
   begins_at_place : (at arguments start : ℕ) → Begins code at arguments start → IsPlace code.bytes start
   begins_at_place at arguments start b =
       let push = place_behind code.bytes b.context PushContext b.push b.placed b.is_context in

@@ -1,5 +1,5 @@
 -- The core of a tree in which no reserved word is assigned names variables of its shape alone.
-use Rattle.std.proofs.Common.{◌≡◌, ℕ, suc, ◌+◌, ◌<◌, List, [], ◌∷◌, Bool, true, false, ◌||◌, cond, length, find, bytes_eq, codes, Option, Some, None, refl, true≢false}
+use Rattle.std.proofs.Common.{◌≡◌, ℕ, ◌+◌, ◌<◌, List, [], ◌∷◌, Bool, true, false, ◌||◌, cond, length, find, bytes_eq, codes, Option, Some, None, refl, true≢false}
 use Rattle.std.specs.List.{list_any}
 use Rattle.std.specs.Option.{option_map, option_map_or}
 use Rattle.s80_tree.specs.declared.name.NameAt.{NameAt}

@@ -2,7 +2,7 @@
 use Rattle.std.proofs.Common.{◌≡◌, ◌∙◌, ap, sym, subst, refl, ℕ, zero, suc, ◌<◌, ℤ, pos, List, Bool, true, false, Option, Some, None}
 use Rattle.s80_base.specs.Literal.{LiteralTree, small}
 use Rattle.s80_code.specs.declared.instruction.Instruction.{Instruction}
-use Rattle.s80_code.specs.declared.instruction.Instruction.TheVariants.{Push, PopInto, PushFixed, ReturnFixed, ReturnTop, ReturnFromBlock, SendSpecial, Pop, Duplicate, PushContext, Jump}
+use Rattle.s80_code.specs.declared.instruction.Instruction.TheVariants.{PopInto, PushFixed, ReturnFixed, ReturnTop, ReturnFromBlock, SendSpecial, Pop, Duplicate, PushContext, Jump}
 use Rattle.s80_code.specs.declared.instruction.Storage.{Storage}
 use Rattle.s80_code.specs.declared.instruction.Storage.TheVariants.{Temporary}
 use Rattle.s80_code.specs.Entries.{EntryTree}

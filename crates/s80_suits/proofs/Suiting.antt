@@ -4,7 +4,7 @@ use Rattle.std.proofs.lemmas.Bool.Decides.{nat_tests}
 use Rattle.s80_base.specs.declared.names.Side.{Side}
 use Rattle.s80_base.specs.declared.names.Side.TheVariants.{Instance, Class}
 use Rattle.s80_tree.specs.Tree.{MethodParts, DoItParts}
-use Rattle.s80_syntax.specs.Text.{IsMethodOf, IsDoItOf}
+use Rattle.s80_syntax.specs.Text.{IsDoItOf}
 use Rattle.s80_scope.specs.declared.fit.Fit.{Fit}
 use Rattle.s80_scope.specs.declared.fit.Fit.TheVariants as fits
 use Rattle.s80_scope.specs.declared.fit.FitKind.{FitKind}
