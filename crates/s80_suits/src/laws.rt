@@ -14,12 +14,16 @@ ghost use Rattle.s80_method.specs.Code.{IsMethodCode};
 ghost use Rattle.s80_method.specs.Shape.{shape_of};
 ghost use Rattle.s80_machine.specs.Sound.{Suits, SuitsMethod};
 
+use s80_method::shapes_have_as_many_variables;
+
 /// The code of a source that fits, as a method of a class of at most 64 variables on that side, suits the class and the selector.
 pub fn method_code_suits()
     ensures { (t : Table) (c : ℕ) (name : Name) (side : Side) (selector source : List ℕ) (code : Code)
         → IsNumberOf t.names c name → IsCheckOf source (Fits selector) → length (shape_of t.classes name side).inst_vars ≤ 64
         → IsMethodCode t.classes name side selector source code → SuitsMethod t c side selector code }
-{}
+{
+    shapes_have_as_many_variables();
+}
 
 /// The code of a doIt that fits names no variable of the receiver, and has neither arguments nor a primitive.
 pub fn doit_code_suits()

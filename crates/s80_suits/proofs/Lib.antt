@@ -1,0 +1,7 @@
+pub mod Fields
+pub mod Behind
+pub mod Naming
+pub mod Targets
+pub mod Meanings
+pub mod Patterns
+pub mod Suiting
