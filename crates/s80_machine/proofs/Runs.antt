@@ -1,12 +1,12 @@
 -- A run comes to one outcome.
-use Rattle.std.proofs.Common.{◌≡◌, ◌∙◌, ap, sym, refl, ℕ, zero, suc, Option, Some, None}
+use Rattle.std.proofs.Common.{◌≡◌, ◌∙◌, sym, ℕ, zero, suc, Some}
 use Rattle.s80_class.specs.Table.{Table}
 use Rattle.s80_code.specs.declared.code.Code.{Code}
 use Rattle.s80_code.proofs.TableLemmas.{value}
 use Rattle.s80_dict.specs.Table.{MethodsValue}
 use Rattle.s80_dict.specs.declared.dict.MethodEntry.{MethodEntry}
 use Rattle.s80_prims.specs.declared.stop.Outcome.{Outcome}
-use Rattle.s80_machine.specs.Turn.{State, Turn, Goes, Ends, Stuck}
+use Rattle.s80_machine.specs.Turn.{Turn, Goes, Ends, Stuck}
 use Rattle.s80_machine.specs.Step.{turn}
 use Rattle.s80_machine.specs.Run.{after, executed, RunsTo, start}
 

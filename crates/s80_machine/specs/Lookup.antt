@@ -1,7 +1,6 @@
 -- Where a message finds its method.
 use Rattle.std.specs.Prelude.{ℕ, List, [], ◌∷◌, ◌++◌, map, codes, Option, Some, None, unwrap_or}
 use Rattle.std.specs.FinMap as map_of
-use Rattle.std.specs.Option.{option_map_or}
 use Rattle.s80_base.specs.declared.names.Side.{Side}
 use Rattle.s80_base.specs.declared.names.Side.TheVariants.{Instance, Class}
 use Rattle.s80_class.specs.Classes.{Name, lineage}

@@ -1,10 +1,9 @@
 -- The step of the machine: what an instruction does, by the table of instructions.
-use Rattle.std.specs.Prelude.{ℕ, suc, ◌+◌, ◌-◌, ◌==◌, ℤ, pos, ◌+ℤ◌, List, [], ◌∷◌, ◌++◌, codes, drop, get_or, length, replicate, slice_get, nat_le, Option, Some, None, option_and_then, unwrap_or, if◌then◌else◌}
+use Rattle.std.specs.Prelude.{ℕ, ◌+◌, ◌-◌, ◌==◌, ℤ, pos, ◌+ℤ◌, List, [], ◌∷◌, ◌++◌, codes, drop, get_or, length, replicate, slice_get, nat_le, Option, Some, None, option_and_then, unwrap_or, if◌then◌else◌}
 use Rattle.std.specs.Int.{is_negative}
 use Rattle.std.specs.FinMap as map_of
 use Rattle.std.specs.Option.{option_map, option_map_or}
 use Rattle.s80_base.specs.Literal.{LiteralTree}
-use Rattle.s80_base.specs.declared.names.Side.{Side}
 use Rattle.s80_base.specs.declared.names.Side.TheVariants.{Instance}
 use Rattle.s80_class.specs.Table.{Table}
 use Rattle.s80_code.specs.declared.code.Code.{Code}
@@ -24,7 +23,7 @@ use Rattle.s80_object.specs.declared.value.Value.{Value}
 use Rattle.s80_object.specs.declared.value.Value.TheVariants.{Small, Nil, ClassRef, Object}
 use Rattle.s80_object.specs.declared.value.Value.TheVariants as value
 use Rattle.s80_prims.specs.Classes.{class_name, class_of}
-use Rattle.s80_prims.specs.Primitives.{Effect, primitive}
+use Rattle.s80_prims.specs.Primitives.{primitive}
 use Rattle.s80_prims.specs.declared.applied.Applied.{Applied}
 use Rattle.s80_prims.specs.declared.applied.Applied.TheVariants.{Done, Fails, Stops}
 use Rattle.s80_prims.specs.declared.stop.Stop.TheVariants.{NonBoolean, BlockActive, NotUnderstood, ObjectsFull}

@@ -1,10 +1,10 @@
 -- What a run reads and changes, and the activations that are alive.
-use Rattle.std.specs.Prelude.{ℕ, suc, List, [], ◌∷◌, ◌++◌, ◌==◌, ◌&&◌, Bool, true, false, length, slice_get, slice_set, nat_lt, codes, Option, Some, None, Result, Ok, Err, option_and_then, if◌then◌else◌}
-use Rattle.std.specs.Option.{option_map, option_map_or}
+use Rattle.std.specs.Prelude.{ℕ, suc, List, [], ◌==◌, ◌&&◌, Bool, true, false, length, slice_get, slice_set, nat_lt, codes, Option, Some, None, Result, Ok, Err, option_and_then, if◌then◌else◌}
+use Rattle.std.specs.Option.{option_map}
 use Rattle.std.specs.List.{list_any, position_or_len}
 use Rattle.std.specs.Str.{bytes_eq}
 use Rattle.s80_base.specs.declared.names.Side.{Side}
-use Rattle.s80_base.specs.declared.names.Side.TheVariants.{Instance, Class}
+use Rattle.s80_base.specs.declared.names.Side.TheVariants.{Instance}
 use Rattle.s80_class.specs.Table.{Table}
 use Rattle.s80_code.specs.Entries.{EntryTree}
 use Rattle.s80_code.specs.Entries as entry
@@ -15,7 +15,7 @@ use Rattle.s80_object.specs.declared.value.ObjectFault.{ObjectFault}
 use Rattle.s80_object.specs.declared.value.Value.{Value}
 use Rattle.s80_object.specs.declared.value.Value.TheVariants as value
 use Rattle.s80_prims.specs.Classes.{number_of}
-use Rattle.s80_prims.specs.Primitives.{World as Reached, Effect, same_side}
+use Rattle.s80_prims.specs.Primitives.{World as Reached, same_side}
 
 -- ---- methods and variables by name
 
