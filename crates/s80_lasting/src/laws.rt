@@ -13,7 +13,7 @@ pub fn kernel_classes_last()
         → map.get (classes_of changes) name ≡ Some row }
 {}
 
-/// Of the classes of the kernel Message alone has instance variables, and none has class-side variables.
+/// Message apart, no class of the kernel has instance variables; none has class-side variables.
 pub fn kernel_classes_have_their_variables()
     ensures instance { (changes : List Change) (name : Name) → is_kernel_class name ≡ true → name ≢ codes "Message"
         → (inherited_of (classes_of changes) name).inst_vars ≡ 0 }

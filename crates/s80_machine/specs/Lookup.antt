@@ -1,4 +1,4 @@
--- Where a message finds its method.
+-- Where a message finds its method (Blue Book, part four).
 use Rattle.std.specs.Prelude.{ℕ, List, [], ◌∷◌, ◌++◌, map, codes, Option, Some, None, unwrap_or}
 use Rattle.std.specs.FinMap as map_of
 use Rattle.s80_base.specs.declared.names.Side.{Side}

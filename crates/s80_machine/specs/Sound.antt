@@ -66,8 +66,8 @@ pub record SuitsMethod (t : Table) (c : ℕ) (side : Side) (selector : List ℕ)
   pub suits : Suits (variables_on t c side) code
   pub selector_is : IsSelectorOf code.arguments selector
 
--- The classes are those of a table, with a number each. The classes of the kernel are there; of them Message alone has variables. No class of
--- bytes or words has any. The code of each method is that of one of its class and selector, and the doIt's is that of a method without
+-- The classes are those of a table, with a number each. The classes of the kernel are there; Message apart, none of them has variables. No class
+-- of bytes or words has any. The code of each method is that of one of its class and selector, and the doIt's is that of a method without
 -- arguments of a class without variables.
 pub record IsSetting (t : Table) (methods : MethodsValue (MethodEntry Code)) (code : Code) : Type 0 where
   pub classes : IsKnownTable t

@@ -1,4 +1,4 @@
--- The step of the machine: what an instruction does, by the table of instructions.
+-- The step of the machine: what each instruction does (Blue Book, part four).
 use Rattle.std.specs.Prelude.{ℕ, ◌+◌, ◌-◌, ◌==◌, ℤ, pos, ◌+ℤ◌, List, [], ◌∷◌, ◌++◌, codes, drop, get_or, length, replicate, slice_get, nat_le, Option, Some, None, option_and_then, unwrap_or, if◌then◌else◌}
 use Rattle.std.specs.Int.{is_negative}
 use Rattle.std.specs.FinMap as map_of

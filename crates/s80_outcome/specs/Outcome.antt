@@ -25,12 +25,12 @@ abbrev pub end_text : Table → State → End → List ℕ
 end_text t s (Answer v) = codes "=> " ++ printed t s v
 end_text t s (Stopped stop) = stop_text stop
 
--- the last byte is that of a line feed, or there is none
+-- what a text wants behind it, whose last byte so far is this: nothing behind a line feed, and else one
 abbrev pub ended : ℕ → List ℕ → List ℕ
 ended last [] = if last == 10 then [] else 10 ∷ []
 ended last (b ∷ bytes) = ended b bytes
 
--- a line feed behind what doesn't end in one
+-- a line feed behind what doesn't end in one, and nothing behind no text
 abbrev pub line_end : List ℕ → List ℕ
 line_end text = ended 10 text
 
