@@ -9,11 +9,12 @@ mod instances;
 mod items;
 mod strings;
 
-use crate::applied::instances::{new_indexed, new_plain, same};
+pub use crate::applied::instances::same;
+use crate::applied::instances::{new_indexed, new_plain};
 use crate::applied::items::{character_at, item, put, put_character, size};
 use crate::applied::strings::{error, intern, print_string, write};
-use crate::arithmetic::{arithmetic, truth};
 use crate::classes::class_of;
+use crate::integers::{arithmetic, truth};
 use crate::stop::Stop;
 use s80_base::{OutOfMemory, Text};
 use s80_class::ClassTable;

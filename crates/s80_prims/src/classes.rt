@@ -18,11 +18,7 @@ use s80_object::{Objects, Value};
 use std::alloc::Global;
 
 /// The number of a class of the kernel.
-pub(crate) fn kernel_number(
-    alloc: Global,
-    classes: &ClassTable,
-    name: &[u8],
-) -> Result<u32, OutOfMemory>
+pub fn kernel_number(alloc: Global, classes: &ClassTable, name: &[u8]) -> Result<u32, OutOfMemory>
     requires kernel { HasKernel classes.now }
     requires name { is_kernel_class name.now ≡ true }
     ensures number { IfOk result (λ c. number_of classes.now.names name.now ≡ Some c) }

@@ -2,14 +2,16 @@
 #![tactic(auto)]
 
 mod applied;
-mod arithmetic;
 mod classes;
 mod front;
+mod integers;
 mod laws;
 mod print;
 mod stop;
 
-pub use applied::{Applied, apply};
+pub use applied::{Applied, apply, same};
+pub use classes::kernel_number;
+pub use integers::{arithmetic, truth};
 pub use laws::primitives_keep_known;
 pub use print::print_value;
 pub use stop::{End, Outcome, Stop};

@@ -136,7 +136,7 @@ pub(crate) fn made(object: Result<Value, ObjectFault>) -> Result<Applied, OutOfM
 }
 
 /// Whether two values are one.
-pub(crate) fn same(a: Value, b: Value) -> bool
+pub fn same(a: Value, b: Value) -> bool
     ensures { result ≡ same a b }
 {
     a == b

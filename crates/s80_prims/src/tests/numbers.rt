@@ -1,5 +1,5 @@
 // The primitives of two SmallIntegers.
-use crate::arithmetic::arithmetic;
+use crate::integers::arithmetic;
 use s80_object::Value;
 use std::process::Abort;
 

@@ -1,6 +1,6 @@
 use Rattle.std.proofs.Common.{◌∙◌}
 use Rattle.s80_prims.proofs.ArithmeticLemmas.{exact_of}
-use Rattle.s80_prims.proofs.arithmetic.exact.Goals as goal
+use Rattle.s80_prims.proofs.integers.exact.Goals as goal
 
 pub returns : goal.returns
 returns c =

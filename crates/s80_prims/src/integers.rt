@@ -5,7 +5,7 @@ ghost use Rattle.s80_prims.specs.Arithmetic.{arithmetic, divided, exact, floor_q
 use s80_object::Value;
 
 /// The answer of a primitive of this number for two SmallIntegers, where it has one.
-pub(crate) fn arithmetic(n: u8, a: i32, b: i32) -> Option<Value>
+pub fn arithmetic(n: u8, a: i32, b: i32) -> Option<Value>
     ensures { result ≡ arithmetic n a b }
 {
     match n {
@@ -29,7 +29,7 @@ pub(crate) fn arithmetic(n: u8, a: i32, b: i32) -> Option<Value>
     }
 }
 
-pub(crate) fn truth(is: bool) -> Value
+pub fn truth(is: bool) -> Value
     ensures { result ≡ truth is }
 {
     if is { Value::True } else { Value::False }

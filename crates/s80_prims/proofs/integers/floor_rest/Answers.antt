@@ -1,5 +1,5 @@
 use Rattle.s80_prims.proofs.ArithmeticLemmas.{rest_of}
-use Rattle.s80_prims.proofs.arithmetic.floor_rest.Goals as goal
+use Rattle.s80_prims.proofs.integers.floor_rest.Goals as goal
 
 pub returns : goal.returns
 returns c =

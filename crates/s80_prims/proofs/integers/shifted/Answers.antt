@@ -1,6 +1,6 @@
 use Rattle.std.proofs.Common.{◌∙◌}
 use Rattle.s80_prims.proofs.ArithmeticLemmas.{far_of, left_fits, left_of, right_of}
-use Rattle.s80_prims.proofs.arithmetic.shifted.Goals as goal
+use Rattle.s80_prims.proofs.integers.shifted.Goals as goal
 
 pub returns-then-by-lt0 : goal.returns-then-by-lt0
 returns-then-by-lt0 c =

@@ -1,7 +1,7 @@
 use Rattle.std.proofs.Common.{ap, ◌∙◌}
 use Rattle.s80_prims.specs.Arithmetic.{ranged}
 use Rattle.s80_prims.proofs.ArithmeticLemmas.{product_of}
-use Rattle.s80_prims.proofs.arithmetic.arithmetic.Goals as goal
+use Rattle.s80_prims.proofs.integers.arithmetic.Goals as goal
 
 pub returns-in-9 : goal.returns-in-9
 returns-in-9 c =

@@ -1,0 +1,9 @@
+mod Told
+mod Fronts
+mod Scan
+mod Marks
+mod Exprs
+mod Methods
+mod Lawful
+mod Sizes
+mod Sources
