@@ -5,3 +5,8 @@ pub mod Step
 pub mod Run
 pub mod Sound
 pub mod Measure
+pub mod Seen
+pub mod Came
+pub mod Acts
+pub mod Messages
+pub mod Worked

@@ -1,0 +1,8 @@
+use Rattle.s80_machine.specs.Seen.{moved}
+use Rattle.s80_machine.proofs.SeenContexts.{active_does}
+use Rattle.s80_machine.proofs.contexts.Contexts.move_to.Goals as goal
+
+pub returns : goal.returns
+returns c =
+    active_does (λ done. done) (moved c.args.place) c.self.inside.contexts.items c.args.self.now c.self.view_is c.in-Some.active.now c.move_to.new.self c.move_to.result
+    _ c.self.inside.contexts.ok.0 c.in-Some.ensures.item.3.0 c.in-Some.ensures.value c.move_to.ensures

@@ -1,0 +1,70 @@
+-- What messages rest on, and the parts of what they come to.
+use Rattle.std.specs.Prelude.{◌≡◌, ℕ, ◌≤◌, List, [], ◌∷◌, length, codes, All, Option, Some, None}
+use Rattle.s80_base.specs.declared.names.Side.TheVariants.{Instance}
+use Rattle.s80_class.specs.Table.{Table}
+use Rattle.s80_code.specs.declared.code.Code.{Code}
+use Rattle.s80_dict.specs.declared.dict.MethodEntry.{MethodEntry}
+use Rattle.s80_object.specs.Objects.{State as Objects}
+use Rattle.s80_object.specs.declared.value.Value.{Value}
+use Rattle.s80_prims.specs.Classes.{class_of}
+use Rattle.s80_prims.specs.Known.{AreKnown, IsKnown}
+use Rattle.s80_machine.specs.declared.machine.Machine.{Machine}
+use Rattle.s80_machine.specs.World.{World, Key, doit, method, Context}
+use Rattle.s80_machine.specs.Lookup.{Found, Place, first_found, number}
+use Rattle.s80_machine.specs.Turn.{Turn}
+use Rattle.s80_machine.specs.Step.{activated, by_primitive, code_for, found_turn, looked_up, method_turn, not_understood, performed, places_of}
+use Rattle.s80_machine.specs.Seen.{Given}
+
+-- the receiver and the arguments of a message are known, and so is all that objects hold
+pub record IsKnownMessage (t : Table) (s : Objects) (r : Value) (vs : List Value) : Type 0 where
+  pub objects : AreKnown t s
+  pub receiver : IsKnown t s r
+  pub arguments : All (IsKnown t s) vs
+
+-- the receiver of the active context is known
+abbrev pub ReceiverIsKnown : Table → Machine → Type 0
+ReceiverIsKnown t m = (c : Context) (rest : List Context) → m.contexts ≡ c ∷ rest → IsKnown t m.objects c.receiver
+
+-- this is a method's code, which has room for these arguments
+pub record Takes (on : Given) (key : Key) (code : Code) (arguments : List Value) : Type 0 where
+  pub code_is : code_for on.methods on.code key ≡ Some code
+  pub few : length arguments ≤ code.temporaries
+
+-- where a method stands; a doIt is one of nil's class
+abbrev pub own_place : Table → Key → Place
+own_place t doit = (number t (codes "UndefinedObject"), Instance)
+own_place t (method c side selector) = (c, side)
+
+-- ---- of what is given
+
+abbrev pub places_in : Given → Objects → Value → List Place
+places_in on s r = places_of on.table on.methods on.code on.budget (class_of on.table s r)
+
+abbrev pub finds : Given → List ℕ → List Place → Option (Found (MethodEntry Code))
+finds on selector places = first_found on.methods selector places
+
+-- the method that is found, which may send a message by its primitive
+abbrev pub runs : Given → (World → Option Turn) → List Place → List ℕ → Value → List Value → List Context → World → Turn
+runs on sent places selector = found_turn on.table on.methods on.code on.budget (finds on selector places) sent selector
+
+abbrev pub performs : Given → Value → List Value → List Context → World → Option Turn
+performs on = performed on.table on.methods on.code on.budget
+
+-- a message of a primitive, whose method's primitive sends none
+abbrev pub sends_one : Given → List Place → List ℕ → Value → List Context → World → Turn
+sends_one on places selector r below = looked_up on.table on.methods on.code on.budget (λ w. None) places selector r [] below
+
+-- a method that sends no message by its primitive
+abbrev pub runs_method : Given → Key → Code → Value → List Value → List Context → World → Turn
+runs_method on = method_turn on.table on.methods on.code on.budget None
+
+abbrev pub activates : Given → Key → Code → Value → List Value → List Context → World → Turn
+activates on = activated on.table on.methods on.code on.budget
+
+-- the primitive, or where it fails the body
+abbrev pub runs_primitive : Given → Key → Code → Value → List Value → List Context → World → Turn
+runs_primitive on key code r arguments below w =
+    by_primitive on.table on.methods on.code on.budget code.primitive r arguments (activates on key code r arguments below w) below w
+
+abbrev pub refuses : Given → Value → List ℕ → World → Turn
+refuses on = not_understood on.table on.methods on.code on.budget

@@ -1,0 +1,168 @@
+// Activations.
+ghost use Rattle.std.specs.Prelude.{◌≡◌};
+ghost use Rattle.s80_machine.specs.World.{home_in, is_frame_of_block, is_home, is_home_frame};
+ghost use Rattle.s80_machine.specs.Seen.{DoesIn, IsOwnSet, IsTemporarySet, frame_of, message_taken, moved, popped, pushed, temporary_set, topped};
+
+use crate::halt::Halt;
+use s80_object::Value;
+use std::alloc::Global;
+use std::marker::Model;
+
+/// Where an activation has its temporaries.
+#[derive(Debug, Drop)]
+pub(crate) enum Frame {
+    /// It keeps them itself.
+    Own(Vec<Value>),
+    /// In its home, the object of this number.
+    Home(u32),
+    /// In the home of its block: the objects of the block and of the home.
+    Block { block: u32, home: u32 },
+}
+
+impl Frame {
+    /// The home's object, where it is one.
+    pub(crate) fn home(&self) -> Option<u32>
+        ensures { result ≡ home_in (frame_of self.now) }
+    {
+        match self {
+            Frame::Own(_) => None,
+            Frame::Home(home) => Some(*home),
+            Frame::Block { home, .. } => Some(*home),
+        }
+    }
+
+    /// Whether it is the activation of the method that has this home.
+    fn is_home(&self, number: u32) -> bool
+        ensures { result ≡ is_home_frame number (frame_of self.now) }
+    {
+        match self {
+            Frame::Home(home) => number == *home,
+            _ => false,
+        }
+    }
+
+    fn is_of_block(&self, number: u32) -> bool
+        ensures { result ≡ is_frame_of_block number (frame_of self.now) }
+    {
+        match self {
+            Frame::Block { block, .. } => number == *block,
+            _ => false,
+        }
+    }
+
+    fn set_temporary(&mut self, i: u8, value: Value) -> Result<(), Halt>
+        ensures { IsTemporarySet (frame_of self.old) i value (frame_of self.new) result }
+    {
+        match self {
+            Frame::Own(temporaries) => set(temporaries, usize::from(i), value),
+            _ => Err(Halt::Stuck),
+        }
+    }
+}
+
+fn set(temporaries: &mut Vec<Value>, i: usize, value: Value) -> Result<(), Halt>
+    ensures { IsOwnSet temporaries.old.items i value temporaries.new.items result }
+{
+    match temporaries.get_mut(i) {
+        Some(temporary) => {
+            *temporary = value;
+            Ok(())
+        }
+        None => Err(Halt::Stuck),
+    }
+}
+
+/// The activation of a method or of a block. Contracts see its stack with the top first.
+#[derive(Debug, Drop)]
+pub(crate) struct Context {
+    pub method: u32,
+    pub receiver: Value,
+    pub frame: Frame,
+    /// The place of the next instruction.
+    pub place: u32,
+    /// The last is on top.
+    pub stack: Vec<Value>,
+}
+
+impl Model for Context {
+    ghost use Rattle.std.specs.Prelude.{reverse};
+    ghost use Rattle.s80_machine.specs.Seen.{frame_of};
+    ghost use Rattle.s80_machine.specs.World.{Context as Activation};
+
+    ghost Value = { Activation };
+
+    ghost view = { λ c. record { method = c.method; receiver = c.receiver; frame = frame_of c.frame; place = c.place; stack = reverse c.stack.items } };
+}
+
+impl Context {
+    /// Whether it is the activation of the method that has this home.
+    pub(crate) fn is_home(&self, number: u32) -> bool
+        ensures { result ≡ is_home number self.now }
+    {
+        self.frame.is_home(number)
+    }
+
+    pub(crate) fn is_of_block(&self, number: u32) -> bool
+        ensures { result ≡ is_frame_of_block number self.now.frame }
+    {
+        self.frame.is_of_block(number)
+    }
+
+    pub(crate) fn push(&mut self, value: Value) -> Result<(), Halt>
+        ensures { DoesIn (λ done. done) (pushed value self.old) self.new result }
+    {
+        self.stack.push(value)?;
+        Ok(())
+    }
+
+    pub(crate) fn pop(&mut self) -> Result<Value, Halt>
+        ensures { DoesIn (λ v. v) (popped self.old) self.new result }
+    {
+        match self.stack.pop() {
+            Some(value) => Ok(value),
+            None => Err(Halt::Stuck),
+        }
+    }
+
+    /// The top of the stack, which stays.
+    pub(crate) fn top(&self) -> Result<Value, Halt>
+        ensures { DoesIn (λ v. v) (topped self.now) self.now result }
+    {
+        match self.stack.last() {
+            Some(value) => Ok(*value),
+            None => Err(Halt::Stuck),
+        }
+    }
+
+    /// Takes so many arguments off the stack, of which the last is on top, and the receiver below them.
+    pub(crate) fn take_message(
+        &mut self,
+        alloc: Global,
+        count: u8,
+    ) -> Result<(Value, Vec<Value>), Halt>
+        ensures { DoesIn (λ p. (p.0, p.1.items)) (message_taken count self.old) self.new result }
+    {
+        let Some(below) = self.stack.len().checked_sub(usize::from(count) + 1) else {
+            return Err(Halt::Stuck);
+        };
+        let receiver = self.stack[below];
+        let arguments = self.stack[below + 1..].to_vec(alloc)?;
+        self.stack.truncate(below);
+        Ok((receiver, arguments))
+    }
+
+    /// Goes on at this place.
+    pub(crate) fn move_to(&mut self, place: u32) -> Result<(), Halt>
+        ensures { DoesIn (λ done. done) (moved place self.old) self.new result }
+    {
+        self.place = place;
+        Ok(())
+    }
+
+    /// Sets a temporary that it keeps itself.
+    pub(crate) fn set_temporary(&mut self, i: u8, value: Value) -> Result<(), Halt>
+        ensures { DoesIn (λ done. done) (temporary_set i value self.old) self.new result }
+    {
+        self.frame.set_temporary(i, value)
+    }
+}

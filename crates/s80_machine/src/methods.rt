@@ -1,0 +1,159 @@
+// The methods that were activated.
+ghost use Rattle.std.specs.Prelude.{◌≡◌, ◌<◌, ◌^◌, [], IfOk, None, MatchOption, length, slice_get};
+ghost use Rattle.s80_machine.specs.World.{doit, method};
+ghost use Rattle.s80_machine.specs.Turn.{begins_block, holds_block};
+ghost use Rattle.s80_machine.specs.Seen.{IsActivated, Numbers, key_bytes, key_in, place_in, side_byte};
+
+use indexmap::IndexSet;
+use s80_base::{OutOfMemory, Side, Text};
+use s80_code::{Code, Instruction, decode};
+use s80_verify::Verified;
+use std::alloc::Global;
+use std::marker::Model;
+
+/// A method that was activated, by the class and side that have it; a doIt has none.
+#[derive(Clone, Copy, Debug)]
+pub(crate) struct Activated<'a> {
+    pub place: Option<(u32, Side)>,
+    pub code: &'a Code,
+    /// Whether its code holds a real block.
+    pub holds_block: bool,
+}
+
+/// The methods by their numbers, in order of first activation. Contracts see where each stands, with its code.
+#[derive(Debug, Drop)]
+pub(crate) struct Methods<'a> {
+    // Of a doIt empty; else its class and side in five bytes, and the selector.
+    keys: IndexSet<Vec<u8>>,
+    activated: Vec<Activated<'a>>,
+}
+
+impl<'a> Model for Methods<'a> {
+    ghost use Rattle.std.specs.Prelude.{List, map as list_map};
+    ghost use Rattle.s80_machine.specs.Seen.{AreActivated, Method, methods_of};
+    ghost use Rattle.s80_base.specs.contracts.literal.Literal as literal;
+    ghost use Rattle.std.specs.Coded.{codes};
+
+    ghost Value = { List Method };
+
+    ghost coded = { Prim.hlevel (codes, literal.the_row.coded) };
+
+    ghost view = { λ m. methods_of (list_map (λ k. k.items) m.keys.keys) m.activated.items };
+
+    ghost invariant = { λ m. AreActivated (list_map (λ k. k.items) m.keys.keys) m.activated.items };
+}
+
+impl<'a> Methods<'a> {
+    pub(crate) fn none(alloc: Global) -> Self
+        ensures { result ≡ [] }
+    {
+        Methods {
+            keys: IndexSet::new(alloc),
+            activated: Vec::new(alloc),
+        }
+    }
+
+    pub(crate) fn get(&self, number: u32) -> Option<Activated<'a>>
+        ensures { MatchOption result (slice_get self.now number ≡ None) (IsActivated (slice_get self.now number)) }
+    {
+        self.activated.get(number as usize).copied()
+    }
+
+    /// The number of the doIt, which is added where it isn't there.
+    pub(crate) fn number_of_doit(
+        &mut self,
+        alloc: Global,
+        code: &'a Verified,
+    ) -> Result<u32, OutOfMemory>
+        ensures { IfOk result (Numbers doit code.now self.old self.new) }
+    {
+        let key = Vec::new(alloc);
+        self.number_of_key(key, None, code)
+    }
+
+    /// The number of a method, which is added where it isn't there.
+    pub(crate) fn number(
+        &mut self,
+        alloc: Global,
+        class: u32,
+        side: Side,
+        selector: &Text,
+        code: &'a Verified,
+    ) -> Result<u32, OutOfMemory>
+        ensures { IfOk result (Numbers (method class side selector.now) code.now self.old self.new) }
+    {
+        let key = key(alloc, class, side, selector)?;
+        self.number_of_key(key, Some((class, side)), code)
+    }
+
+    fn number_of_key(
+        &mut self,
+        key: Vec<u8>,
+        place: Option<(u32, Side)>,
+        code: &'a Verified,
+    ) -> Result<u32, OutOfMemory>
+        requires key { key_bytes (key_in key.items) ≡ key.items }
+        requires place { place ≡ place_in (key_in key.items) }
+        ensures { IfOk result (Numbers (key_in key.items) code.now self.old self.new) }
+    {
+        if let Some(number) = self.keys.get_index_of(key.as_slice()) {
+            return Ok(number as u32);
+        }
+        let Ok(number) = u32::try_from(self.keys.len()) else {
+            return Err(OutOfMemory);
+        };
+        let code = code.code();
+        self.activated.reserve(1)?;
+        self.keys.insert(key)?;
+        self.activated.push_reserved(Activated {
+            place,
+            code,
+            holds_block: holds_block(code),
+        });
+        Ok(number)
+    }
+}
+
+// Where a method stands, as bytes.
+fn key(alloc: Global, class: u32, side: Side, selector: &Text) -> Result<Vec<u8>, OutOfMemory>
+    ensures { IfOk result (λ key. key.items ≡ key_bytes (method class side selector.now)) }
+{
+    let mut key = Vec::new(alloc);
+    key.push(side_byte(side))?;
+    key.extend_from_slice(&class.to_be_bytes())?;
+    key.extend_from_slice(selector.bytes())?;
+    Ok(key)
+}
+
+fn side_byte(side: Side) -> u8
+    ensures { result ≡ side_byte side }
+{
+    match side {
+        Side::Instance => 0,
+        Side::Class => 1,
+    }
+}
+
+// Whether a real block begins at one of the instructions from the first byte on.
+fn holds_block(code: &Code) -> bool
+    requires { length code.now.bytes < 2 ^ 32 }
+    ensures { result ≡ holds_block code.now }
+{
+    let mut at = 0;
+    for _ in 0..code.bytes.bytes().len() {
+        let Some((instruction, width)) = decode(code, at) else {
+            return false;
+        };
+        if begins_block(instruction) {
+            return true;
+        }
+        at += width;
+    }
+    false
+}
+
+fn begins_block(instruction: Instruction) -> bool
+    ensures { result ≡ begins_block instruction }
+{
+    matches!(instruction, Instruction::SendSpecial(24))
+}

@@ -1,0 +1,422 @@
+// Messages.
+ghost use Rattle.std.specs.Prelude.{◌≡◌, ◌∷◌, ◌==◌, ℕ, All, IfOk, IfSome, List, [], None, Some, get_or, length, slice_get, if◌then◌else◌};
+ghost use Rattle.std.specs.Option.{option_map};
+ghost use Rattle.s80_class.specs.Table.{IsClass};
+ghost use Rattle.s80_object.specs.declared.value.Value.{Value};
+ghost use Rattle.s80_prims.specs.Arithmetic.{truth};
+ghost use Rattle.s80_prims.specs.Classes.{class_name, class_of};
+ghost use Rattle.s80_prims.specs.Known.{AreKnown, IsKnown};
+ghost use Rattle.s80_prims.specs.Primitives.{same};
+ghost use Rattle.s80_prims.specs.declared.stop.Stop.TheVariants.{NotUnderstood};
+ghost use Rattle.s80_verify.specs.Effect.{special_arguments};
+ghost use Rattle.s80_verify.specs.Selector.{IsSelectorOf, is_name};
+ghost use Rattle.s80_machine.specs.declared.machine.Machine.{Machine as MachineValue};
+ghost use Rattle.s80_machine.specs.World.{Context, Key, World, method, waiting};
+ghost use Rattle.s80_machine.specs.Lookup.{Place};
+ghost use Rattle.s80_machine.specs.Turn.{State, at_once, block_with, is_value, message_off, of_integers, unary_in};
+ghost use Rattle.s80_machine.specs.Step.{special_turn};
+ghost use Rattle.s80_machine.specs.Seen.{IsBlock, IsFound};
+ghost use Rattle.s80_machine.specs.Came.{Came, IsGiven, IsReady, IsSet, Shows, ShowsWorld, TopIsKnown, above, at_place, given_of, places, sends};
+ghost use Rattle.s80_machine.specs.Messages.{IsKnownMessage, ReceiverIsKnown, Takes, activates, finds, own_place, performs, places_in, refuses, runs, runs_method, runs_primitive, sends_one};
+
+use crate::activations::Block;
+use crate::halt::Halt;
+use crate::lookup::Found;
+use crate::machine::Machine;
+use crate::selectors::{integer_primitive, special_arguments};
+use crate::setting::Setting;
+use s80_base::{OutOfMemory, Side, Text};
+use s80_object::{Objects, Value};
+use s80_prims::{Applied, Stop, apply, arithmetic, same, truth};
+use s80_verify::parameters_of;
+use std::alloc::Global;
+
+/// The primitive that activates a block.
+const ACTIVATES_BLOCK: u8 = 81;
+
+/// The primitive that sends a message.
+const SENDS_MESSAGE: u8 = 83;
+
+/// The number of `==` among the messages that have bytes of their own.
+const IDENTITY: u8 = 22;
+
+/// The number of `class`.
+const CLASS: u8 = 23;
+
+/// The number of `value`.
+const VALUE_ALONE: u8 = 25;
+
+/// The number of `value:`.
+const VALUE_WITH: u8 = 26;
+
+impl<'a> Machine<'a> {
+    /// Sends a message to the receiver below its arguments on the stack.
+    pub(crate) fn send(&mut self, on: &Setting<'a>, selector: &Text, count: u8) -> Result<(), Halt>
+        requires ready { IsReady on.now }
+        requires setting { IsSet (given_of on.now) }
+        requires known { TopIsKnown on.now.classes.now self.old }
+        requires selector { IsSelectorOf count selector.now }
+        ensures { (c : Context) (rest : List Context) (w : World) (next : ℕ) → Shows (given_of on.now) self.old (at_place c next rest w)
+            → Came (given_of on.now) (message_off count [] c.stack (λ r arguments stack. sends (given_of on.now) (places (given_of on.now) w r) selector.now r arguments (waiting c next stack ∷ rest) w)) self.new result }
+    {
+        let (receiver, arguments) = self.contexts.take_message(on.alloc, count)?;
+        self.send_to(on, selector, receiver, arguments)
+    }
+
+    /// Sends a message to the active context's receiver that is looked up above the class of its method.
+    pub(crate) fn send_super(
+        &mut self,
+        on: &Setting<'a>,
+        selector: &Text,
+        count: u8,
+    ) -> Result<(), Halt>
+        requires ready { IsReady on.now }
+        requires setting { IsSet (given_of on.now) }
+        requires known { TopIsKnown on.now.classes.now self.old }
+        requires receiver { ReceiverIsKnown on.now.classes.now self.old }
+        requires given { All (IsGiven (given_of on.now)) self.old.methods }
+        requires selector { IsSelectorOf count selector.now }
+        ensures { (c : Context) (rest : List Context) (w : World) (next : ℕ) (key : Key) → Shows (given_of on.now) self.old (at_place c next rest w)
+            → slice_get w.keys c.method ≡ Some key
+            → Came (given_of on.now) (message_off count [] c.stack (λ r arguments stack. sends (given_of on.now) (above (given_of on.now) key) selector.now c.receiver arguments (waiting c next stack ∷ rest) w)) self.new result }
+    {
+        let active = self.contexts.active().ok_or(Halt::Stuck)?;
+        let (method, receiver) = (active.method, active.receiver);
+        let (class, side) = self.place_of(on, method).ok_or(Halt::Stuck)?;
+        let (_, arguments) = self.contexts.take_message(on.alloc, count)?;
+        self.tick(on.budget)?;
+        let found = on.find_above(class, side, selector);
+        self.run_found(on, found, selector, receiver, arguments)
+    }
+
+    // Where a method stands that was activated; a doIt is one of nil's class.
+    fn place_of(&self, on: &Setting<'a>, method: u32) -> Option<(u32, Side)>
+        requires ready { IsReady on.now }
+        requires setting { IsSet (given_of on.now) }
+        requires given { All (IsGiven (given_of on.now)) self.now.methods }
+        ensures class { IfSome result (λ place. IsClass on.now.classes.now.names place.0) }
+        ensures place { result ≡ option_map (λ m. own_place on.now.classes.now m.key) (slice_get self.now.methods method) }
+    {
+        let activated = self.methods.get(method)?;
+        Some(
+            activated
+                .place
+                .unwrap_or((on.kernel.undefined_object, Side::Instance)),
+        )
+    }
+
+    /// Sends one of the messages that have bytes of their own: it is answered at once, or activates a block, or is looked up.
+    pub(crate) fn send_special(&mut self, on: &Setting<'a>, number: u8) -> Result<(), Halt>
+        requires ready { IsReady on.now }
+        requires setting { IsSet (given_of on.now) }
+        requires known { TopIsKnown on.now.classes.now self.old }
+        ensures { (c : Context) (rest : List Context) (w : World) (next : ℕ) → Shows (given_of on.now) self.old (at_place c next rest w)
+            → Came (given_of on.now) (message_off (get_or special_arguments number 0) [] c.stack (special_turn on.now.classes.now on.now.methods.now on.now.doit.now on.now.budget number c next rest w)) self.new result }
+    {
+        let count = special_arguments(number);
+        let (receiver, arguments) = self.contexts.take_message(on.alloc, count)?;
+        if let Some(answer) = at_once(on, &self.objects, number, receiver, &arguments) {
+            return self.contexts.push(answer);
+        }
+        if let Some(block) = self.valued(number, receiver, arguments.len()) {
+            return self.activate_block(on, block, arguments);
+        }
+        let selector = on.special_selector(number).ok_or(Halt::Stuck)?;
+        self.send_to(on, selector, receiver, arguments)
+    }
+
+    // The block that a special message activates, which `value` and `value:` do.
+    fn valued(&self, number: u8, receiver: Value, count: usize) -> Option<Block>
+        ensures { IsBlock (if is_value number then block_with self.now.objects receiver count else None) result }
+    {
+        match number {
+            VALUE_ALONE | VALUE_WITH => self.block_with(receiver, count),
+            _ => None,
+        }
+    }
+
+    // Sends a message that is looked up in the receiver's class.
+    fn send_to(
+        &mut self,
+        on: &Setting<'a>,
+        selector: &Text,
+        receiver: Value,
+        arguments: Vec<Value>,
+    ) -> Result<(), Halt>
+        requires ready { IsReady on.now }
+        requires setting { IsSet (given_of on.now) }
+        requires known { IsKnownMessage on.now.classes.now self.old.objects receiver arguments.items }
+        requires selector { IsSelectorOf (length arguments.items) selector.now }
+        ensures { (c : Context) (rest : List Context) (w : World) → Shows (given_of on.now) self.old (record { contexts = c ∷ rest; world = w })
+            → Came (given_of on.now) (sends (given_of on.now) (places (given_of on.now) w receiver) selector.now receiver arguments.items (c ∷ rest) w) self.new result }
+    {
+        self.tick(on.budget)?;
+        let found = find(on, &self.objects, receiver, selector);
+        self.run_found(on, found, selector, receiver, arguments)
+    }
+
+    // Runs the method that a message found, or sends the message of its primitive.
+    fn run_found(
+        &mut self,
+        on: &Setting<'a>,
+        found: Option<Found<'a>>,
+        selector: &Text,
+        receiver: Value,
+        arguments: Vec<Value>,
+    ) -> Result<(), Halt>
+        requires ready { IsReady on.now }
+        requires setting { IsSet (given_of on.now) }
+        requires known { IsKnownMessage on.now.classes.now self.old.objects receiver arguments.items }
+        requires selector { IsSelectorOf (length arguments.items) selector.now }
+        ensures { (c : Context) (rest : List Context) (w : World) (at : List Place) → Shows (given_of on.now) self.old (record { contexts = c ∷ rest; world = w })
+            → IsFound (finds (given_of on.now) selector.now at) found.entry
+            → Came (given_of on.now) (runs (given_of on.now) (performs (given_of on.now) receiver arguments.items (c ∷ rest)) at selector.now receiver arguments.items (c ∷ rest) w) self.new result }
+    {
+        let Some(found) = found else {
+            return Err(not_understood(on, &self.objects, receiver, selector));
+        };
+        if let Some(unary) = sent_by(on.alloc, &self.objects, found, &arguments)? {
+            return self.perform(on, &unary, receiver);
+        }
+        self.run_method(on, found, selector, receiver, arguments)
+    }
+
+    // Sends the message that a primitive sends. It has no arguments, so that its method's primitive sends none.
+    fn perform(&mut self, on: &Setting<'a>, selector: &Text, receiver: Value) -> Result<(), Halt>
+        requires ready { IsReady on.now }
+        requires setting { IsSet (given_of on.now) }
+        requires known { IsKnownMessage on.now.classes.now self.old.objects receiver [] }
+        requires selector { IsSelectorOf 0 selector.now }
+        ensures { (c : Context) (rest : List Context) (w : World) → Shows (given_of on.now) self.old (record { contexts = c ∷ rest; world = w })
+            → Came (given_of on.now) (sends_one (given_of on.now) (places (given_of on.now) w receiver) selector.now receiver (c ∷ rest) w) self.new result }
+    {
+        self.tick(on.budget)?;
+        let Some(found) = find(on, &self.objects, receiver, selector) else {
+            return Err(not_understood(on, &self.objects, receiver, selector));
+        };
+        self.run_method(on, found, selector, receiver, Vec::new(on.alloc))
+    }
+
+    // Runs a method's primitive, or its body. Its primitive sends no message.
+    fn run_method(
+        &mut self,
+        on: &Setting<'a>,
+        found: Found<'a>,
+        selector: &Text,
+        receiver: Value,
+        arguments: Vec<Value>,
+    ) -> Result<(), Halt>
+        requires setting { IsSet (given_of on.now) }
+        requires known { IsKnownMessage on.now.classes.now self.old.objects receiver arguments.items }
+        ensures { (c : Context) (rest : List Context) (w : World) → Shows (given_of on.now) self.old (record { contexts = c ∷ rest; world = w })
+            → Takes (given_of on.now) (method found.entry.class found.entry.side selector.now) found.entry.code.now arguments.items
+            → Came (given_of on.now) (runs_method (given_of on.now) (method found.entry.class found.entry.side selector.now) found.entry.code.now receiver arguments.items (c ∷ rest) w) self.new result }
+    {
+        match found.code.code().primitive {
+            ACTIVATES_BLOCK => match self.block_with(receiver, arguments.len()) {
+                Some(block) => self.activate_block(on, block, arguments),
+                None => self.activate_found(on, found, selector, receiver, arguments),
+            },
+            SENDS_MESSAGE => self.activate_found(on, found, selector, receiver, arguments),
+            _ => self.run_primitive(on, found, selector, receiver, arguments),
+        }
+    }
+
+    // Runs a primitive of the table, and where it fails the method.
+    fn run_primitive(
+        &mut self,
+        on: &Setting<'a>,
+        found: Found<'a>,
+        selector: &Text,
+        receiver: Value,
+        arguments: Vec<Value>,
+    ) -> Result<(), Halt>
+        requires setting { IsSet (given_of on.now) }
+        requires known { IsKnownMessage on.now.classes.now self.old.objects receiver arguments.items }
+        ensures { (c : Context) (rest : List Context) (w : World) → Shows (given_of on.now) self.old (record { contexts = c ∷ rest; world = w })
+            → Takes (given_of on.now) (method found.entry.class found.entry.side selector.now) found.entry.code.now arguments.items
+            → Came (given_of on.now) (runs_primitive (given_of on.now) (method found.entry.class found.entry.side selector.now) found.entry.code.now receiver arguments.items (c ∷ rest) w) self.new result }
+    {
+        let applied = apply(
+            on.alloc,
+            found.code.code().primitive,
+            receiver,
+            &arguments,
+            on.classes,
+            &mut self.objects,
+            &mut self.transcript,
+        )?;
+        match applied {
+            Applied::Done(value) => self.contexts.push(value),
+            Applied::Fails => self.activate_found(on, found, selector, receiver, arguments),
+            Applied::Stops(stop) => Err(Halt::stop(stop)),
+        }
+    }
+
+    // Activates a method that was found.
+    fn activate_found(
+        &mut self,
+        on: &Setting<'a>,
+        found: Found<'a>,
+        selector: &Text,
+        receiver: Value,
+        arguments: Vec<Value>,
+    ) -> Result<(), Halt>
+        ensures { (s : State) → Shows (given_of on.now) self.old s
+            → Takes (given_of on.now) (method found.entry.class found.entry.side selector.now) found.entry.code.now arguments.items
+            → Came (given_of on.now) (activates (given_of on.now) (method found.entry.class found.entry.side selector.now) found.entry.code.now receiver arguments.items s.contexts s.world) self.new result }
+    {
+        self.check_depth()?;
+        let (class, side) = (found.class, found.side);
+        let method = self
+            .methods
+            .number(on.alloc, class, side, selector, found.code)?;
+        self.activate_method(on, method, receiver, arguments)
+    }
+}
+
+// What a special message is answered without a look-up.
+fn at_once(
+    on: &Setting<'_>,
+    objects: &Objects,
+    number: u8,
+    r: Value,
+    arguments: &[Value],
+) -> Option<Value>
+    requires ready { IsReady on.now }
+    requires setting { IsSet (given_of on.now) }
+    requires objects { AreKnown on.now.classes.now objects.now }
+    requires receiver { IsKnown on.now.classes.now objects.now r }
+    ensures { result ≡ at_once on.now.classes.now objects.now number r arguments.now }
+{
+    match arguments {
+        [] => class_at_once(on, objects, number, r),
+        [a] => one_at_once(number, r, *a),
+        _ => None,
+    }
+}
+
+// The answer to `class`.
+fn class_at_once(on: &Setting<'_>, objects: &Objects, number: u8, r: Value) -> Option<Value>
+    requires ready { IsReady on.now }
+    requires setting { IsSet (given_of on.now) }
+    requires objects { AreKnown on.now.classes.now objects.now }
+    requires receiver { IsKnown on.now.classes.now objects.now r }
+    ensures { result ≡ at_once on.now.classes.now objects.now number r [] }
+{
+    if number != CLASS {
+        return None;
+    }
+    let (class, side) = on.class_of(objects, r)?;
+    Some(Value::ClassRef(class, side))
+}
+
+// The answer to `==`, or of two SmallIntegers to one of their messages.
+fn one_at_once(number: u8, r: Value, a: Value) -> Option<Value>
+    ensures { result ≡ (if number == 22 then Some (truth (same r a)) else of_integers number r a) }
+{
+    if number == IDENTITY {
+        return Some(truth(same(r, a)));
+    }
+    of_integers(number, r, a)
+}
+
+fn of_integers(number: u8, r: Value, a: Value) -> Option<Value>
+    ensures { result ≡ of_integers number r a }
+{
+    match (r, a) {
+        (Value::Small(r), Value::Small(a)) => arithmetic(integer_primitive(number), r, a),
+        _ => None,
+    }
+}
+
+// The method that a message to a receiver finds.
+fn find<'a>(
+    on: &Setting<'a>,
+    objects: &Objects,
+    receiver: Value,
+    selector: &Text,
+) -> Option<Found<'a>>
+    requires ready { IsReady on.now }
+    requires setting { IsSet (given_of on.now) }
+    requires objects { AreKnown on.now.classes.now objects.now }
+    requires receiver { IsKnown on.now.classes.now objects.now receiver }
+    ensures { IsFound (finds (given_of on.now) selector.now (places_in (given_of on.now) objects.now receiver)) result }
+{
+    let (class, side) = on.class_of(objects, receiver)?;
+    on.find(class, side, selector)
+}
+
+// The receiver's class doesn't understand the message.
+fn not_understood(on: &Setting<'_>, objects: &Objects, receiver: Value, selector: &Text) -> Halt
+    requires ready { IsReady on.now }
+    requires setting { IsSet (given_of on.now) }
+    requires objects { AreKnown on.now.classes.now objects.now }
+    requires receiver { IsKnown on.now.classes.now objects.now receiver }
+    ensures { (m : MachineValue) (w : World) → ShowsWorld (given_of on.now) m w
+        → Came (given_of on.now) (refuses (given_of on.now) (class_of on.now.classes.now objects.now receiver) selector.now w) m (Err result) }
+{
+    let Some((class, side)) = on.class_of(objects, receiver) else {
+        return Halt::Stuck;
+    };
+    match not_understood_by(on, class, side, selector) {
+        Ok(stop) => Halt::stop(stop),
+        Err(OutOfMemory) => Halt::Memory,
+    }
+}
+
+fn not_understood_by(
+    on: &Setting<'_>,
+    class: u32,
+    side: Side,
+    selector: &Text,
+) -> Result<Stop, OutOfMemory>
+    requires class { IsClass on.now.classes.now.names class }
+    ensures { IfOk result (λ stop. stop ≡ NotUnderstood (class_name on.now.classes.now class) side selector.now) }
+{
+    let name = on.classes.at(class).class_name.copy(on.alloc)?;
+    Ok(Stop::NotUnderstood(name, side, selector.copy(on.alloc)?))
+}
+
+// The selector of the message that a method's primitive sends, where it sends one.
+fn sent_by(
+    alloc: Global,
+    objects: &Objects,
+    found: Found<'_>,
+    arguments: &[Value],
+) -> Result<Option<Text>, OutOfMemory>
+    ensures is { IfOk result (λ unary. unary ≡ (if found.entry.code.now.primitive == 83 then unary_in objects.now arguments.now else None)) }
+    ensures unary { IfOk result (λ unary. IfSome unary (IsSelectorOf 0)) }
+{
+    if found.code.code().primitive == SENDS_MESSAGE {
+        unary(alloc, objects, arguments)
+    } else {
+        Ok(None)
+    }
+}
+
+// The selector without parameters that a symbol is, as the only argument.
+fn unary(alloc: Global, objects: &Objects, arguments: &[Value]) -> Result<Option<Text>, OutOfMemory>
+    ensures is { IfOk result (λ unary. unary ≡ unary_in objects.now arguments.now) }
+    ensures unary { IfOk result (λ unary. IfSome unary (IsSelectorOf 0)) }
+{
+    let [Value::Symbol(n)] = arguments else {
+        return Ok(None);
+    };
+    let Some(text) = objects.text_of(Value::Symbol(*n)) else {
+        return Ok(None);
+    };
+    if !is_unary(text) {
+        return Ok(None);
+    }
+    Ok(Some(Text::from_bytes(alloc, text)?))
+}
+
+fn is_unary(text: &[u8]) -> bool
+    ensures { result ≡ is_name text.now }
+{
+    match parameters_of(text) {
+        Some(count) => count == 0,
+        None => false,
+    }
+}
