@@ -1,5 +1,5 @@
 -- Codes of runs that were worked by hand.
-use Rattle.std.specs.Prelude.{ℕ, List, [], ◌∷◌, pos}
+use Rattle.std.specs.Prelude.{ℕ, List, [], ◌∷◌, pos, false}
 use Rattle.s80_code.specs.declared.code.Code.{Code}
 use Rattle.s80_code.specs.declared.code.Frame.{Frame}
 use Rattle.s80_object.specs.Objects.{no_objects}
