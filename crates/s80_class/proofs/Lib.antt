@@ -11,3 +11,4 @@ pub mod Indexed
 pub mod Families
 pub mod Extents
 pub mod Settled
+pub mod Members

@@ -50,3 +50,8 @@ abbrev pub FindsFamily : Table → ℕ → Totals → List Found → Type 0
 FindsFamily table number top found =
     (name : Name) (row : ClassRow) → IsNumberOf table.names number name → IsValid (map.insert table.classes name row)
     → top ≡ totals (inherited_of (map.insert table.classes name row) name) → IsFamily table.names (map.insert table.classes name row) name found
+
+-- these are the numbers of the class of that name and of its descendants
+pub record AreFamily (table : Table) (name : Name) (numbers : List ℕ) : Type 0 where
+  pub each : (k number : ℕ) → slice_get numbers k ≡ Some number → (q : Name) × IsNumberOf table.names number q × (is_under table.classes q name ≡ true)
+  pub all : (number : ℕ) (q : Name) → IsNumberOf table.names number q → is_under table.classes q name ≡ true → (k : ℕ) × (slice_get numbers k ≡ Some number)

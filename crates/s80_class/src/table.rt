@@ -4,7 +4,8 @@ ghost use Rattle.std.specs.FinMap as map;
 ghost use Rattle.s80_class.specs.Classes.{Name, ClassRow, IsLine, IsValid, descends, inherited_in, inherited_of, extent_of};
 ghost use Rattle.s80_class.specs.Counted.{totals, greatest_of, over, own};
 ghost use Rattle.s80_class.specs.Table.{IsNumberOf, IsClass, IsSuperclass, IsAbove, IsEntryOf, name_of, row_of};
-ghost use Rattle.s80_class.specs.Family.{Found};
+ghost use Rattle.s80_class.specs.Family.{AreFamily, Found};
+ghost use Rattle.s80_class.specs.Known.{IsKnown};
 ghost use Rattle.s80_class.specs.Totalled.{IsSettled};
 
 use crate::entry::ClassEntry;
@@ -70,7 +71,8 @@ impl ClassTable {
 
     /// How many classes there are.
     pub fn count(&self) -> usize
-        ensures { result ≡ map.len self.now.classes }
+        ensures count { result ≡ map.len self.now.classes }
+        ensures known { IsKnown self.now }
     {
         self.tree.count()
     }
@@ -108,6 +110,21 @@ impl ClassTable {
         ensures { (name : List ℕ) → IsNumberOf self.now.names c name → result ≡ totals (inherited_of self.now.classes name) }
     {
         self.totals[c as usize]
+    }
+
+    /// The numbers of a class and its descendants. No other class is looked at.
+    pub fn family(&self, alloc: Global, c: u32) -> Result<Vec<u32>, OutOfMemory>
+        requires { IsClass self.now.names c }
+        ensures { (name : List ℕ) → IsNumberOf self.now.names c name → IfOk result (λ family. AreFamily self.now name family.items) }
+    {
+        let mut found = Vec::new(alloc);
+        found.reserve(self.count())?;
+        self.tree.family(c, self.totals_of(c), &mut found);
+        let mut family = Vec::new(alloc);
+        for (number, _) in &found {
+            family.push(*number)?;
+        }
+        Ok(family)
     }
 
     /// The greatest numbers of variables among a class and its descendants, if the class itself came to have these totals.

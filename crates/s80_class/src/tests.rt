@@ -214,6 +214,45 @@ fn descendants_stand_below(rt: HostRuntime) -> Result<(), Fail> {
     Ok(())
 }
 
+// The family of a class by number, those nearer to it first.
+fn expect_family(
+    rt: &impl Abort,
+    alloc: Global,
+    table: &ClassTable,
+    name: &[u8],
+    want: &[u32],
+) -> Result<(), OutOfMemory> {
+    let c = find(alloc, table, name)?.expect(rt, "a class of the table");
+    let family = table.family(alloc, c)?;
+    assert_eq!(rt; family.as_slice(), want);
+    Ok(())
+}
+
+#[test]
+fn a_family_is_a_class_and_its_descendants(rt: HostRuntime) -> Result<(), Fail> {
+    let alloc = rt.alloc();
+    let table = small(alloc)?;
+    expect_family(&rt, alloc, &table, b"Object", &[0, 1, 2, 3, 5, 7, 4])?;
+    expect_family(&rt, alloc, &table, b"Collection", &[1, 2, 3, 5, 7, 4])?;
+    expect_family(&rt, alloc, &table, b"ByteArray", &[3, 4])?;
+    expect_family(&rt, alloc, &table, b"Bag", &[5])?;
+    expect_family(&rt, alloc, &table, b"Zebra", &[6])?;
+    Ok(())
+}
+
+#[test]
+fn a_class_that_is_moved_changes_its_family(rt: HostRuntime) -> Result<(), Fail> {
+    let alloc = rt.alloc();
+    let mut table = small(alloc)?;
+    change(alloc, &mut table, b"ByteArray", b"Bag", (5, 0))?;
+    expect_family(&rt, alloc, &table, b"Bag", &[5, 3, 4])?;
+    expect_family(&rt, alloc, &table, b"Collection", &[1, 2, 5, 7, 3, 4])?;
+    change(alloc, &mut table, b"Collection", b"Zebra", (2, 0))?;
+    expect_family(&rt, alloc, &table, b"Object", &[0])?;
+    expect_family(&rt, alloc, &table, b"Zebra", &[6, 1, 2, 5, 7, 3, 4])?;
+    Ok(())
+}
+
 fn expect_greatest(
     rt: &impl Abort,
     alloc: Global,

@@ -15,9 +15,9 @@ pub record DictValue (X : Type 0) : Type 0 where
 
 -- what a model's value has: a code for its entries, and one for the whole
 abbrev pub entry_code : {C : Type 0} → Coded C → Coded (MethodEntry C)
-entry_code {C} code = code_by (Bytes × (Bool × (ℕ × (ℕ × C)))) (coded× (coded_list coded_ℕ) (coded× coded_bool (coded× coded_ℕ (coded× coded_ℕ code))))
-    (λ e. (e.category, (e.from_kernel, (e.position, (e.length, e.code)))))
-    (λ p. record { category = p.0; from_kernel = p.1.0; position = p.1.1.0; length = p.1.1.1.0; code = p.1.1.1.1 }) (λ _. refl)
+entry_code {C} code = code_by (Bytes × (Bytes × (Bool × (ℕ × (ℕ × C))))) (coded× (coded_list coded_ℕ) (coded× (coded_list coded_ℕ) (coded× coded_bool (coded× coded_ℕ (coded× coded_ℕ code)))))
+    (λ e. (e.category, (e.source, (e.from_kernel, (e.position, (e.length, e.code))))))
+    (λ p. record { category = p.0; source = p.1.0; from_kernel = p.1.1.0; position = p.1.1.1.0; length = p.1.1.1.1.0; code = p.1.1.1.1.1 }) (λ _. refl)
 
 abbrev pub dict_code : {C : Type 0} → Coded C → Coded (DictValue (MethodEntry C))
 dict_code {C} code = code_by (Methods (MethodEntry C) × List Bytes) (coded× (map.code (coded_list coded_ℕ) (entry_code code)) (coded_list (coded_list coded_ℕ)))

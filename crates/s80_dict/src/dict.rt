@@ -9,10 +9,11 @@ use s80_base::{Names, OutOfMemory, Text};
 use std::alloc::Global;
 use std::marker::Model;
 
-/// A method: its category, the place of its source, and its code.
+/// A method: its category, its source and where that stands, and its code.
 #[derive(Debug, Drop)]
 pub struct MethodEntry<C> {
     pub category: Text,
+    pub source: Text,
     /// Whether the source stands in the kernel's text, and not in the log.
     pub from_kernel: bool,
     pub position: u64,

@@ -20,6 +20,7 @@ fn put(
 ) -> Result<Option<u32>, Fail> {
     let entry = MethodEntry {
         category: Text::from_bytes(alloc, b"accessing")?,
+        source: Text::from_bytes(alloc, b"at: i")?,
         from_kernel: false,
         position: 7,
         length: 9,

@@ -9,6 +9,7 @@ use std::test::Fail;
 fn entry(alloc: Global, category: &[u8], position: u64) -> Result<MethodEntry<()>, Fail> {
     Ok(MethodEntry {
         category: Text::from_bytes(alloc, category)?,
+        source: Text::from_bytes(alloc, b"yes")?,
         from_kernel: true,
         position,
         length: 3,
