@@ -1,18 +1,23 @@
 -- The methods of the kernel, put into the dictionaries of their classes one after the other.
-use Rattle.std.proofs.Common.{◌≡◌, ◌∙◌, ◌≤◌, ◌<◌, ◌+◌, ◌&&◌, ◌++◌, ℕ, zero, suc, Bool, cond, true, false, refl, sym, ap, subst, List, [], ◌∷◌, length, take, get_or, nat_eq, Option, Some, None, is_some, codes, map as list_map, arith, length-append}
+use Rattle.std.proofs.Common.{◌≡◌, ◌∙◌, ◌≤◌, ◌<◌, ◌+◌, ◌&&◌, ◌++◌, ℕ, zero, suc, Bool, cond, true, false, refl, sym, ap, subst, List, [], ◌∷◌, length, take, get_or, nat_eq, Option, Some, None, is_some, codes, slice_range, map as list_map, arith, length-append}
 use Rattle.std.specs.List.{All, slice_get}
 use Rattle.std.specs.Str.{bytes_eq}
-use Rattle.std.specs.Cmp.Lexicographic.{bytes_decides}
+use Rattle.std.specs.Ordering.{nat_cmp}
+use Rattle.std.specs.Cmp.Lexicographic.{slice_cmp, bytes_decides}
 use Rattle.std.specs.FinMap as map
-use Rattle.std.proofs.lemmas.List.{take_more, take_all, length-map}
-use Rattle.std.proofs.lemmas.List.Elements.{All-head, All-tail}
+use Rattle.std.proofs.lemmas.List.{take_more, take_all, length-map, length-drop, length-take}
+use Rattle.std.proofs.lemmas.Slice.{between_is}
+use Rattle.std.proofs.lemmas.List.Elements.{All-nil, All-cons, All-head, All-tail}
 use Rattle.std.proofs.lemmas.Option.{slice_get_within, get_or_from_slice_get}
 use Rattle.s80_base.specs.declared.names.Side.{Side}
 use Rattle.s80_dict.specs.Dict.{Methods}
 use Rattle.s80_base.specs.declared.names.Side.TheVariants.{Instance, Class}
 use Rattle.s80_dict.specs.Table.{MethodsValue, SidesValue, methods_at, no_sides, on_side, same_side}
 use Rattle.s80_kernel_methods.specs.declared.methods.KernelMethod.{KernelMethod}
-use Rattle.s80_kernel_methods.specs.Methods.{KernelMethodRow, MethodPlace, kernel_methods, held_place, place_of}
+use Rattle.s80_kernel_methods.specs.Methods.{IsPlainSource, KernelMethodRow, MethodPlace, StandsIn, kernel_methods, held_place, place_of}
+use Rattle.s80_kernel.specs.Text.{kernel_text}
+use Rattle.s80_section.specs.Check.{IsCheckOf}
+use Rattle.s80_section.specs.declared.source_check.SourceCheck.TheVariants.{Fits}
 use Rattle.s80_kernel.specs.declared.rows.KernelClass.{KernelClass}
 use Rattle.s80_kernel.specs.Rows.{KernelRow, is_kernel_class, kernel_rows, row_of as kernel_row_of}
 use Rattle.s80_class.specs.Classes.{Name, Classes}
@@ -20,9 +25,12 @@ use Rattle.s80_class.specs.Table.{Table, IsNumberOf}
 use Rattle.s80_state.specs.Kernel.{kernel_classes}
 use Rattle.s80_state.specs.Limits.{IsWithin}
 use Rattle.s80_state.specs.State.{MethodRow, State, side_of, kernel_method, put_method, put_kernel_methods, no_methods, kernel_state}
-use Rattle.s80_state.specs.System.{AreEntriesOf, Entry, IsSystemOf, SystemState, entry_of}
-use Rattle.s80_state.specs.Boot.{HasClassesAlone, TakesMethod, entry_held}
+use Rattle.s80_state.specs.Entries.{AreEntriesOf, Entry, row_in}
+use Rattle.s80_state.specs.Codes.{AreCodes}
+use Rattle.s80_state.specs.System.{IsSystemOf, SystemState}
+use Rattle.s80_state.specs.Boot.{HasClassesAlone, TakesMethod, row_held}
 use Rattle.s80_state.proofs.Booted.{IsBooted, built_has, booted_none, booted_all}
+use Rattle.s80_state.proofs.Codes.{codes_put}
 use Rattle.s80_state.proofs.Stands.{entries_put, entries_empty, entries_where, same_place}
 
 -- ---- the classes, without methods
@@ -79,8 +87,34 @@ row_at P (m ∷ ms) (row ∷ rows) (suc i) d all same below =
     let later = row_at P ms rows i d (All-tail P row rows all) others (omega (arith, below)) in
     record { row = later.row; is = later.is; held = later.held; holds = later.holds }
 
-abbrev pub IsOfKernel : KernelMethodRow → Type 0
-IsOfKernel row = is_kernel_class row.class ≡ true
+-- what the laws say of a row
+pub record IsLawful (row : KernelMethodRow) : Type 0 where
+  pub of_kernel : is_kernel_class row.class ≡ true
+  pub stands : StandsIn kernel_text row
+  pub short : length row.source ≤ 65535
+  pub fits : IsCheckOf row.source (Fits row.selector)
+
+pub lawful_rows : (rows : List KernelMethodRow) → All (λ row. is_kernel_class row.class ≡ true) rows → All (StandsIn kernel_text) rows → All (λ row. IsPlainSource row.source) rows → All (λ row. IsCheckOf row.source (Fits row.selector)) rows → All IsLawful rows
+lawful_rows [] kernel stand plain fit = All-nil IsLawful
+lawful_rows (row ∷ rows) kernel stand plain fit =
+    All-cons IsLawful row rows (record {
+      of_kernel = All-head (λ (row : KernelMethodRow). is_kernel_class row.class ≡ true) row rows kernel;
+      stands = All-head (StandsIn kernel_text) row rows stand;
+      short = (All-head (λ (row : KernelMethodRow). IsPlainSource row.source) row rows plain).short;
+      fits = All-head (λ (row : KernelMethodRow). IsCheckOf row.source (Fits row.selector)) row rows fit;
+    })
+    (lawful_rows rows (All-tail (λ (row : KernelMethodRow). is_kernel_class row.class ≡ true) row rows kernel) (All-tail (StandsIn kernel_text) row rows stand)
+    (All-tail (λ (row : KernelMethodRow). IsPlainSource row.source) row rows plain) (All-tail (λ (row : KernelMethodRow). IsCheckOf row.source (Fits row.selector)) row rows fit))
+
+-- the source in the text is that of the row
+source_held : (m : KernelMethod) (row : KernelMethodRow) → held_place m ≡ place_of row → StandsIn kernel_text row → (row_held m).source ≡ row.source
+source_held m row held stands = (λ i. slice_range kernel_text (held i).position ((held i).position + (held i).size)) ∙ stands.same
+
+-- it is no longer than it is said to be
+pub held_short : (m : KernelMethod) → m.length ≤ 65535 → length (row_held m).source ≤ 65535
+held_short m short =
+    let whole = ap length (between_is kernel_text m.position (m.position + m.length)) in
+    omega (arith, whole, length-drop m.position (take (m.position + m.length) kernel_text), length-take (m.position + m.length) kernel_text, short)
 
 kernel_class_there : (class : Name) → is_kernel_class class ≡ true → map.contains_key kernel_classes class ≡ true
 unfolding is_kernel_class kernel_classes
@@ -100,7 +134,7 @@ put_more (first ∷ ks) k state = put_more ks k (put_method first.class (side_of
 abbrev system_of : Table → MethodsValue Entry → SystemState
 system_of table methods = record { table = table; methods = methods }
 
-module _ (table : Table) (m : KernelMethod) (k : KernelMethodRow) (before now : MethodsValue Entry) (state : State) (held : held_place m ≡ place_of k) (takes : TakesMethod table m before now)
+module _ (table : Table) (m : KernelMethod) (k : KernelMethodRow) (before now : MethodsValue Entry) (state : State) (held : held_place m ≡ place_of k) (stands : StandsIn kernel_text k) (takes : TakesMethod table m before now)
     (there : map.contains_key table.classes k.class ≡ true) (is : IsSystemOf (system_of table before) state) where
   side : Side
   side = side_of k.on_class_side
@@ -108,8 +142,8 @@ module _ (table : Table) (m : KernelMethod) (k : KernelMethodRow) (before now : 
   class_is : m.class_name.now ≡ k.class
   class_is = ap (λ (p : MethodPlace). p.class) held
 
-  entry_is : entry_held m ≡ entry_of (kernel_method k)
-  entry_is = λ i. record { category = codes "kernel"; from_kernel = true; position = (held i).position; length = (held i).size; code = tt }
+  row_is : row_in takes.entry ≡ kernel_method k
+  row_is = takes.row ∙ (λ i. record { category = codes "kernel"; source = source_held m k held stands i; from_kernel = true; position = (held i).position; length = (held i).size })
 
   put : (name : Name) (s : Side) → Methods MethodRow
   put name s = cond (bytes_eq name k.class && same_side s side) (map.insert (state.methods name s) k.selector (kernel_method k)) (state.methods name s)
@@ -122,11 +156,11 @@ module _ (table : Table) (m : KernelMethod) (k : KernelMethodRow) (before now : 
       let here : IsNumberOf table.names takes.number k.class = subst (λ (x : Name). IsNumberOf table.names takes.number x) class_is takes.named in
       let only : (c : ℕ) → IsNumberOf table.names c k.class → c ≡ takes.number = λ c at. takes.only c (subst (λ (x : Name). IsNumberOf table.names c x) (sym class_is) at) in
       let place : nat_eq n takes.number ≡ bytes_eq name k.class = same_place table.names n takes.number name k.class named here only in
-      let same : methods_at now n s ≡ cond (bytes_eq name k.class && same_side s (side_of k.on_class_side)) (map.insert old k.selector (entry_of (kernel_method k))) old =
-      takes.methods n s ∙ (λ i. cond (place i && same_side s (side_of (held i).on_class_side)) (map.insert old (held i).selector (entry_is i)) old) in
+      let same : methods_at now n s ≡ cond (bytes_eq name k.class && same_side s (side_of k.on_class_side)) (map.insert old k.selector takes.entry) old =
+      takes.methods n s ∙ (λ i. cond (place i && same_side s (side_of (held i).on_class_side)) (map.insert old (held i).selector takes.entry) old) in
       subst (λ e. AreEntriesOf e (cond (bytes_eq name k.class && same_side s (side_of k.on_class_side)) (map.insert rows k.selector (kernel_method k)) rows)) (sym same)
-      (entries_where (bytes_eq name k.class && same_side s (side_of k.on_class_side)) (map.insert old k.selector (entry_of (kernel_method k))) old (map.insert rows k.selector (kernel_method k)) rows
-      (entries_put old rows k.selector (entry_of (kernel_method k)) (kernel_method k) refl kept) kept)
+      (entries_where (bytes_eq name k.class && same_side s (side_of k.on_class_side)) (map.insert old k.selector takes.entry) old (map.insert rows k.selector (kernel_method k)) rows
+      (entries_put old rows k.selector takes.entry (kernel_method k) row_is kept) kept)
 
   other : (name : Name) → map.get state.classes name ≡ None → (b : Bool) → bytes_eq name k.class ≡ b → b ≡ false
   other name none false at = refl
@@ -151,6 +185,10 @@ pub record HasMethodsOf (table : Table) (methods : MethodsValue Entry) (ks : Lis
   pub within : IsWithin table.classes
   pub count : length methods.sides ≡ length table.names
   pub system : IsSystemOf (system_of table methods) (put_kernel_methods ks bare)
+  pub codes : AreCodes table methods
+
+no_entry : (k : List ℕ) (e : Entry) → map.get (map.empty {X = Entry} {R = slice_cmp nat_cmp}) k ≡ Some e → ⊥
+no_entry k e is = let bad : None ≡ Some e = sym (map.get-empty (slice_cmp nat_cmp) k) ∙ is in cc
 
 pub none_put : (table : Table) (methods : MethodsValue Entry) → HasClassesAlone table methods → HasMethodsOf table methods []
 none_put table methods alone = record {
@@ -162,19 +200,32 @@ none_put table methods alone = record {
     methods = λ n name s named. subst (λ e. AreEntriesOf e map.empty) (sym (alone.none n s)) entries_empty;
     others = λ name s none. refl;
   };
+  codes = λ n s k e is. absurd (no_entry k e (ap (λ m. map.get m k) (sym (alone.none n s)) ∙ is));
 }
 
-module _ (items : List KernelMethod) (i : ℕ) (d : KernelMethod) (table : Table) (before : MethodsValue Entry) (of_kernel : All IsOfKernel kernel_methods) (same : list_map held_place items ≡ list_map place_of kernel_methods)
+module _ (items : List KernelMethod) (i : ℕ) (d : KernelMethod) (table : Table) (before : MethodsValue Entry) (lawful : All IsLawful kernel_methods) (same : list_map held_place items ≡ list_map place_of kernel_methods)
     (below : i < length items) (so_far : HasMethodsOf table before (take i kernel_methods)) where
-  here : RowAt IsOfKernel kernel_methods i (get_or items i d)
-  here = row_at IsOfKernel items kernel_methods i d of_kernel same below
+  here : RowAt IsLawful kernel_methods i (get_or items i d)
+  here = row_at IsLawful items kernel_methods i d lawful same below
 
   class_there : map.contains_key table.classes here.row.class ≡ true
-  class_there = ap (λ (c : Classes). map.contains_key c here.row.class) so_far.classes ∙ kernel_class_there here.row.class here.holds
+  class_there = ap (λ (c : Classes). map.contains_key c here.row.class) so_far.classes ∙ kernel_class_there here.row.class here.holds.of_kernel
 
   -- its class is there
   pub method_there : map.contains_key table.classes (get_or items i d).class_name.now ≡ true
   method_there = ap (map.contains_key table.classes) (ap (λ (p : MethodPlace). p.class) here.held) ∙ class_there
+
+  -- its source stands in the text, and is a method of its selector
+  pub method_stands : (get_or items i d).position + (get_or items i d).length ≤ length kernel_text
+  method_stands = let at = ap (λ (p : MethodPlace). p.position + p.size) here.held in omega (arith, at, here.holds.stands.ends)
+
+  pub method_short : (get_or items i d).length ≤ 65535
+  method_short = let size = ap (λ (p : MethodPlace). p.size) here.held in omega (arith, size, here.holds.short)
+
+  pub method_fits : IsCheckOf (row_held (get_or items i d)).source (Fits (get_or items i d).selector.now)
+  method_fits =
+      subst (λ (k : List ℕ). IsCheckOf (row_held (get_or items i d)).source (Fits k)) (sym (ap (λ (p : MethodPlace). p.selector) here.held))
+      (subst (λ text. IsCheckOf text (Fits here.row.selector)) (sym (source_held (get_or items i d) here.row here.held here.holds.stands)) here.holds.fits)
 
   pub method_more : (now : MethodsValue Entry) → length now.sides ≡ length before.sides → TakesMethod table (get_or items i d) before now → HasMethodsOf table now (take (i + 1) kernel_methods)
   method_more now count takes =
@@ -187,7 +238,8 @@ module _ (items : List KernelMethod) (i : ℕ) (d : KernelMethod) (table : Table
         within = so_far.within;
         count = count ∙ so_far.count;
         system = subst (IsSystemOf (system_of table now)) (sym (ap (λ ks. put_kernel_methods ks bare) more ∙ put_more front k bare))
-            (method_taken table (get_or items i d) k before now (put_kernel_methods front bare) here.held takes class_there so_far.system);
+            (method_taken table (get_or items i d) k before now (put_kernel_methods front bare) here.held here.holds.stands takes class_there so_far.system);
+        codes = codes_put table before now takes.number (side_of (get_or items i d).on_class_side) (get_or items i d).selector.now takes.entry (record { class = (get_or items i d).class_name.now; named = takes.named; has_code = takes.code }) takes.methods so_far.codes;
       }
 
 -- ---- all of them

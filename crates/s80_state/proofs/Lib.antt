@@ -13,3 +13,8 @@ pub mod Lists
 pub mod Sources
 pub mod Booting
 pub mod Own
+pub mod Places
+pub mod Codes
+pub mod Few
+pub mod Again
+pub mod Recompiled

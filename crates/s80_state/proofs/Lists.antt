@@ -1,13 +1,16 @@
 -- Lists of changes: the state that one change more makes, and what is accepted.
-use Rattle.std.proofs.Common.{◌≡◌, ◌∙◌, ℕ, ◌+◌, ◌++◌, sym, ap, subst, List, [], ◌∷◌, length, Result, Ok, arith, length-append}
+use Rattle.std.proofs.Common.{◌≡◌, ◌∙◌, ℕ, ◌+◌, ◌++◌, sym, ap, subst, List, [], ◌∷◌, length, None, Result, Ok, arith, length-append}
 use Rattle.std.proofs.lemmas.Grind.{flat_map-append}
 use Rattle.std.proofs.lemmas.List.{append-nil}
 use Rattle.s80_block.specs.declared.change.Change.{Change}
+use Rattle.s80_block.specs.declared.change.Change.TheVariants.{Define}
+use Rattle.s80_change.specs.declared.definition.Definition.{Definition}
 use Rattle.s80_change.specs.declared.refusal.Refusal.{Refusal}
 use Rattle.s80_block.specs.Block.{block, blocks}
 use Rattle.s80_state.specs.State.{State, kernel_state}
-use Rattle.s80_state.specs.Accept.{accept}
-use Rattle.s80_state.specs.List.{state_or, state_after, state_from, state_of, IsAccepted, AreAccepted, IsBuilt}
+use Rattle.s80_class.specs.Classes.{Classes}
+use Rattle.s80_state.specs.Accept.{accept, accepted, define, refusal_of}
+use Rattle.s80_state.specs.List.{AreOfList, classes_of, state_or, state_after, state_from, state_of, IsAccepted, AreAccepted, IsBuilt}
 
 -- ---- the log
 
@@ -28,6 +31,14 @@ from_more state at (c ∷ cs) change =
 
 pub state_more : (changes : List Change) (change : Change) → state_of (changes ++ change ∷ []) ≡ state_after change (length (blocks changes)) (state_of changes)
 state_more changes change = from_more kernel_state 0 changes change ∙ ap (λ n. state_after change n (state_of changes)) (omega arith)
+
+-- the classes of a list with a definition more, which they accept
+pub of_list_more : (classes : Classes) (d : Definition) → AreOfList classes → refusal_of d classes ≡ None → AreOfList (define d classes)
+of_list_more classes d (changes, is) none =
+    let before = state_of changes in
+    let after : state_after (Define d) (length (blocks changes)) before ≡ record before { classes = define d before.classes } =
+    ap (λ o. state_or (accepted o (record before { classes = define d before.classes })) before) (ap (refusal_of d) (sym is) ∙ none) in
+    (changes ++ Define d ∷ [], ap (define d) is ∙ sym (ap (λ (s : State). s.classes) (state_more changes (Define d) ∙ after)))
 
 -- ---- what is accepted
 

@@ -15,9 +15,7 @@ use Rattle.s80_class.specs.Table.{IsNumberOf}
 use Rattle.s80_state.specs.Accept.{kernel_row, on_class_side, same_method}
 use Rattle.s80_state.specs.Method.{IsKernelMethod}
 use Rattle.s80_state.specs.System.{IsSoundSystem, SystemState}
-
-some_same : {X : Type 0} (x y : X) → Some x ≡ Some y → x ≡ y
-some_same x y h = cc
+use Rattle.s80_state.proofs.Places.{some_same}
 
 abbrev pub AreNamed : Type 0
 AreNamed = (class : List ℕ) (on_class_side : Bool) (selector : List ℕ) (row : KernelMethodRow) → found_method class on_class_side selector ≡ Some row ↔ Contains kernel_methods row × (key_of row ≡ (class, on_class_side, selector))

@@ -19,7 +19,8 @@ use Rattle.s80_state.specs.declared.step.PlacedMethod.{PlacedMethod}
 use Rattle.s80_state.specs.declared.step.Step.TheVariants as steps
 use Rattle.s80_state.specs.State.{State}
 use Rattle.s80_state.specs.Accept.{above, accept_checked, accepted, define, first_some, len_with, put_source, refusal_of, too_many_methods, unknown_name}
-use Rattle.s80_state.specs.System.{AreEntriesOf, IsSoundSystem, IsSystemOf, Places, PlacesMethod, Prepares, SystemState, with_class}
+use Rattle.s80_state.specs.Entries.{AreEntriesOf}
+use Rattle.s80_state.specs.System.{HasClass, IsSoundSystem, IsSystemOf, Places, PlacesMethod, Prepares, SystemState}
 use Rattle.s80_state.specs.Method.{IsRefusedAt, PlacesIn, TakesPlace, refusal_at}
 use Rattle.s80_state.proofs.Stands.{class_put, method_put, same_count}
 
@@ -82,10 +83,8 @@ class_prepared now classes state d placed sound same is places = λ at. (record 
     accepts : accepted (refusal_of d state.classes) (record state { classes = define d state.classes }) ≡ Ok (record state { classes = define d state.classes })
     accepts = ap (λ o. accepted o (record state { classes = define d state.classes })) (ap (refusal_of d) (sym same) ∙ places.0)
 
-    stands : (after : SystemState) → after ≡ with_class now placed → IsSystemOf after (record state { classes = define d state.classes })
-    stands after installed =
-        subst (λ s. IsSystemOf s (record state { classes = define d state.classes })) (sym installed)
-        (class_put now state d placed.number placed.entry sound is places.1.may_put (places.2 ∙ ap (define d) same))
+    stands : (after : SystemState) → HasClass now placed after → IsSystemOf after (record state { classes = define d state.classes })
+    stands after installed = class_put now after state d placed sound is places.1 (places.2 ∙ ap (define d) same) installed
 
 pub class_refused : (now : SystemState) (classes : Classes) (state : State) (d : Definition) (r : Refused) → classes ≡ state.classes → Places classes d now (Err r) → Prepares state (changes.Define d) now (Err r)
 class_refused now classes state d refused.Memory same places = tt

@@ -1,5 +1,5 @@
 -- What an accepted definition meets, and the step that is made of it.
-use Rattle.std.proofs.Common.{◌≡◌, ◌≤◌, ◌<◌, ◌+◌, ◌^◌, ◌∙◌, ℕ, Bool, cond, true, false, nat_le, refl, sym, ap, subst, List, [], ◌∷◌, length, Option, Some, None, is_some, option_map, unwrap_or, MatchOption, Ok, true≢false, arith}
+use Rattle.std.proofs.Common.{◌≡◌, ◌≤◌, ◌<◌, ◌+◌, ◌^◌, ◌∙◌, ℕ, Bool, cond, true, false, nat_le, refl, sym, ap, subst, List, [], ◌∷◌, length, Vec, Global, Option, Some, None, is_some, option_map, unwrap_or, MatchOption, true≢false, arith}
 use Rattle.std.specs.FinMap as map
 use Rattle.std.proofs.lemmas.List.Sums.{sum_by-cons}
 use Rattle.std.proofs.lemmas.Bool.Decides.{nat_tests}
@@ -10,18 +10,18 @@ use Rattle.s80_change.specs.declared.refusal.ManyKind.TheVariants.{Classes as Ma
 use Rattle.s80_class.specs.declared.entry.ClassEntry.{ClassEntry}
 use Rattle.s80_class.specs.declared.inherited.Totals.{Totals}
 use Rattle.s80_class.specs.declared.inherited.Greatest.{Greatest}
-use Rattle.s80_class.specs.Classes.{Name, ClassRow, Classes, IsValid, lineage, is_under, inherited_in, inherited_of, extent_of, bits_variables_of, is_bits, own_or}
+use Rattle.s80_class.specs.Classes.{Name, ClassRow, Classes, IsLine, IsValid, lineage, is_under, inherited_in, inherited_of, extent_of, bits_variables_of, is_bits, own_or}
 use Rattle.s80_class.specs.Counted.{counted, totals, greatest_of}
-use Rattle.s80_class.specs.Table.{Table, IsNumberOf, IsSuperclass, IsAbove}
-use Rattle.s80_class.proofs.Lines.{Entry, IsOver}
+use Rattle.s80_class.specs.Table.{Table, IsNumberOf, IsSuperclass, IsAbove, row_of}
+use Rattle.s80_class.proofs.Lines.{Entry, IsOver, passes}
 use Rattle.s80_state.specs.Accept.{row_of as defined_row, define, bad_name, unknown_class, kernel_class, cycle, duplicate, first_some, too_many, above, refusal_of}
 use Rattle.s80_state.specs.Entry.{IsDefined}
 use Rattle.s80_state.specs.Extent.{IsGreatest, totals_on, alone}
 use Rattle.s80_state.specs.Limits.{IsWithin}
-use Rattle.s80_state.specs.System.{MayPut, Entry as MethodHeld, HasDictionaryRoom, Places, with_entry}
-use Rattle.s80_dict.specs.Table.{MethodsValue}
+use Rattle.s80_state.specs.System.{AreRecompiled, CanPut, HasDictionaryRoom, MayPut, SystemState, with_entry}
+use Rattle.s80_state.specs.declared.step.PlacedMethod.{PlacedMethod}
 use Rattle.s80_class.proofs.Most.{some_row}
-use Rattle.s80_state.proofs.Defined.{over_of, inherited_defined, valid_defined}
+use Rattle.s80_state.proofs.Defined.{alone_under, line_of, no_lineage, over_of, inherited_defined, valid_defined}
 use Rattle.s80_state.proofs.Extents.{bits_extent, own_side, within_defined, alone_extent, grown_extent}
 
 -- ---- no check refuses
@@ -167,6 +167,13 @@ module _ (d : Definition) (classes : Classes) (valid : IsValid classes) (known :
 
 -- ---- the step
 
+-- the entry may be put, and makes the class
+pub record IsPlaced (d : Definition) (table : Table) (number : Option ℕ) (entry : ClassEntry) : Type 0 where
+  pub may_put : MayPut table number entry
+  pub within : IsWithin (with_entry table entry)
+  pub over : IsOver table.classes entry.class_name (row_of table.names entry).superclass
+  pub makes : with_entry table entry ≡ define d table.classes
+
 same_table : (old now : Table) → now.classes ≡ old.classes → now.names ≡ old.names → ◌≡◌ {A = Table} (record { classes = old.classes; names = old.names; spare = now.spare }) now
 same_table old now c n = λ i. record { classes = sym c i; names = sym n i; spare = now.spare }
 
@@ -187,21 +194,59 @@ module _ (d : Definition) (table : Table) (room : 0 < table.spare) (valid : IsVa
   makes : with_entry table entry ≡ define d table.classes
   makes = λ i. map.insert table.classes (defined.class_name i) (defined.row i)
 
-  dictionaries : (methods : MethodsValue MethodHeld) → 0 < methods.spare → (number : Option ℕ) → HasDictionaryRoom number methods
-  dictionaries methods some None = some
-  dictionaries methods some (Some number) = tt
-
-  prepared_here : (methods : MethodsValue MethodHeld) → 0 < methods.spare → (number : Option ℕ) → MatchOption number (map.get table.classes d.class_name ≡ None) (λ c. IsNumberOf table.names c d.class_name)
-      → Places table.classes d (record { table = table; methods = methods }) (Ok (record { number = number; entry = entry }))
-  prepared_here methods some number found =
+  placed_here : (number : Option ℕ) → MatchOption number (map.get table.classes d.class_name ≡ None) (λ c. IsNumberOf table.names c d.class_name) → IsPlaced d table number entry
+  placed_here number found =
       let kept : IsWithin (define d table.classes) = within_defined table.classes d.class_name (defined_row d (map.get table.classes d.class_name)) valid (over d table.classes valid ok.known ok.acyclic) within ok.count ok.inst_vars ok.class_side_vars in
-      (accepted, record { may_put = may_put number found; within = subst IsWithin (sym makes) kept; room = dictionaries methods some number }, makes)
+      record {
+        may_put = may_put number found;
+        within = subst IsWithin (sym makes) kept;
+        over = subst (λ (n : Name). IsOver table.classes n (row_of table.names entry).superclass) (sym defined.class_name)
+            (subst (λ o. IsOver table.classes d.class_name o) (sym (ap (λ (r : ClassRow). r.superclass) defined.row)) (over d table.classes valid ok.known ok.acyclic));
+        makes = makes;
+      }
 
-pub prepared : (d : Definition) (old now : Table) (methods : MethodsValue MethodHeld) (entry : ClassEntry) (number : Option ℕ) → now.classes ≡ old.classes → now.names ≡ old.names → 0 < now.spare → 0 < methods.spare → IsValid old.classes → IsWithin old.classes
+pub prepared : (d : Definition) (old now : Table) (entry : ClassEntry) (number : Option ℕ) → now.classes ≡ old.classes → now.names ≡ old.names → 0 < now.spare → IsValid old.classes → IsWithin old.classes
     → refusal_of d old.classes ≡ None → IsDefined old d entry → MatchOption number (map.get old.classes d.class_name ≡ None) (λ c. IsNumberOf old.names c d.class_name)
-    → Places old.classes d (record { table = now; methods = methods }) (Ok (record { number = number; entry = entry }))
-prepared d old now methods entry number classes names room some valid within accepted defined found =
+    → IsPlaced d now number entry
+prepared d old now entry number classes names room valid within accepted defined found =
     let table : Table = record { classes = old.classes; names = old.names; spare = now.spare } in
     let here : IsDefined table d entry = record { class_name = defined.class_name; row = defined.row; superclass = defined.superclass } in
-    subst (λ (t : Table). Places old.classes d (record { table = t; methods = methods }) (Ok (record { number = number; entry = entry }))) (same_table old now classes names)
-    (prepared_here d table room valid within accepted entry here methods some number found)
+    subst (λ (t : Table). IsPlaced d t number entry) (same_table old now classes names)
+    (placed_here d table room valid within accepted entry here number found)
+
+-- ---- a new class
+
+-- only what is there is under a class
+under_there : (classes : Classes) (name q : Name) → is_under classes q name ≡ true → (row : ClassRow) × (map.get classes q ≡ Some row)
+under_there classes name q under = go (map.get classes q) refl
+  where
+    go : (o : Option ClassRow) → map.get classes q ≡ o → (row : ClassRow) × (map.get classes q ≡ Some row)
+    go None none = absurd (true≢false (sym under ∙ ap (passes name) (no_lineage classes q none)))
+    go (Some row) is = (row, is)
+
+-- no class of before is under it, so no method is compiled again
+nothing_again : (system : SystemState) (entry : ClassEntry) → IsValid system.table.classes → IsOver system.table.classes entry.class_name (row_of system.table.names entry).superclass → map.get system.table.classes entry.class_name ≡ None
+    → ((c : ℕ) → IsNumberOf system.table.names c entry.class_name → ⊥) → AreRecompiled system (with_entry system.table entry) entry.class_name []
+nothing_again system entry valid over none unnumbered = record {
+  each = λ k p at. absurd (let bad : None ≡ Some p = at in cc);
+  all = λ number class side selector method named under has.
+      let classes = system.table.classes in
+      let row = row_of system.table.names entry in
+      let there = under_there (with_entry system.table entry) entry.class_name class under in
+      let line : IsLine (with_entry system.table entry) (Some class) (lineage (with_entry system.table entry) class) = line_of (with_entry system.table entry) class there.0 (valid_defined classes entry.class_name row valid over) there.1 in
+      let same : class ≡ entry.class_name = alone_under classes entry.class_name row valid over none class (lineage (with_entry system.table entry) class) line under in
+      absurd (unnumbered number (subst (λ (n : Name). IsNumberOf system.table.names number n) same named));
+}
+
+pub none_numbered : (n : ℕ) → None ≡ Some n → ⊥
+none_numbered n is = cc
+
+pub new_can_put : (system : SystemState) (d : Definition) (number : Option ℕ) (entry : ClassEntry) (recompiled : Vec PlacedMethod Global) → number ≡ None → recompiled.items ≡ [] → IsPlaced d system.table None entry → 0 < system.methods.spare
+    → IsValid system.table.classes → map.get system.table.classes entry.class_name ≡ None → ((c : ℕ) → IsNumberOf system.table.names c entry.class_name → ⊥)
+    → CanPut system (record { number = number; entry = entry; recompiled = recompiled })
+new_can_put system d number entry recompiled new empty placed some valid none unnumbered = record {
+  may_put = subst (λ o. MayPut system.table o entry) (sym new) placed.may_put;
+  within = placed.within;
+  room = subst (λ o. HasDictionaryRoom o system.methods) (sym new) some;
+  recompiled = subst (λ ps. AreRecompiled system (with_entry system.table entry) entry.class_name ps) (sym empty) (nothing_again system entry valid placed.over none unnumbered);
+}

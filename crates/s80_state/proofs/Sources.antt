@@ -4,7 +4,7 @@ use Rattle.std.specs.List.{All, find}
 use Rattle.std.specs.Option.{IfSome}
 use Rattle.std.specs.Str.{bytes_eq}
 use Rattle.std.specs.Ordering.{nat_cmp}
-use Rattle.std.specs.Cmp.Lexicographic.{slice_cmp, nat_list_cmp_total, texts_ties}
+use Rattle.std.specs.Cmp.Lexicographic.{slice_cmp}
 use Rattle.std.specs.FinMap as map
 use Rattle.std.proofs.Math.Seq.{take-append_seam, drop-append_seam}
 use Rattle.std.proofs.lemmas.Bool.{ne_eqb}
@@ -12,7 +12,6 @@ use Rattle.std.proofs.lemmas.List.{append-nil, drop-take, take-append-le}
 use Rattle.std.proofs.lemmas.List.Elements.{All-head, All-tail}
 use Rattle.std.proofs.lemmas.Slice.{between_is}
 use Rattle.s80_base.specs.declared.names.Side.{Side}
-use Rattle.s80_dict.specs.Dict.{Methods}
 use Rattle.s80_dict.specs.Table.{same_side}
 use Rattle.s80_chunk.specs.Chunks.{mark, spell, chunk}
 use Rattle.s80_kernel.specs.Text.{kernel_text}
@@ -30,6 +29,7 @@ use Rattle.s80_state.specs.State.{MethodRow, State, put_method, side_of, kernel_
 use Rattle.s80_state.specs.Kernel.{kernel_classes}
 use Rattle.s80_state.specs.Accept.{accepted, first_some, refusal_of, define, unknown_name, too_many_methods, source_offset, same_method, kernel_row, method_row, put_source, accept_checked, on_class_side}
 use Rattle.s80_state.specs.List.{state_or, state_after, state_from, state_of}
+use Rattle.s80_state.proofs.Places.{get-put}
 use Rattle.s80_state.specs.Source.{text_for, StandsAt, AllStand}
 
 -- ---- parts of a text
@@ -65,9 +65,6 @@ all_longer : (bytes more : List ℕ) (state : State) → AllStand bytes state �
 all_longer bytes more state all = λ name side selector row is. stands_longer bytes more row (all name side selector row is)
 
 -- ---- a method more
-
-pub get-put : {X : Type 0} (methods : Methods X) (selector : List ℕ) (row : X) (q : List ℕ) → map.get (map.insert methods selector row) q ≡ cond (bytes_eq q selector) (Some row) (map.get methods q)
-get-put methods selector row q = map.get-insert nat_list_cmp_total methods selector row q ∙ ap (λ b. cond b (Some row) (map.get methods q)) (sym (texts_ties q selector))
 
 module _ (log : List ℕ) (class : Name) (side : Side) (selector : List ℕ) (row : MethodRow) (state : State) (stands : StandsAt log row) (all : AllStand log state) where
   by_key : (name : Name) (s : Side) (q : List ℕ) (r : MethodRow) (b : Bool) → cond b (Some row) (map.get (state.methods name s) q) ≡ Some r → StandsAt log r

@@ -1,7 +1,8 @@
 -- The entries of the kernel's classes and of its methods.
-use Rattle.std.specs.Prelude.{◌≡◌, ℕ, [], ◌∷◌, length, true, Option, None, MatchOption, codes}
+use Rattle.std.specs.Prelude.{◌≡◌, ◌+◌, ℕ, [], ◌∷◌, length, slice_range, true, Option, None, MatchOption, codes}
 use Rattle.std.specs.FinMap as map
 use Rattle.s80_kernel.specs.declared.rows.KernelClass.{KernelClass}
+use Rattle.s80_kernel.specs.Text.{kernel_text}
 use Rattle.s80_change.specs.Definition.{split_names}
 use Rattle.s80_class.specs.declared.entry.ClassEntry.{ClassEntry}
 use Rattle.s80_class.specs.Classes.{Name}
@@ -11,8 +12,9 @@ use Rattle.s80_dict.specs.Table.{MethodsValue, methods_at, put_at}
 use Rattle.s80_kernel_methods.specs.declared.methods.KernelMethod.{KernelMethod}
 use Rattle.s80_state.specs.Kernel.{kind_of, kernel_classes}
 use Rattle.s80_state.specs.Limits.{IsWithin}
-use Rattle.s80_state.specs.State.{side_of}
-use Rattle.s80_state.specs.System.{Entry}
+use Rattle.s80_state.specs.State.{MethodRow, side_of}
+use Rattle.s80_state.specs.Entries.{Entry, row_in}
+use Rattle.s80_state.specs.Codes.{HasCode}
 
 -- the number of the class of this name, if it is there; no name stands for none
 abbrev pub IsFoundAbove : Table → Name → Option ℕ → Type 0
@@ -38,13 +40,16 @@ pub record HasClassesAlone (table : Table) (methods : MethodsValue Entry) : Type
   pub count : length methods.sides ≡ length table.names
   pub none : (n : ℕ) (s : Side) → methods_at methods n s ≡ map.empty
 
--- the entry of a method as the code has it
-abbrev pub entry_held : KernelMethod → Entry
-entry_held m = record { category = codes "kernel"; from_kernel = true; position = m.position; length = m.length; code = tt }
+-- what the state has of a method
+abbrev pub row_held : KernelMethod → MethodRow
+row_held m = record { category = codes "kernel"; source = slice_range kernel_text m.position (m.position + m.length); from_kernel = true; position = m.position; length = m.length }
 
--- the dictionary of the method's class and side takes it, and the others are as before
+-- the dictionary of the method's class and side takes it with its code, and the others are as before
 pub record TakesMethod (table : Table) (m : KernelMethod) (before now : MethodsValue Entry) : Type 0 where
   pub number : ℕ
   pub named : IsNumberOf table.names number m.class_name.now
   pub only : (c : ℕ) → IsNumberOf table.names c m.class_name.now → c ≡ number
-  pub methods : (n : ℕ) (s : Side) → methods_at now n s ≡ put_at (methods_at before) number (side_of m.on_class_side) m.selector.now (entry_held m) n s
+  pub entry : Entry
+  pub row : row_in entry ≡ row_held m
+  pub code : HasCode table.classes m.class_name.now (side_of m.on_class_side) m.selector.now entry
+  pub methods : (n : ℕ) (s : Side) → methods_at now n s ≡ put_at (methods_at before) number (side_of m.on_class_side) m.selector.now entry n s

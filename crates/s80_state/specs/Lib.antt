@@ -7,6 +7,8 @@ pub mod Accept
 pub mod List
 pub mod Limits
 pub mod Named
+pub mod Entries
+pub mod Codes
 pub mod System
 pub mod Entry
 pub mod Method

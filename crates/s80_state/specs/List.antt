@@ -1,5 +1,5 @@
 -- The list of changes: the state that it makes, and what may be added to it.
-use Rattle.std.specs.Prelude.{ℕ, ◌+◌, nat_le, if◌then◌else◌, List, [], ◌∷◌, ◌++◌, length, Option, Some, None, Result, Ok, Err}
+use Rattle.std.specs.Prelude.{◌≡◌, ℕ, ◌+◌, nat_le, if◌then◌else◌, List, [], ◌∷◌, ◌++◌, length, Option, Some, None, Result, Ok, Err}
 use Rattle.s80_block.specs.declared.change.Change.{Change}
 use Rattle.s80_change.specs.declared.refusal.Refusal.{Refusal}
 use Rattle.s80_change.specs.declared.refusal.Refusal.TheVariants.{LogFull}
@@ -28,6 +28,10 @@ state_of changes = state_from kernel_state 0 changes
 
 abbrev pub classes_of : List Change → Classes
 classes_of changes = (state_of changes).classes
+
+-- these are the classes of some list
+abbrev pub AreOfList : Classes → Type 0
+AreOfList classes = (changes : List Change) × (classes ≡ classes_of changes)
 
 abbrev pub IsAccepted : Result State Refusal → Type 0
 IsAccepted (Ok state) = Unit {0}

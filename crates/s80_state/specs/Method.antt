@@ -17,7 +17,10 @@ use Rattle.s80_block.specs.Block.{block}
 use Rattle.s80_class.specs.Table.{IsNumberOf}
 use Rattle.s80_state.specs.declared.step.PlacedMethod.{PlacedMethod}
 use Rattle.s80_state.specs.Accept.{above, kernel_row, len_with, method_row}
-use Rattle.s80_state.specs.System.{Entry, SystemState, entry_of, offset_in_block}
+use Rattle.s80_state.specs.State.{MethodRow}
+use Rattle.s80_state.specs.Entries.{row_in}
+use Rattle.s80_state.specs.Codes.{HasCode}
+use Rattle.s80_state.specs.System.{SystemState, offset_in_block}
 
 -- the row of the kernel that a method is
 pub record IsKernelMethod (m : MethodChange) (selector : List ℕ) (own : KernelMethod) : Type 0 where
@@ -27,9 +30,9 @@ pub record IsKernelMethod (m : MethodChange) (selector : List ℕ) (own : Kernel
   pub position : own.position ≡ row.position
   pub size : own.length ≡ length row.source
 
--- the entry of a method, whose position in the log is counted from the beginning of its block
-abbrev pub entry_for : MethodChange → List ℕ → Entry
-entry_for m selector = entry_of (method_row m 0 (kernel_row m selector))
+-- a method as the state has it, whose position in the log is counted from the beginning of its block
+abbrev pub row_for : MethodChange → List ℕ → MethodRow
+row_for m selector = method_row m 0 (kernel_row m selector)
 
 -- it takes its selector on its side of its class
 pub record TakesPlace (system : SystemState) (m : MethodChange) (selector : List ℕ) (placed : PlacedMethod) : Type 0 where
@@ -39,7 +42,8 @@ pub record TakesPlace (system : SystemState) (m : MethodChange) (selector : List
   pub only : (c : ℕ) → IsNumberOf system.table.names c m.class_name → c ≡ placed.number
   pub there : map.contains_key system.table.classes m.class_name ≡ true
   pub few : above 16384 ManyMethods (len_with selector (methods_at system.methods placed.number m.side)) ≡ None
-  pub entry : placed.entry ≡ entry_for m selector
+  pub row : row_in placed.entry ≡ row_for m selector
+  pub code : HasCode system.table.classes m.class_name m.side selector placed.entry
   pub near : offset_in_block placed.entry ≤ length (block (changes.Method m))
 
 -- why a method of this selector is refused in the class of this number, if it is

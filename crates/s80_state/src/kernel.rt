@@ -1,18 +1,30 @@
 // The classes and methods before any change.
-ghost use Rattle.std.specs.Prelude.{◌≡◌, true, codes, length, IfOk, OnOk};
+ghost use Rattle.std.specs.Prelude.{◌≡◌, ◌+◌, ◌≤◌, true, codes, length, IfOk, OnOk};
 ghost use Rattle.std.specs.FinMap as map;
 ghost use Rattle.s80_state.specs.Kernel.{kind_of};
 ghost use Rattle.s80_state.specs.State.{kernel_state, side_of};
 ghost use Rattle.s80_state.specs.System.{IsSystemOf};
-ghost use Rattle.s80_state.specs.Boot.{HasClassesAlone, IsKernelEntry, IsFoundAbove, TakesMethod, entry_held};
+ghost use Rattle.s80_kernel.specs.Text.{kernel_text};
+ghost use Rattle.s80_section.specs.Check.{IsCheckOf};
+ghost use Rattle.s80_section.specs.declared.source_check.SourceCheck.TheVariants.{Fits};
+ghost use Rattle.s80_state.specs.Boot.{HasClassesAlone, IsKernelEntry, IsFoundAbove, TakesMethod, row_held};
+ghost use Rattle.s80_state.specs.Codes.{AreCodes};
+ghost use Rattle.s80_state.specs.Entries.{row_in};
+ghost use Rattle.s80_state.specs.Limits.{IsWithin};
 
+use crate::code::code_of;
 use crate::system::System;
 use s80_base::{Names, OutOfMemory, Side, Text};
 use s80_change::split_names;
 use s80_class::{ClassEntry, ClassTable, Kind};
 use s80_dict::{MethodEntry, MethodTable};
-use s80_kernel::{KernelClass, class_rows};
-use s80_kernel_methods::{KernelMethod, kernel_methods_are_of_kernel_classes, method_rows};
+use s80_kernel::{KernelClass, class_rows, kernel_text};
+use s80_kernel_methods::{
+    KernelMethod, kernel_methods_are_of_kernel_classes, kernel_sources_are_plain,
+    kernel_sources_stand_in_the_text, method_rows,
+};
+use s80_kernel_trees::kernel_sources_fit;
+use s80_verify::Verified;
 use std::alloc::Global;
 
 /// A system whose classes and methods are those of the kernel.
@@ -32,13 +44,17 @@ pub fn boot(alloc: Global) -> Result<System, OutOfMemory>
 fn put_kernel_methods(
     alloc: Global,
     classes: &ClassTable,
-    methods: &mut MethodTable<()>,
+    methods: &mut MethodTable<Verified>,
 ) -> Result<(), OutOfMemory>
     requires { HasClassesAlone classes.now methods.old }
     ensures count { length methods.new.sides ≡ length methods.old.sides }
     ensures system { OnOk result (IsSystemOf (record { table = classes.now; methods = methods.new }) kernel_state) }
+    ensures codes { OnOk result (AreCodes classes.now methods.new) }
 {
     kernel_methods_are_of_kernel_classes();
+    kernel_sources_stand_in_the_text();
+    kernel_sources_are_plain();
+    kernel_sources_fit();
     for method in method_rows() {
         put_kernel_method(alloc, classes, methods, method)?;
     }
@@ -46,7 +62,7 @@ fn put_kernel_methods(
 }
 
 /// The classes of the kernel, and for each its dictionaries without methods.
-fn booted_classes(alloc: Global) -> Result<(ClassTable, MethodTable<()>), OutOfMemory>
+fn booted_classes(alloc: Global) -> Result<(ClassTable, MethodTable<Verified>), OutOfMemory>
     ensures { IfOk result (λ p. HasClassesAlone p.0 p.1) }
 {
     let mut classes = ClassTable::empty(alloc);
@@ -65,10 +81,14 @@ fn booted_classes(alloc: Global) -> Result<(ClassTable, MethodTable<()>), OutOfM
 fn put_kernel_method(
     alloc: Global,
     classes: &ClassTable,
-    methods: &mut MethodTable<()>,
+    methods: &mut MethodTable<Verified>,
     method: &KernelMethod,
 ) -> Result<(), OutOfMemory>
     requires there { map.contains_key classes.now.classes method.now.class_name.now ≡ true }
+    requires within { IsWithin classes.now.classes }
+    requires stands { method.now.position + method.now.length ≤ length kernel_text }
+    requires short { method.now.length ≤ 65535 }
+    requires fits { IsCheckOf (row_held method.now).source (Fits method.now.selector.now) }
     requires count { length methods.old.sides ≡ length classes.now.names }
     ensures count { length methods.new.sides ≡ length methods.old.sides }
     ensures put { OnOk result (TakesMethod classes.now method.now methods.old methods.new) }
@@ -76,10 +96,12 @@ fn put_kernel_method(
     let class_name = Text::from_bytes(alloc, method.class_name.as_bytes())?;
     let selector = Text::from_bytes(alloc, method.selector.as_bytes())?;
     let room = selector.copy(alloc)?;
-    let entry = method_entry(alloc, method)?;
+    let source = source_of(alloc, method)?;
     let side = side_of(method.on_class_side);
     match classes.find(&class_name) {
         Some(number) => {
+            let code = code_of(alloc, classes, number, side, &source)?;
+            let entry = method_entry(alloc, method, source, code)?;
             methods.make_room(number, side, room)?;
             methods.insert(number, side, &selector, entry);
             Ok(())
@@ -88,16 +110,34 @@ fn put_kernel_method(
     }
 }
 
-/// The entry of a method of the kernel.
-fn method_entry(alloc: Global, method: &KernelMethod) -> Result<MethodEntry<()>, OutOfMemory>
-    ensures { IfOk result (λ entry. entry ≡ entry_held method.now) }
+/// The source of a method of the kernel.
+fn source_of(alloc: Global, method: &KernelMethod) -> Result<Text, OutOfMemory>
+    requires { method.now.position + method.now.length ≤ length kernel_text }
+    ensures { IfOk result (λ source. source ≡ (row_held method.now).source) }
+{
+    let text = kernel_text();
+    let end = method.position + method.length;
+    Text::from_bytes(alloc, &text[method.position as usize..end as usize])
+}
+
+/// The entry of a method of the kernel, with its source and the code of that.
+fn method_entry(
+    alloc: Global,
+    method: &KernelMethod,
+    source: Text,
+    code: Verified,
+) -> Result<MethodEntry<Verified>, OutOfMemory>
+    requires { source ≡ (row_held method.now).source }
+    ensures row { IfOk result (λ entry. row_in entry ≡ row_held method.now) }
+    ensures code { IfOk result (λ entry. entry.code ≡ code) }
 {
     Ok(MethodEntry {
         category: Text::from_bytes(alloc, b"kernel")?,
+        source,
         from_kernel: true,
         position: method.position,
         length: method.length,
-        code: (),
+        code,
     })
 }
 

@@ -2,10 +2,12 @@
 #![tactic(auto)]
 
 mod checks;
+mod code;
 mod entry;
 mod kernel;
 mod laws;
 mod method;
+mod recompile;
 mod step;
 mod system;
 
@@ -17,5 +19,7 @@ pub use laws::{
 pub use step::{Placed, PlacedMethod, Step};
 pub use system::System;
 
+#[cfg(test)]
+mod tests_codes;
 #[cfg(test)]
 mod tests_kernel;

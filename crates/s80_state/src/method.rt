@@ -6,10 +6,15 @@ ghost use Rattle.s80_block.specs.Block.{block};
 ghost use Rattle.s80_chunk.specs.Chunks.{spell};
 ghost use Rattle.s80_kernel.specs.Text.{kernel_text};
 ghost use Rattle.s80_state.specs.Accept.{kernel_row, len_with, on_class_side, source_offset};
-ghost use Rattle.s80_state.specs.Method.{IsKernelMethod, PlacesAt, PlacesIn, entry_for};
-ghost use Rattle.s80_state.specs.System.{offset_in_block};
+ghost use Rattle.s80_section.specs.Check.{IsCheckOf};
+ghost use Rattle.s80_section.specs.declared.source_check.SourceCheck.TheVariants.{Fits};
+ghost use Rattle.s80_state.specs.Entries.{row_in};
+ghost use Rattle.s80_state.specs.Limits.{IsWithin};
+ghost use Rattle.s80_state.specs.Method.{IsKernelMethod, PlacesAt, PlacesIn, row_for};
+ghost use Rattle.s80_state.specs.System.{IsChecked, offset_in_block};
 
 use crate::checks::above;
+use crate::code::code_of;
 use crate::entry::class_named;
 use crate::step::PlacedMethod;
 use s80_base::{OutOfMemory, Side, Text};
@@ -23,6 +28,7 @@ use s80_kernel_methods::{
     KernelMethod, find_method, found_methods_are_those_named, kernel_sources_stand_in_the_text,
 };
 use s80_section::{SectionHead, SourceCheck, copy_refusal, head_text};
+use s80_verify::Verified;
 use std::alloc::Global;
 
 /// The greatest number of methods on one side of a class.
@@ -35,10 +41,12 @@ const KERNEL: &[u8] = b"kernel";
 pub(crate) fn placed_method(
     alloc: Global,
     classes: &ClassTable,
-    methods: &MethodTable<()>,
+    methods: &MethodTable<Verified>,
     method: &Method,
 ) -> Result<PlacedMethod, Refused>
-    requires { length methods.now.sides ≡ length classes.now.names }
+    requires dictionaries { length methods.now.sides ≡ length classes.now.names }
+    requires within { IsWithin classes.now.classes }
+    requires checked { IsChecked (changes.Method method.now) }
     ensures { PlacesIn (record { table = classes.now; methods = methods.now }) method.now method.now.check result }
 {
     match &method.check {
@@ -51,11 +59,14 @@ pub(crate) fn placed_method(
 fn placed_at(
     alloc: Global,
     classes: &ClassTable,
-    methods: &MethodTable<()>,
+    methods: &MethodTable<Verified>,
     method: &Method,
     selector: &Text,
 ) -> Result<PlacedMethod, Refused>
-    requires { length methods.now.sides ≡ length classes.now.names }
+    requires dictionaries { length methods.now.sides ≡ length classes.now.names }
+    requires within { IsWithin classes.now.classes }
+    requires short { length method.now.source ≤ 65535 }
+    requires fits { IsCheckOf method.now.source (Fits selector.now) }
     ensures { PlacesAt (record { table = classes.now; methods = methods.now }) method.now selector.now result }
 {
     let Some((number, _)) = class_named(classes, &method.class_name) else {
@@ -66,16 +77,17 @@ fn placed_at(
     if let Some(refusal) = above(METHOD_LIMIT, ManyKind::Methods, count) {
         return Err(Refused::Refusal(refusal));
     }
+    let code = code_of(alloc, classes, number, method.side, &method.source)?;
     Ok(PlacedMethod {
         number,
         side: method.side,
         selector: selector.copy(alloc)?,
-        entry: entry(alloc, method, selector)?,
+        entry: entry(alloc, method, selector, code)?,
     })
 }
 
 /// How many methods there would be with one of this selector.
-fn count_with(dict: &MethodDict<()>, selector: &Text) -> Result<usize, OutOfMemory>
+fn count_with(dict: &MethodDict<Verified>, selector: &Text) -> Result<usize, OutOfMemory>
     ensures { IfOk result (λ count. count ≡ len_with selector.now dict.now.methods) }
 {
     match dict.get(selector) {
@@ -84,25 +96,34 @@ fn count_with(dict: &MethodDict<()>, selector: &Text) -> Result<usize, OutOfMemo
     }
 }
 
-/// The entry of a method. The position of a source in the log is counted from the beginning of its block.
-fn entry(alloc: Global, method: &Method, selector: &Text) -> Result<MethodEntry<()>, OutOfMemory>
-    ensures entry { IfOk result (λ entry. entry ≡ entry_for method.now selector.now) }
+/// The entry of a method with its code. The position of a source in the log is counted from the beginning of its block.
+fn entry(
+    alloc: Global,
+    method: &Method,
+    selector: &Text,
+    code: Verified,
+) -> Result<MethodEntry<Verified>, OutOfMemory>
+    ensures row { IfOk result (λ entry. row_in entry ≡ row_for method.now selector.now) }
+    ensures source { IfOk result (λ entry. entry.source ≡ method.now.source) }
+    ensures code { IfOk result (λ entry. entry.code ≡ code) }
     ensures near { IfOk result (λ entry. offset_in_block entry ≤ length (block (changes.Method method.now))) }
 {
     match kernel_method(method, selector) {
         Some(own) => Ok(MethodEntry {
             category: method.category.copy(alloc)?,
+            source: method.source.copy(alloc)?,
             from_kernel: true,
             position: own.position,
             length: own.length,
-            code: (),
+            code,
         }),
         None => Ok(MethodEntry {
             category: method.category.copy(alloc)?,
+            source: method.source.copy(alloc)?,
             from_kernel: false,
             position: source_offset(alloc, method)?,
             length: spelled_length(alloc, &method.source)?,
-            code: (),
+            code,
         }),
     }
 }

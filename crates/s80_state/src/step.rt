@@ -2,6 +2,7 @@
 use s80_base::{Side, Text};
 use s80_class::ClassEntry;
 use s80_dict::MethodEntry;
+use s80_verify::Verified;
 
 /// An entry that is to be put among the classes.
 #[derive(Debug, Drop)]
@@ -9,6 +10,8 @@ pub struct Placed {
     /// The class whose entry it replaces; a new class where there is none.
     pub(crate) number: Option<u32>,
     pub(crate) entry: ClassEntry,
+    /// The methods of the class and of its descendants, with their code for the classes with the entry.
+    pub(crate) recompiled: Vec<PlacedMethod>,
 }
 
 /// A method that is to be put into a dictionary in which its selector has room.
@@ -18,7 +21,7 @@ pub struct PlacedMethod {
     pub(crate) side: Side,
     pub(crate) selector: Text,
     /// The position of a source in the log is counted from the beginning of its block.
-    pub(crate) entry: MethodEntry<()>,
+    pub(crate) entry: MethodEntry<Verified>,
 }
 
 /// What is needed to install a change. Installing takes no memory.

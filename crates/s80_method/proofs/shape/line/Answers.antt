@@ -29,10 +29,10 @@ loop-preserved c =
 
 pub loop-init : goal.loop-init
 loop-init c = record {
-  size = c.count-end.ensures;
+  size = c.count-end.ensures.count;
   live = c.requires;
   classes = search rules;
-  line = λ name is. ap (λ xs. told c.args.classes.now xs (left c.args.classes.now c.count-end.result 0 (Some c.args.c))) c.new-line.ensures.items ∙ starts c.args.classes.now c.count-end.result c.args.c name c.count-end.ensures is;
+  line = λ name is. ap (λ xs. told c.args.classes.now xs (left c.args.classes.now c.count-end.result 0 (Some c.args.c))) c.new-line.ensures.items ∙ starts c.args.classes.now c.count-end.result c.args.c name c.count-end.ensures.count is;
 }
 
 pub returns-clause-line : goal.returns-clause-line

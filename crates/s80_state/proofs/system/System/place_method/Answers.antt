@@ -3,6 +3,7 @@ use Rattle.std.proofs.lemmas.Result.{err_from_is_err_and}
 use Rattle.s80_dict.specs.Dict.{HasRoom}
 use Rattle.s80_dict.specs.Table.{room_at}
 use Rattle.s80_state.specs.System.{IsSystemOf, SystemState}
+use Rattle.s80_state.proofs.Codes.{takes_code}
 use Rattle.s80_state.proofs.Own.{number_there}
 use Rattle.s80_state.proofs.Preparing.{fits_where, method_prepared, method_refused}
 use Rattle.s80_state.proofs.Stands.{still}
@@ -26,7 +27,7 @@ returns-clause-ready c =
     let here : SystemState = record { table = c.self.inside.classes; methods = c.self.inside.methods } in
     let f = fits_where here c.args.method.now c.in_ok-placed.placed c.in_ok-placed.ensures in
     let there = number_there here c.in_ok-placed.placed.number c.args.method.now.class_name c.self.invariant f.2.number in
-    (record { number = omega (arith, there, c.in_ok-make_room.ensures.count); room = subst (λ k. HasRoom (room_at c.make_room.new.self c.in_ok-placed.placed.number c.in_ok-placed.placed.side) k) c.in_ok-copy.ensures c.in_ok-make_room.ensures.ok }, f.2.near)
+    (record { number = omega (arith, there, c.in_ok-make_room.ensures.count); room = subst (λ k. HasRoom (room_at c.make_room.new.self c.in_ok-placed.placed.number c.in_ok-placed.placed.side) k) c.in_ok-copy.ensures c.in_ok-make_room.ensures.ok; code = takes_code here c.args.method.now f.0 c.in_ok-placed.placed f.2 }, f.2.near)
 
 pub returns-clause-answer : goal.returns-clause-answer
 returns-clause-answer c = λ state is.

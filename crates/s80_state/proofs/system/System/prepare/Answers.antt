@@ -1,7 +1,9 @@
-use Rattle.std.proofs.Common.{sym, subst, Ok, Err}
+use Rattle.std.proofs.Common.{sym, subst, Ok, Err, arith}
 use Rattle.std.proofs.lemmas.Result.{err_from_is_err_and}
 use Rattle.s80_state.specs.declared.step.Step.TheVariants as steps
+use Rattle.s80_state.specs.List.{AreOfList}
 use Rattle.s80_state.specs.System.{Prepares}
+use Rattle.s80_state.proofs.Lists.{of_list_more}
 use Rattle.s80_state.proofs.Preparing.{class_prepared, nothing_prepared}
 use Rattle.s80_state.proofs.system.System.prepare.Goals as goal
 
@@ -22,3 +24,9 @@ returns-in_ok-place_method-in-Method-clause-answer c = λ state is.
 
 pub returns-in-DoIt-clause-answer : goal.returns-in-DoIt-clause-answer
 returns-in-DoIt-clause-answer c = λ state is. subst (λ change. Prepares state change c.args.self.now (Ok steps.Nothing)) (sym c.in-DoIt.is) (nothing_prepared c.args.self.now state c.in-DoIt.text is)
+
+pub returns-in_ok-place-in-Define-clause-ready : goal.returns-in_ok-place-in-Define-clause-ready
+returns-in_ok-place-in-Define-clause-ready c =
+    let place = c.in_ok-place-in-Define in
+    let d = c.in-Define.definition in
+    ((place.ensures.answer.1, subst AreOfList (sym place.ensures.answer.2) (of_list_more c.args.self.now.table.classes d place.ensures.of_list place.ensures.answer.0)), omega arith)
