@@ -5,11 +5,12 @@ use Rattle.std.proofs.Math.ListN.{drop_of_length-le}
 use Rattle.std.proofs.Math.Seq.{drop-append_seam}
 use Rattle.s80_base.specs.declared.outside.Failed.{Failed}
 use Rattle.s80_block.specs.declared.change.Change.{Change}
+use Rattle.s80_block.specs.declared.change.Change.TheVariants.{Define, Method, DoIt}
 use Rattle.s80_block.specs.Block.{block, blocks, log_limit, IsLawful, IsList}
 use Rattle.s80_disk.specs.Image.{Image}
 use Rattle.s80_state.specs.State.{State, kernel_state}
 use Rattle.s80_state.specs.Accept.{accept}
-use Rattle.s80_state.specs.System.{SystemState, IsSystemOf}
+use Rattle.s80_state.specs.System.{SystemState, IsChecked, IsSystemOf}
 use Rattle.s80_state.specs.List.{IsBuilt, state_of, state_after, refusal_to}
 use Rattle.s80_state.proofs.Lists.{blocks_more, built_more, state_is_more}
 use Rattle.s80_log.specs.Log.{LogEnd, log_file, held_in}
@@ -23,6 +24,12 @@ use Rattle.s80_keeper.specs.declared.start.StartFault.TheVariants as faults
 use Rattle.s80_keeper.specs.Start.{fault_of_block, IfStartDisk}
 use Rattle.s80_keeper.specs.Reading.{AreReplayed, Accepts}
 use Rattle.s80_keeper.proofs.Accepted.{refuses_none, makes_so, unrefused, refuses}
+
+-- a lawful change may be prepared
+pub lawful_checked : (change : Change) → IsLawful change → IsChecked change
+lawful_checked (Define d) lawful = tt
+lawful_checked (Method m) lawful = (lawful.check, lawful.short)
+lawful_checked (DoIt text) lawful = tt
 
 -- a change is accepted that makes this state, and this is a system of it
 pub accepted_so : (before after : State) (at : ℕ) (change : Change) (now : SystemState) → accept change at before ≡ Ok after → at + length (block change) ≤ log_limit → IsSystemOf now after → (refusal_to before at change ≡ None) × IsSystemOf now (state_after change at before)

@@ -9,7 +9,7 @@ use Rattle.s80_class.specs.Table.{IsNumberOf}
 use Rattle.s80_dict.specs.Table.{methods_at}
 use Rattle.s80_disk.specs.Image.{Image}
 use Rattle.s80_state.specs.State.{MethodRow}
-use Rattle.s80_state.specs.System.{Entry, entry_of}
+use Rattle.s80_state.specs.Entries.{Entry, row_in}
 use Rattle.s80_state.specs.List.{state_of}
 use Rattle.s80_state.specs.Source.{AllStand, StandsAt, text_for}
 use Rattle.s80_log.specs.Log.{held_in}
@@ -42,20 +42,6 @@ read_by files keeper found entry result there is = subst (λ f. IsReadBy files k
 
 -- ---- by the list
 
--- an entry is that of a row
-record HasRow (found : Option MethodRow) (entry : Entry) : Type 0 where
-  row : MethodRow
-  there : found ≡ Some row
-  same : entry ≡ entry_of row
-
-has_row : (found : Option MethodRow) (entry : Entry) → Some entry ≡ option_map entry_of found → HasRow found entry
-has_row None entry e = absurd cc
-has_row (Some row) entry e = record { row = row; there = refl; same = cc }
-
-no_row : (found : Option MethodRow) → None ≡ option_map entry_of found → None ≡ option_map (λ row. row.source) found
-no_row None e = refl
-no_row (Some row) e = absurd cc
-
 this_so : (source : List ℕ) (result : Result (List ℕ) BlockFault) → IsSource source result → IsThis (Some source) (answered result)
 this_so source (Ok found) is = ap Some is
 this_so source (Err block_faults.Memory) is = tt
@@ -70,14 +56,17 @@ module _ (files : Image) (keeper : KeeperState) (changes : List Change) (knows :
   abbrev entry_there : Option Entry
   entry_there = map.get (methods_at keeper.system.methods class side) selector
 
-  entry_is : entry_there ≡ option_map entry_of row_there
-  entry_is = (knows.system.methods class name side named).each selector
+  row_is : option_map row_in entry_there ≡ row_there
+  row_is = (knows.system.methods class name side named).each selector
 
   pub no_source : entry_there ≡ None → IsThis (option_map (λ row. row.source) row_there) (Ok None)
-  no_source none = no_row row_there (sym none ∙ entry_is)
+  no_source none =
+      let no_row : None ≡ row_there = ap (λ (e : Option Entry). option_map row_in e) (sym none) ∙ row_is in
+      ap (λ (found : Option MethodRow). option_map (λ row. row.source) found) no_row
 
-  pub source_is : AllStand (blocks changes) (state_of changes) → (entry : Entry) → entry_there ≡ Some entry → (result : Result (List ℕ) BlockFault) → ((row : MethodRow) → StandsAt (held_in files keeper.log) row → entry ≡ entry_of row → IsSource row.source result) → IsThis (option_map (λ row. row.source) row_there) (answered result)
+  pub source_is : AllStand (blocks changes) (state_of changes) → (entry : Entry) → entry_there ≡ Some entry → (result : Result (List ℕ) BlockFault) → ((row : MethodRow) → StandsAt (held_in files keeper.log) row → row_in entry ≡ row → IsSource row.source result) → IsThis (option_map (λ row. row.source) row_there) (answered result)
   source_is all entry there result reads =
-      let own = has_row row_there entry (sym there ∙ entry_is) in
-      let stands = subst (λ log. StandsAt log own.row) (sym knows.log) (all name side selector own.row own.there) in
-      subst (λ found. IsThis (option_map (λ row. row.source) found) (answered result)) (sym own.there) (this_so own.row.source result (reads own.row stands own.same))
+      let row : MethodRow = row_in entry in
+      let own : row_there ≡ Some row = sym row_is ∙ ap (λ (e : Option Entry). option_map row_in e) there in
+      let stands = subst (λ log. StandsAt log row) (sym knows.log) (all name side selector row own) in
+      subst (λ found. IsThis (option_map (λ row. row.source) found) (answered result)) (sym own) (this_so row.source result (reads row stands refl))

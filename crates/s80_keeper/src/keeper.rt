@@ -2,7 +2,7 @@
 ghost use Rattle.std.specs.Prelude.{◌≡◌, ◌≤◌, length, IfOk};
 ghost use Rattle.s80_block.specs.Block.{block as block_of};
 ghost use Rattle.s80_state.specs.State.{State};
-ghost use Rattle.s80_state.specs.System.{IsReady, IsSystemOf, offset_of};
+ghost use Rattle.s80_state.specs.System.{IsChecked, IsReady, IsSystemOf, offset_of};
 ghost use Rattle.s80_keeper.specs.Answers.{Prepares};
 
 use s80_base::{Failed, Text};
@@ -47,11 +47,15 @@ pub struct Prepared {
 
 impl Model for Prepared {
     ghost use Rattle.std.specs.Prelude.{◌≡◌, ◌≤◌, length};
+    ghost use Rattle.std.specs.Coded.{codes};
+    ghost use Rattle.s80_base.specs.contracts.literal.Literal as literal;
     ghost use Rattle.s80_block.specs.Block.{block as block_of};
     ghost use Rattle.s80_state.specs.System.{offset_of};
     ghost use Rattle.s80_keeper.specs.Answers.{PreparedChange};
 
     ghost Value = { PreparedChange };
+
+    ghost coded = { Prim.hlevel (codes, literal.the_row.coded) };
 
     ghost view = { λ p. record { change = p.change; step = p.step } };
 
@@ -72,6 +76,7 @@ impl Prepared {
 impl Keeper {
     /// Prepares a change to be kept, or says why the list refuses it. The list stays.
     pub fn prepare(&mut self, alloc: Global, change: Change) -> Result<Prepared, Refused>
+        requires { IsChecked change }
         ensures answer { (state : State) → IsSystemOf self.old.system state → Prepares state self.old.log.end change self.new.system result }
         ensures ready { IfOk result (λ prepared. IsReady self.new.system prepared.step) }
         ensures same { self.new ≡ record self.old { system = self.new.system } }

@@ -11,7 +11,7 @@ ghost use Rattle.s80_disk.specs.Image.{Only};
 ghost use Rattle.s80_disk.specs.Moments.{Beside, LeavesOnly};
 ghost use Rattle.s80_mark.specs.Found.{IsLawfulFound, longer_log};
 ghost use Rattle.s80_state.specs.State.{State};
-ghost use Rattle.s80_state.specs.System.{IsSystemOf};
+ghost use Rattle.s80_state.specs.System.{IsChecked, IsSystemOf};
 ghost use Rattle.s80_log.specs.Log.{log_file, held_in};
 ghost use Rattle.s80_keeper.specs.Standing.{NamesNoImage, ReadsFor, StandsFor, LeavesFor};
 ghost use Rattle.s80_keeper.specs.Start.{HasMark, IsStart, Started, StartLeaves, IfStartDisk};
@@ -237,7 +237,8 @@ fn accept_owned(
     at: u64,
     next: u64,
 ) -> Result<(), StartFault>
-    requires { next ≡ at + length (block change) }
+    requires next { next ≡ at + length (block change) }
+    requires checked { IsChecked change }
     ensures answer { (state : State) → IsSystemOf system.old state → Accepts state system.new at change result }
     ensures offline { IfStartDisk result (λ failed. ⊥) }
 {
@@ -252,7 +253,8 @@ fn accept(
     at: u64,
     next: u64,
 ) -> Result<(), StartFault>
-    requires { next ≡ at + length (block change.now) }
+    requires next { next ≡ at + length (block change.now) }
+    requires checked { IsChecked change.now }
     ensures answer { (state : State) → IsSystemOf system.old state → Accepts state system.new at change.now result }
     ensures offline { IfStartDisk result (λ failed. ⊥) }
 {

@@ -1,7 +1,7 @@
 // Folders that are started on, and commits that are stopped at each of their calls, with ample memory.
 // That the log is full as it is read again wants a gibibyte: no test here has one.
 ghost use Rattle.std.specs.Prelude.{IfOk};
-ghost use Rattle.s80_state.specs.System.{IsReady};
+ghost use Rattle.s80_state.specs.System.{IsChecked, IsReady};
 
 mod sources;
 
@@ -349,7 +349,9 @@ fn after_a_fault_no_call_is_made(rt: HostRuntime) -> Result<(), Fail> {
 }
 
 /// The definition of a class under a superclass.
-fn definition(alloc: Global, superclass: &[u8], class_name: &[u8]) -> Result<Change, OutOfMemory> {
+fn definition(alloc: Global, superclass: &[u8], class_name: &[u8]) -> Result<Change, OutOfMemory>
+    ensures { IfOk result IsChecked }
+{
     let definition = Definition {
         class_name: Text::from_bytes(alloc, class_name)?,
         superclass: Text::from_bytes(alloc, superclass)?,

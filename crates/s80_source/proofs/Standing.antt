@@ -2,7 +2,8 @@
 use Rattle.std.proofs.Common.{◌≡◌, ℕ, Bool, List, Result, Ok, Err, sym, ◌∙◌, subst}
 use Rattle.s80_state.specs.State.{MethodRow}
 use Rattle.s80_state.specs.Source.{StandsAt, text_for}
-use Rattle.s80_state.specs.System.{Entry, entry_of}
+use Rattle.s80_state.specs.Entries.{row_in}
+use Rattle.s80_dict.specs.declared.dict.MethodEntry.{MethodEntry}
 use Rattle.s80_log.specs.declared.read.BlockFault.{BlockFault}
 use Rattle.s80_log.specs.declared.read.BlockFault.TheVariants as block_faults
 use Rattle.s80_source.specs.Read.{IsRead, IsThis}
@@ -15,8 +16,8 @@ of_row log row (Err block_faults.Memory) stands read = tt
 of_row log row (Err (block_faults.Disk failed)) stands read = tt
 of_row log row (Err (block_faults.Bad place)) stands read = read.1 row.source stands.within stands.same
 
--- by the entry of the row, in the text that it names
-pub read_in : (log : List ℕ) (row : MethodRow) (entry : Entry) (result : Result (List ℕ) BlockFault) (from : Bool) → entry.from_kernel ≡ from → StandsAt log row → entry ≡ entry_of row → IsRead (text_for from log) entry.position entry.length result → IsThis row.source result
+-- by an entry of which the state has this row, in the text that it names
+pub read_in : {C : Type 0} (log : List ℕ) (row : MethodRow) (entry : MethodEntry C) (result : Result (List ℕ) BlockFault) (from : Bool) → entry.from_kernel ≡ from → StandsAt log row → row_in entry ≡ row → IsRead (text_for from log) entry.position entry.length result → IsThis row.source result
 read_in log row entry result from names stands is read =
-    let P : Entry → Type 0 = λ e. IsRead (text_for e.from_kernel log) e.position e.length result in
+    let P : MethodRow → Type 0 = λ r. IsRead (text_for r.from_kernel log) r.position r.length result in
     of_row log row result stands (subst P is (subst (λ b. IsRead (text_for b log) entry.position entry.length result) (sym names) read))

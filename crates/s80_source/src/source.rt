@@ -8,7 +8,7 @@ ghost use Rattle.s80_mark.specs.Stays.{StillLeft};
 ghost use Rattle.s80_kernel.specs.Text.{kernel_text};
 ghost use Rattle.s80_state.specs.State.{MethodRow};
 ghost use Rattle.s80_state.specs.Source.{StandsAt, text_for};
-ghost use Rattle.s80_state.specs.System.{entry_of};
+ghost use Rattle.s80_state.specs.Entries.{row_in};
 ghost use Rattle.s80_log.specs.Log.{held_in};
 ghost use Rattle.s80_log.specs.Faults.{IfBad, IfBlockDisk};
 ghost use Rattle.s80_source.specs.Read.{IsRead, IsSpelledAt, IsThis};
@@ -23,16 +23,16 @@ use std::alloc::Global;
 
 /// The source of a method, read where its entry says: in the kernel's text, for which the disk isn't called, or in the log.
 /// A place where no source is spelled within the log's length is a bad one.
-pub fn read_source<D: Disk>(
+pub fn read_source<D: Disk, C>(
     alloc: Global,
     disk: &mut D,
     log: &Log,
-    entry: &MethodEntry<()>,
+    entry: &MethodEntry<C>,
 ) -> Result<Text, BlockFault>
     ensures answer { IsTrue (D.tells disk.old)
         → IsRead (text_for entry.now.from_kernel (held_in (D.reads disk.old) log.now)) entry.now.position entry.now.length result }
     ensures stands { IsTrue (D.tells disk.old) → (row : MethodRow)
-        → StandsAt (held_in (D.reads disk.old) log.now) row → entry.now ≡ entry_of row → IsThis row.source result }
+        → StandsAt (held_in (D.reads disk.old) log.now) row → row_in entry.now ≡ row → IsThis row.source result }
     ensures bad { IfErr result (λ fault. IfBad fault (λ place. place ≡ entry.now.position)) }
 
     ensures kernel { IsTrue entry.now.from_kernel → IsRead kernel_text entry.now.position entry.now.length result }

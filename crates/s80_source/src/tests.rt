@@ -44,6 +44,7 @@ fn entry(
 ) -> Result<MethodEntry<()>, Fail> {
     Ok(MethodEntry {
         category: Text::from_bytes(alloc, b"a")?,
+        source: Text::empty(alloc),
         from_kernel,
         position,
         length,

@@ -21,7 +21,7 @@ use Rattle.std.proofs.lemmas.Map.Text.{is_eq-slice_cmp}
 use Rattle.std.specs.BTreeMap.{insert_entry}
 use Rattle.s80_dict.specs.Dict.{Bytes, Methods}
 use Rattle.s80_state.specs.State.{MethodRow}
-use Rattle.s80_state.specs.System.{AreEntriesOf, Entry, entry_of}
+use Rattle.s80_state.specs.Entries.{AreEntriesOf, Entry, row_in}
 use Rattle.s80_told.specs.Entries.{AreLines, Lines, category_in, line_at, lines_of, shown, spaced, with_line}
 use Rattle.s80_lex.specs.Spelling.{quoted}
 use Rattle.s80_told.specs.Told.{categories, category_at, category_lines, selectors_of}
@@ -272,10 +272,10 @@ no_lines f es is = record {
 
 -- ---- all lines
 
-category_same : (row : Option MethodRow) (entry : Option Entry) → entry ≡ option_map entry_of row
+category_same : (row : Option MethodRow) (entry : Option Entry) → option_map row_in entry ≡ row
     → unwrap_or (option_map (λ (e : Entry). e.category) entry) [] ≡ unwrap_or (option_map (λ (r : MethodRow). r.category) row) []
-category_same None entry is = ap (λ e. unwrap_or (option_map (λ (e : Entry). e.category) e) []) is
-category_same (Some row) entry is = ap (λ e. unwrap_or (option_map (λ (e : Entry). e.category) e) []) is
+category_same row None is = ap (λ o. unwrap_or (option_map (λ (r : MethodRow). r.category) o) []) is
+category_same row (Some entry) is = ap (λ o. unwrap_or (option_map (λ (r : MethodRow). r.category) o) []) is
 
 line_is : (xs : List Bytes) (x : List ℕ) → some_line xs ≡ Some x → x ≡ flat_map spaced xs
 line_is [] x is = absurd (true≢false (sym (ap is_some is)))

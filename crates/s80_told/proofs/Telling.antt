@@ -21,7 +21,8 @@ use Rattle.s80_dict.specs.Dict.{Methods}
 use Rattle.s80_dict.specs.Slots.{DictValue}
 use Rattle.s80_dict.specs.Table.{MethodsValue, dict_at, methods_at}
 use Rattle.s80_state.specs.State.{MethodRow, State}
-use Rattle.s80_state.specs.System.{AreEntriesOf, Entry, HasNumber, IsSystemOf, SystemState, entry_of}
+use Rattle.s80_state.specs.Entries.{AreEntriesOf, Entry, row_in}
+use Rattle.s80_state.specs.System.{HasNumber, IsSystemOf, SystemState}
 use Rattle.s80_told.specs.Entries.{own_entry}
 use Rattle.s80_told.specs.Told.{browsed, class_text, category_lines, definition_of, is_own, methods_text, own_classes, own_methods, own_methods_in, own_methods_of, recovered_text, string_line}
 
@@ -80,9 +81,9 @@ is_own_class name = not (is_kernel_class name)
 abbrev pub is_own_in : Methods Entry → List ℕ → Bool
 is_own_in entries selector = own_entry (map.get entries selector)
 
-own_same : (row : Option MethodRow) (entry : Option Entry) → entry ≡ option_map entry_of row → own_entry entry ≡ is_own row
-own_same None entry is = ap own_entry is
-own_same (Some row) entry is = ap own_entry is
+own_same : (row : Option MethodRow) (entry : Option Entry) → option_map row_in entry ≡ row → own_entry entry ≡ is_own row
+own_same row None is = ap is_own is
+own_same row (Some entry) is = ap is_own is
 
 pub own_in_rows : (entries : Methods Entry) (rows : Methods MethodRow) (names : List (List ℕ)) (count : ℕ) → AreEntriesOf entries rows → names ≡ map.keys entries
     → IsCounted (is_own_in entries) names (length names) count → count ≡ own_methods_in rows

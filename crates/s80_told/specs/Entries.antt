@@ -5,7 +5,7 @@ use Rattle.std.specs.Ordering.{nat_cmp}
 use Rattle.std.specs.Cmp.Lexicographic.{slice_cmp}
 use Rattle.s80_dict.specs.Dict.{Bytes, Methods}
 use Rattle.s80_state.specs.State.{MethodRow}
-use Rattle.s80_state.specs.System.{Entry}
+use Rattle.s80_state.specs.Entries.{Entry}
 use Rattle.s80_told.specs.Told.{categories, selectors_of}
 
 -- whether an entry is of a method that isn't the kernel's

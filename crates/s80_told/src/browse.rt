@@ -4,7 +4,8 @@ ghost use Rattle.std.specs.FinMap as map;
 ghost use Rattle.s80_lex.specs.Spelling.{quoted};
 ghost use Rattle.s80_class.specs.Table.{IsSuperclass, row_of};
 ghost use Rattle.s80_state.specs.State.{State};
-ghost use Rattle.s80_state.specs.System.{AreEntriesOf, IsSystemOf};
+ghost use Rattle.s80_state.specs.Entries.{AreEntriesOf};
+ghost use Rattle.s80_state.specs.System.{IsSystemOf};
 ghost use Rattle.s80_told.specs.Entries.{AreLines, Lines, line_at, lines_of, shown, spaced, with_line};
 ghost use Rattle.s80_told.specs.Told.{browsed, category_lines, class_text, definition_of, string_line};
 
@@ -13,6 +14,7 @@ use s80_change::{Definition, add_quoted, definition_text, joined};
 use s80_class::{ClassEntry, ClassTable};
 use s80_dict::MethodDict;
 use s80_state::System;
+use s80_verify::Verified;
 use std::alloc::Global;
 use std::collections::BTreeMap;
 
@@ -41,7 +43,7 @@ fn add_category_lines(
     alloc: Global,
     text: &mut Text,
     word: &[u8],
-    methods: &MethodDict<()>,
+    methods: &MethodDict<Verified>,
 ) -> Result<(), OutOfMemory>
     ensures { (rows : _) → AreEntriesOf methods.now.methods rows → OnOk result (text.new ≡ text.old ++ category_lines word.now rows) }
 {
@@ -70,7 +72,7 @@ fn add_category_line(
 /// For each category the selectors of its methods in byte order, each behind a space.
 fn selectors_by_category(
     alloc: Global,
-    methods: &MethodDict<()>,
+    methods: &MethodDict<Verified>,
 ) -> Result<BTreeMap<Vec<u8>, Text>, OutOfMemory>
     ensures { (rows : _) → AreEntriesOf methods.now.methods rows → IfOk result (λ lines. shown lines.entries ≡ lines_of rows) }
 {

@@ -1,17 +1,23 @@
 // What is told of systems that a few changes made.
+ghost use Rattle.std.specs.Prelude.{◌≤◌, length, IfOk};
+ghost use Rattle.s80_block.specs.declared.change.Change.TheVariants as changes;
+ghost use Rattle.s80_state.specs.System.{IsChecked};
+
 use crate::browse::browse_text;
 use crate::told::{classes_text, recovered_text};
 use s80_base::{Names, OutOfMemory, Side, Text};
 use s80_block::{Change, Method, block_text};
 use s80_change::{Definition, Kind, split_names};
-use s80_section::SourceCheck;
+use s80_section::check_source;
 use s80_state::{System, boot};
 use std::alloc::Global;
 use std::process::Abort;
 use std::test::Fail;
 
 /// Works a change as if its block stood at the beginning of the log.
-fn work(alloc: Global, system: &mut System, change: &Change) -> Result<(), Fail> {
+fn work(alloc: Global, system: &mut System, change: &Change) -> Result<(), Fail>
+    requires { IsChecked change.now }
+{
     let block = block_text(alloc, change)?;
     let size = block.bytes().len();
     let step = system.prepare(alloc, change)?;
@@ -40,22 +46,33 @@ fn define(
     work(alloc, system, &Change::Define(definition))
 }
 
-/// Puts a method of Account, whose source is said to have this selector.
+/// Puts a method of Account.
 fn put(
     alloc: Global,
     system: &mut System,
     side: Side,
     category: &[u8],
-    selector: &[u8],
-) -> Result<(), Fail> {
-    let method = Method {
+    source: &[u8],
+) -> Result<(), Fail>
+    requires { length source.now ≤ 65535 }
+{
+    let method = method(alloc, side, category, source)?;
+    work(alloc, system, &Change::Method(method))
+}
+
+fn method(alloc: Global, side: Side, category: &[u8], source: &[u8]) -> Result<Method, OutOfMemory>
+    requires { length source.now ≤ 65535 }
+    ensures { IfOk result (λ method. IsChecked (changes.Method method)) }
+{
+    let source = Text::from_bytes(alloc, source)?;
+    let check = check_source(alloc, &source)?;
+    Ok(Method {
         class_name: Text::from_bytes(alloc, b"Account")?,
         side,
         category: Text::from_bytes(alloc, category)?,
-        source: Text::from_bytes(alloc, b"one ^1")?,
-        check: SourceCheck::Fits(Text::from_bytes(alloc, selector)?),
-    };
-    work(alloc, system, &Change::Method(method))
+        source,
+        check,
+    })
 }
 
 /// The kernel's classes, and Account without methods.
@@ -88,13 +105,13 @@ fn methods_are_told_by_category_in_byte_order(rt: HostRuntime) -> Result<(), Fai
     let alloc = rt.alloc();
     let mut system = with_account(alloc)?;
     is_account(&rt, alloc, &system, b"")?;
-    put(alloc, &mut system, Side::Class, b"new", b"make")?;
+    put(alloc, &mut system, Side::Class, b"new", b"make ^1")?;
     is_account(&rt, alloc, &system, b"class 'new': make\n")?;
-    put(alloc, &mut system, Side::Instance, b"b's", b"two")?;
-    put(alloc, &mut system, Side::Instance, b"b's", b"one")?;
-    put(alloc, &mut system, Side::Instance, b"a", b"at:put:")?;
-    put(alloc, &mut system, Side::Instance, b"a", b"at:")?;
-    put(alloc, &mut system, Side::Instance, b"a", b"+")?;
+    put(alloc, &mut system, Side::Instance, b"b's", b"two ^2")?;
+    put(alloc, &mut system, Side::Instance, b"b's", b"one ^1")?;
+    put(alloc, &mut system, Side::Instance, b"a", b"at: a put: b ^b")?;
+    put(alloc, &mut system, Side::Instance, b"a", b"at: a ^a")?;
+    put(alloc, &mut system, Side::Instance, b"a", b"+ a ^a")?;
     is_account(
         &rt,
         alloc,
@@ -107,8 +124,8 @@ fn methods_are_told_by_category_in_byte_order(rt: HostRuntime) -> Result<(), Fai
 fn a_method_stands_in_the_category_it_was_put_into_last(rt: HostRuntime) -> Result<(), Fail> {
     let alloc = rt.alloc();
     let mut system = with_account(alloc)?;
-    put(alloc, &mut system, Side::Instance, b"a", b"one")?;
-    put(alloc, &mut system, Side::Instance, b"", b"one")?;
+    put(alloc, &mut system, Side::Instance, b"a", b"one ^1")?;
+    put(alloc, &mut system, Side::Instance, b"", b"one ^1")?;
     is_account(&rt, alloc, &system, b"'': one\n")
 }
 
@@ -166,10 +183,10 @@ fn what_is_not_the_kernels_is_counted(rt: HostRuntime) -> Result<(), Fail> {
         b"recovered 0 changes, 0 classes, 0 methods\n".as_slice()
     );
     define(alloc, &mut system, b"Account", b"")?;
-    put(alloc, &mut system, Side::Instance, b"a", b"one")?;
-    put(alloc, &mut system, Side::Class, b"a", b"one")?;
-    put(alloc, &mut system, Side::Class, b"b", b"two")?;
-    put(alloc, &mut system, Side::Class, b"c", b"two")?;
+    put(alloc, &mut system, Side::Instance, b"a", b"one ^1")?;
+    put(alloc, &mut system, Side::Class, b"a", b"one ^1")?;
+    put(alloc, &mut system, Side::Class, b"b", b"two ^2")?;
+    put(alloc, &mut system, Side::Class, b"c", b"two ^2")?;
     let found = recovered_text(alloc, 5, &system)?;
     assert_eq!(rt;
         found.bytes(),

@@ -3,7 +3,8 @@ ghost use Rattle.std.specs.Prelude.{◌≡◌, ◌+◌, ◌++◌, IfOk};
 ghost use Rattle.std.specs.FinMap as map;
 ghost use Rattle.s80_base.specs.declared.names.Side.TheVariants.{Instance, Class};
 ghost use Rattle.s80_state.specs.State.{State};
-ghost use Rattle.s80_state.specs.System.{AreEntriesOf, IsSystemOf};
+ghost use Rattle.s80_state.specs.Entries.{AreEntriesOf};
+ghost use Rattle.s80_state.specs.System.{IsSystemOf};
 ghost use Rattle.s80_told.specs.Entries.{own_entry};
 ghost use Rattle.s80_told.specs.Told.{classes_text, own_classes, own_methods, own_methods_in, recovered_text};
 
@@ -12,6 +13,7 @@ use s80_class::ClassTable;
 use s80_dict::MethodDict;
 use s80_kernel::is_kernel_class;
 use s80_state::System;
+use s80_verify::Verified;
 use std::alloc::Global;
 
 /// How much there is: so many changes, and the classes and methods that are not the kernel's.
@@ -53,7 +55,7 @@ fn own_methods_of(alloc: Global, system: &System, name: &Text) -> Result<usize, 
 }
 
 /// How many methods of a dictionary aren't the kernel's.
-fn own_methods_in(alloc: Global, methods: &MethodDict<()>) -> Result<usize, OutOfMemory>
+fn own_methods_in(alloc: Global, methods: &MethodDict<Verified>) -> Result<usize, OutOfMemory>
     ensures { (rows : _) → AreEntriesOf methods.now.methods rows → IfOk result (λ count. count ≡ own_methods_in rows) }
 {
     let selectors = methods.selectors_sorted(alloc)?;
@@ -67,7 +69,7 @@ fn own_methods_in(alloc: Global, methods: &MethodDict<()>) -> Result<usize, OutO
 }
 
 /// Whether the method of a selector isn't the kernel's.
-fn is_own(methods: &MethodDict<()>, selector: &Text) -> bool
+fn is_own(methods: &MethodDict<Verified>, selector: &Text) -> bool
     ensures { result ≡ own_entry (map.get methods.now.methods selector.now) }
 {
     match methods.get(selector) {

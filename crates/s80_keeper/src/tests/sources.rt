@@ -1,4 +1,8 @@
 // Methods that are kept and replayed, and their sources, with ample memory.
+ghost use Rattle.std.specs.Prelude.{◌≤◌, length, IfOk};
+ghost use Rattle.s80_section.specs.Check.{IsCheckOf};
+ghost use Rattle.s80_state.specs.System.{IsChecked};
+
 use super::{CLOSED, defined, files, found, kept};
 use crate::{Damage, KeepFault, Keeper, StartFault};
 use s80_base::{Call, Failed, Side, Text};
@@ -9,18 +13,17 @@ use std::alloc::Global;
 use std::process::Abort;
 use std::test::Fail;
 
-fn checked(rt: &impl Abort, alloc: Global, source: &Text) -> Result<SourceCheck, Fail> {
+fn checked(rt: &impl Abort, alloc: Global, source: &Text) -> Result<SourceCheck, Fail>
+    ensures { IfOk result (λ check. IsCheckOf source.now check × (length source.now ≤ 65535)) }
+{
     assert!(rt; source.bytes().len() <= 65_535);
     Ok(check_source(alloc, source)?)
 }
 
 /// A method of a class, on its instance side.
-fn method(
-    rt: &impl Abort,
-    alloc: Global,
-    class_name: &[u8],
-    source: &[u8],
-) -> Result<Change, Fail> {
+fn method(rt: &impl Abort, alloc: Global, class_name: &[u8], source: &[u8]) -> Result<Change, Fail>
+    ensures { IfOk result IsChecked }
+{
     let source = Text::from_bytes(alloc, source)?;
     let check = checked(rt, alloc, &source)?;
     Ok(Change::Method(Method {

@@ -13,11 +13,11 @@ returns-in-Err-Refusal-clause-answer c = λ state is.
 pub returns-in-Ok-clause-answer : goal.returns-in-Ok-clause-answer
 returns-in-Ok-clause-answer c = λ state is.
     let made = c.in-Ok.ensures.answer state is c.args.at in
-    let full = refuses_full state c.args.at c.args.change.now made.0 made.1 (omega (arith, c.requires, c.if-next-gt-LOG_LIMIT.true)) in
+    let full = refuses_full state c.args.at c.args.change.now made.0 made.1 (omega (arith, c.requires.next, c.if-next-gt-LOG_LIMIT.true)) in
     rw c.refused-in-Ok.ensures (LogFull c.args.at, full, refl, refl)
 
 pub returns-in-Ok-2-clause-answer : goal.returns-in-Ok-2-clause-answer
 returns-in-Ok-2-clause-answer c = λ state is.
     let makes = subst (λ step. Prepares state c.args.change.now c.prepare.new.self (Ok step)) (sym c.in-Ok-2.step-is) (c.in-Ok-2.ensures.answer state is) in
     let made = makes c.args.at in
-    accepted_so state made.0 c.args.at c.args.change.now c.install.new.self made.1 (omega (arith, c.requires, c.if-next-gt-LOG_LIMIT.false)) (made.2 c.install.new.self c.install.ensures)
+    accepted_so state made.0 c.args.at c.args.change.now c.install.new.self made.1 (omega (arith, c.requires.next, c.if-next-gt-LOG_LIMIT.false)) (made.2 c.install.new.self c.install.ensures)

@@ -4,7 +4,7 @@ use Rattle.s80_log.specs.Log.{log_file, held_in}
 use Rattle.s80_block.specs.Blocks.{BeginsWith, BeginsWithNone}
 use Rattle.s80_log.specs.Faults.{IfBad}
 use Rattle.s80_keeper.proofs.OneList.{block_length}
-use Rattle.s80_keeper.proofs.Replayed.{no_disk, replayed_more, replayed_refused, replayed_bad, replayed_all, held_length}
+use Rattle.s80_keeper.proofs.Replayed.{lawful_checked, no_disk, replayed_more, replayed_refused, replayed_bad, replayed_all, held_length}
 use Rattle.s80_keeper.proofs.start.replay.Goals as goal
 use Rattle.s80_keeper.proofs.start.replay.Goals.{In_ok-change}
 
@@ -27,6 +27,9 @@ begins g c told =
     let log = c.args.log.now in
     let P : List ℕ → Type 0 = λ l. BeginsWith l c.in_ok-change.change in
     subst P (ap (λ l. drop c.loop-at.at (take log.end l)) (c.loop-at.invariant.untouched.same (log_file log.number))) (c.in_ok-change.ensures.begins (c.loop-at.invariant.untouched.telling ∙ told))
+
+pub accept_owned-requires-clause-checked : goal.accept_owned-requires-clause-checked
+accept_owned-requires-clause-checked g c = lawful_checked c.in_ok-change.change c.in_ok-change.ensures.next.0
 
 pub returns-in_err-accept_owned-clause-answer : goal.returns-in_err-accept_owned-clause-answer
 returns-in_err-accept_owned-clause-answer g c = λ told long.
