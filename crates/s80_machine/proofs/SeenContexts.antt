@@ -3,7 +3,7 @@ use Rattle.std.proofs.Common.{◌≡◌, ◌∙◌, ap, sym, subst, refl, ℕ, �
 use Rattle.std.specs.List.{list_any}
 use mathlib.Core.List.{reverse_aux}
 use Rattle.s80_machine.specs.declared.halt.Halt.{Halt}
-use Rattle.s80_machine.specs.World.{Context, is_active, is_frame_of_block}
+use Rattle.s80_machine.specs.World.{Context}
 use Rattle.s80_machine.specs.Seen.{Does, DoesOne, DoesIn}
 use Rattle.s80_machine.proofs.SeenStacks.{seen_first, set_first}
 
@@ -45,7 +45,3 @@ module _ {A : Type 0} (test : A → Bool) where
 
   pub any_reversed : (xs : List A) → list_any test (reverse xs) ≡ list_any test xs
   any_reversed xs = any_onto xs [] ∙ or_false (list_any test xs)
-
--- a block is active in whatever order they are asked
-pub active_asked : (block : ℕ) (xs old : List Context) (result : Bool) → reverse xs ≡ old → result ≡ list_any (λ c. is_frame_of_block block c.frame) xs → result ≡ is_active block old
-active_asked block xs old result shows is = is ∙ sym (any_reversed (λ c. is_frame_of_block block c.frame) xs) ∙ ap (is_active block) shows

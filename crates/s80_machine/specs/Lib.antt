@@ -1,4 +1,5 @@
 pub mod World
+pub mod Counted
 pub mod Lookup
 pub mod Turn
 pub mod Step

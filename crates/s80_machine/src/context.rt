@@ -1,7 +1,8 @@
 // Activations.
 ghost use Rattle.std.specs.Prelude.{◌≡◌};
-ghost use Rattle.s80_machine.specs.World.{home_in, is_frame_of_block, is_home, is_home_frame};
-ghost use Rattle.s80_machine.specs.Seen.{DoesIn, IsOwnSet, IsTemporarySet, frame_of, message_taken, moved, popped, pushed, temporary_set, topped};
+ghost use Rattle.s80_machine.specs.Counted.{block_in};
+ghost use Rattle.s80_machine.specs.World.{home_in, is_home, is_home_frame};
+ghost use Rattle.s80_machine.specs.Seen.{DoesIn, IsOwnSet, IsTemporarySet, frame_of, message_taken, moved, popped, pushed, temporary_set, topped, two_answered, two_in};
 
 use crate::halt::Halt;
 use s80_object::Value;
@@ -41,17 +42,19 @@ impl Frame {
         }
     }
 
-    fn is_of_block(&self, number: u32) -> bool
-        ensures { result ≡ is_frame_of_block number (frame_of self.now) }
+    /// The block's object, where it is the activation of one.
+    fn block(&self) -> Option<u32>
+        ensures { result ≡ block_in (frame_of self.now) }
     {
         match self {
-            Frame::Block { block, .. } => number == *block,
-            _ => false,
+            Frame::Block { block, .. } => Some(*block),
+            _ => None,
         }
     }
 
     fn set_temporary(&mut self, i: u8, value: Value) -> Result<(), Halt>
-        ensures { IsTemporarySet (frame_of self.old) i value (frame_of self.new) result }
+        ensures does { IsTemporarySet (frame_of self.old) i value (frame_of self.new) result }
+        ensures stays { block_in (frame_of self.new) ≡ block_in (frame_of self.old) }
     {
         match self {
             Frame::Own(temporaries) => set(temporaries, usize::from(i), value),
@@ -102,21 +105,24 @@ impl Context {
         self.frame.is_home(number)
     }
 
-    pub(crate) fn is_of_block(&self, number: u32) -> bool
-        ensures { result ≡ is_frame_of_block number self.now.frame }
+    /// The block's object, where it is the activation of one.
+    pub(crate) fn block(&self) -> Option<u32>
+        ensures { result ≡ block_in self.now.frame }
     {
-        self.frame.is_of_block(number)
+        self.frame.block()
     }
 
     pub(crate) fn push(&mut self, value: Value) -> Result<(), Halt>
-        ensures { DoesIn (λ done. done) (pushed value self.old) self.new result }
+        ensures does { DoesIn (λ done. done) (pushed value self.old) self.new result }
+        ensures stays { block_in self.new.frame ≡ block_in self.old.frame }
     {
         self.stack.push(value)?;
         Ok(())
     }
 
     pub(crate) fn pop(&mut self) -> Result<Value, Halt>
-        ensures { DoesIn (λ v. v) (popped self.old) self.new result }
+        ensures does { DoesIn (λ v. v) (popped self.old) self.new result }
+        ensures stays { block_in self.new.frame ≡ block_in self.old.frame }
     {
         match self.stack.pop() {
             Some(value) => Ok(value),
@@ -140,20 +146,46 @@ impl Context {
         alloc: Global,
         count: u8,
     ) -> Result<(Value, Vec<Value>), Halt>
-        ensures { DoesIn (λ p. (p.0, p.1.items)) (message_taken count self.old) self.new result }
+        ensures does { DoesIn (λ p. (p.0, p.1.items)) (message_taken count self.old) self.new result }
+        ensures stays { block_in self.new.frame ≡ block_in self.old.frame }
     {
         let Some(below) = self.stack.len().checked_sub(usize::from(count) + 1) else {
             return Err(Halt::Stuck);
         };
         let receiver = self.stack[below];
-        let arguments = self.stack[below + 1..].to_vec(alloc)?;
+        let mut arguments = Vec::new(alloc);
+        arguments.extend_from_slice(&self.stack[below + 1..])?;
         self.stack.truncate(below);
         Ok((receiver, arguments))
     }
 
+    /// The two on top: a receiver, and its argument above it.
+    pub(crate) fn two_on_top(&self) -> Option<(Value, Value)>
+        ensures { result ≡ two_in self.now.stack }
+    {
+        let Some(below) = self.stack.len().checked_sub(2) else {
+            return None;
+        };
+        Some((self.stack[below], self.stack[below + 1]))
+    }
+
+    /// Puts an answer in the place of the two on top. Takes no memory.
+    pub(crate) fn answer_two(&mut self, value: Value) -> Result<(), Halt>
+        ensures does { DoesIn (λ done. done) (two_answered value self.old) self.new result }
+        ensures stays { block_in self.new.frame ≡ block_in self.old.frame }
+    {
+        let Some(below) = self.stack.len().checked_sub(2) else {
+            return Err(Halt::Stuck);
+        };
+        self.stack[below] = value;
+        self.stack.truncate(below + 1);
+        Ok(())
+    }
+
     /// Goes on at this place.
     pub(crate) fn move_to(&mut self, place: u32) -> Result<(), Halt>
-        ensures { DoesIn (λ done. done) (moved place self.old) self.new result }
+        ensures does { DoesIn (λ done. done) (moved place self.old) self.new result }
+        ensures stays { block_in self.new.frame ≡ block_in self.old.frame }
     {
         self.place = place;
         Ok(())
@@ -161,7 +193,8 @@ impl Context {
 
     /// Sets a temporary that it keeps itself.
     pub(crate) fn set_temporary(&mut self, i: u8, value: Value) -> Result<(), Halt>
-        ensures { DoesIn (λ done. done) (temporary_set i value self.old) self.new result }
+        ensures does { DoesIn (λ done. done) (temporary_set i value self.old) self.new result }
+        ensures stays { block_in self.new.frame ≡ block_in self.old.frame }
     {
         self.frame.set_temporary(i, value)
     }

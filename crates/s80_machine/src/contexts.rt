@@ -1,9 +1,9 @@
 // The activations that are alive.
-ghost use Rattle.std.specs.Prelude.{◌≡◌, ◌∷◌, [], OnOk, length, option_copied, reverse, slice_get, take};
-ghost use Rattle.std.specs.List.{list_any};
+ghost use Rattle.std.specs.Prelude.{◌≡◌, ◌+◌, ◌<◌, ◌≤◌, ◌∷◌, [], ℕ, IfOk, IfSome, OnOk, get_or, length, option_copied, reverse, slice_get, take};
 ghost use Rattle.std.specs.Option.{option_map};
-ghost use Rattle.s80_machine.specs.Seen.{Does, IsEnded, IsUnwound, below_home, message_taken, moved, popped, pushed, temporary_set, topped};
-ghost use Rattle.s80_machine.specs.World.{is_active, is_frame_of_block};
+ghost use Rattle.s80_machine.specs.Counted.{count_of, one_of};
+ghost use Rattle.s80_machine.specs.Seen.{Does, IsEnded, IsUnwound, below_home, message_taken, moved, popped, pushed, temporary_set, topped, two_answered, two_on_top};
+ghost use Rattle.s80_machine.specs.World.{is_active};
 
 use crate::context::Context;
 use crate::halt::Halt;
@@ -13,20 +13,26 @@ use s80_prims::Stop;
 use std::alloc::Global;
 use std::marker::Model;
 
-/// The activations that are alive. Contracts see them with the active one first.
+/// The activations that are alive. Contracts see them with the active one first. No call takes longer where more are alive, but for `end_to_home`,
+/// which ends them one by one.
 #[derive(Debug, Drop)]
 pub(crate) struct Contexts {
     // The last is the active one.
     contexts: Vec<Context>,
+    // How many of them are of each block, at the number of its object. A block past the end has none.
+    counts: Vec<u32>,
 }
 
 impl Model for Contexts {
     ghost use Rattle.std.specs.Prelude.{List, reverse};
     ghost use Rattle.s80_machine.specs.World.{Context as Activation};
+    ghost use Rattle.s80_machine.specs.Counted.{AreCounted};
 
     ghost Value = { List Activation };
 
     ghost view = { λ c. reverse c.contexts.items };
+
+    ghost invariant = { λ c. AreCounted c.counts.items c.contexts.items };
 }
 
 impl Contexts {
@@ -35,6 +41,7 @@ impl Contexts {
     {
         Contexts {
             contexts: Vec::new(alloc),
+            counts: Vec::new(alloc),
         }
     }
 
@@ -55,7 +62,13 @@ impl Contexts {
     pub(crate) fn begin(&mut self, context: Context) -> Result<(), OutOfMemory>
         ensures { OnOk result (self.new ≡ context ∷ self.old) }
     {
+        let Some(block) = context.block() else {
+            self.contexts.push(context)?;
+            return Ok(());
+        };
+        let count = raised_count(&mut self.counts, block)?;
         self.contexts.push(context)?;
+        self.counts[block as usize] = count;
         Ok(())
     }
 
@@ -102,6 +115,26 @@ impl Contexts {
         active.take_message(alloc, count)
     }
 
+    /// The two on top of the active context's stack: a receiver, and its argument above it.
+    pub(crate) fn two_on_top(&self) -> Option<(Value, Value)>
+        ensures { result ≡ two_on_top self.now }
+    {
+        match self.active() {
+            Some(active) => active.two_on_top(),
+            None => None,
+        }
+    }
+
+    /// Puts an answer in the place of the two on top. Takes no memory.
+    pub(crate) fn answer_two(&mut self, value: Value) -> Result<(), Halt>
+        ensures { Does (λ done. done) (two_answered value) self.old self.new result }
+    {
+        let Some(active) = self.contexts.last_mut() else {
+            return Err(Halt::Stuck);
+        };
+        active.answer_two(value)
+    }
+
     /// The active context goes on at this place.
     pub(crate) fn move_to(&mut self, place: u32) -> Result<(), Halt>
         ensures { Does (λ done. done) (moved place) self.old self.new result }
@@ -122,12 +155,15 @@ impl Contexts {
         active.set_temporary(i, value)
     }
 
-    /// Ends the active context.
+    /// Ends the active context. Takes no memory.
     pub(crate) fn end(&mut self) -> Result<(), Halt>
         ensures { IsEnded self.old self.new result }
     {
         match self.contexts.pop() {
-            Some(_) => Ok(()),
+            Some(ended) => {
+                take_off(&mut self.counts, &ended);
+                Ok(())
+            }
             None => Err(Halt::Stuck),
         }
     }
@@ -139,6 +175,7 @@ impl Contexts {
         let Some(place) = place_of_home(&self.contexts, home) else {
             return Err(Halt::stop(Stop::CannotReturn));
         };
+        take_all_off(&mut self.counts, &self.contexts[place..]);
         self.contexts.truncate(place);
         Ok(())
     }
@@ -147,19 +184,51 @@ impl Contexts {
     pub(crate) fn is_active(&self, block: u32) -> bool
         ensures { result ≡ is_active block self.now }
     {
-        any_of_block(&self.contexts, block)
+        count_at(&self.counts, block) > 0
     }
 }
 
-fn any_of_block(contexts: &[Context], block: u32) -> bool
-    ensures { result ≡ list_any (λ c. is_frame_of_block block c.frame) contexts.now }
+fn count_at(counts: &[u32], block: u32) -> u32
+    ensures { result ≡ get_or counts.now block 0 }
 {
-    contexts.iter().any(|context| context.is_of_block(block))
+    counts.get(block as usize).copied().unwrap_or(0)
+}
+
+// The count of this block with one activation more. There is a place for it from then on.
+fn raised_count(counts: &mut Vec<u32>, block: u32) -> Result<u32, OutOfMemory>
+    ensures same { (b : ℕ) → get_or counts.new.items b 0 ≡ get_or counts.old.items b 0 }
+    ensures raised { IfOk result (λ count. (count ≡ get_or counts.old.items block 0 + 1) × (block < length counts.new.items)) }
+{
+    let place = block as usize;
+    if counts.len() <= place {
+        counts.resize(place + 1, 0)?;
+    }
+    counts[place].checked_add(1).ok_or(OutOfMemory)
+}
+
+// One activation less of its block.
+fn take_off(counts: &mut [u32], ended: &Context)
+    requires { (b : ℕ) → one_of b ended.now ≤ get_or counts.old b 0 }
+    ensures { (b : ℕ) → get_or counts.new b 0 + one_of b ended.now ≡ get_or counts.old b 0 }
+{
+    if let Some(block) = ended.block() {
+        counts[block as usize] -= 1;
+    }
+}
+
+fn take_all_off(counts: &mut [u32], ended: &[Context])
+    requires { (b : ℕ) → count_of b ended.now ≤ get_or counts.old b 0 }
+    ensures { (b : ℕ) → get_or counts.new b 0 + count_of b ended.now ≡ get_or counts.old b 0 }
+{
+    for context in ended {
+        take_off(counts, context);
+    }
 }
 
 // The place of the last context that has this home, which is as many as lie below it.
 fn place_of_home(contexts: &[Context], home: u32) -> Option<usize>
-    ensures { option_map (λ place. reverse (take place contexts.now)) result ≡ below_home home (reverse contexts.now) }
+    ensures below { option_map (λ place. reverse (take place contexts.now)) result ≡ below_home home (reverse contexts.now) }
+    ensures within { IfSome result (λ place. place < length contexts.now) }
 {
     for place in (0..contexts.len()).rev() {
         if contexts[place].is_home(home) {

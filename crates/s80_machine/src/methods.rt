@@ -1,5 +1,5 @@
 // The methods that were activated.
-ghost use Rattle.std.specs.Prelude.{◌≡◌, ◌<◌, ◌^◌, [], IfOk, None, MatchOption, length, slice_get};
+ghost use Rattle.std.specs.Prelude.{◌≡◌, ◌<◌, ◌^◌, [], IfOk, OnOk, None, MatchOption, length, slice_get};
 ghost use Rattle.s80_machine.specs.World.{doit, method};
 ghost use Rattle.s80_machine.specs.Turn.{begins_block, holds_block};
 ghost use Rattle.s80_machine.specs.Seen.{IsActivated, Numbers, key_bytes, key_in, place_in, side_byte};
@@ -10,6 +10,7 @@ use s80_code::{Code, Instruction, decode};
 use s80_verify::Verified;
 use std::alloc::Global;
 use std::marker::Model;
+use std::mem;
 
 /// A method that was activated, by the class and side that have it; a doIt has none.
 #[derive(Clone, Copy, Debug)]
@@ -26,6 +27,8 @@ pub(crate) struct Methods<'a> {
     // Of a doIt empty; else its class and side in five bytes, and the selector.
     keys: IndexSet<Vec<u8>>,
     activated: Vec<Activated<'a>>,
+    // Room for the key that is looked up. What it holds says nothing.
+    room: Vec<u8>,
 }
 
 impl<'a> Model for Methods<'a> {
@@ -50,6 +53,7 @@ impl<'a> Methods<'a> {
         Methods {
             keys: IndexSet::new(alloc),
             activated: Vec::new(alloc),
+            room: Vec::new(alloc),
         }
     }
 
@@ -68,10 +72,10 @@ impl<'a> Methods<'a> {
         ensures { IfOk result (Numbers doit code.now self.old self.new) }
     {
         let key = Vec::new(alloc);
-        self.number_of_key(key, None, code)
+        self.number_of_key(alloc, &key, None, code)
     }
 
-    /// The number of a method, which is added where it isn't there.
+    /// The number of a method, which is added where it isn't there. Where it is, its key takes the room of those before.
     pub(crate) fn number(
         &mut self,
         alloc: Global,
@@ -82,29 +86,34 @@ impl<'a> Methods<'a> {
     ) -> Result<u32, OutOfMemory>
         ensures { IfOk result (Numbers (method class side selector.now) code.now self.old self.new) }
     {
-        let key = key(alloc, class, side, selector)?;
-        self.number_of_key(key, Some((class, side)), code)
+        let mut key = mem::replace(&mut self.room, Vec::new(alloc));
+        write_key(&mut key, class, side, selector)?;
+        let number = self.number_of_key(alloc, &key, Some((class, side)), code);
+        self.room = key;
+        number
     }
 
     fn number_of_key(
         &mut self,
-        key: Vec<u8>,
+        alloc: Global,
+        key: &[u8],
         place: Option<(u32, Side)>,
         code: &'a Verified,
     ) -> Result<u32, OutOfMemory>
-        requires key { key_bytes (key_in key.items) ≡ key.items }
-        requires place { place ≡ place_in (key_in key.items) }
-        ensures { IfOk result (Numbers (key_in key.items) code.now self.old self.new) }
+        requires key { key_bytes (key_in key.now) ≡ key.now }
+        requires place { place ≡ place_in (key_in key.now) }
+        ensures { IfOk result (Numbers (key_in key.now) code.now self.old self.new) }
     {
-        if let Some(number) = self.keys.get_index_of(key.as_slice()) {
+        if let Some(number) = self.keys.get_index_of(key) {
             return Ok(number as u32);
         }
         let Ok(number) = u32::try_from(self.keys.len()) else {
             return Err(OutOfMemory);
         };
         let code = code.code();
+        let kept = key.to_vec(alloc)?;
         self.activated.reserve(1)?;
-        self.keys.insert(key)?;
+        self.keys.insert(kept)?;
         self.activated.push_reserved(Activated {
             place,
             code,
@@ -114,15 +123,15 @@ impl<'a> Methods<'a> {
     }
 }
 
-// Where a method stands, as bytes.
-fn key(alloc: Global, class: u32, side: Side, selector: &Text) -> Result<Vec<u8>, OutOfMemory>
-    ensures { IfOk result (λ key. key.items ≡ key_bytes (method class side selector.now)) }
+// Writes where a method stands, as bytes, in the place of what was there.
+fn write_key(key: &mut Vec<u8>, class: u32, side: Side, selector: &Text) -> Result<(), OutOfMemory>
+    ensures { OnOk result (key.new.items ≡ key_bytes (method class side selector.now)) }
 {
-    let mut key = Vec::new(alloc);
+    key.clear();
     key.push(side_byte(side))?;
     key.extend_from_slice(&class.to_be_bytes())?;
     key.extend_from_slice(selector.bytes())?;
-    Ok(key)
+    Ok(())
 }
 
 fn side_byte(side: Side) -> u8

@@ -15,9 +15,9 @@ ghost use Rattle.s80_machine.specs.World.{Context, Key, World, method, waiting};
 ghost use Rattle.s80_machine.specs.Lookup.{Place};
 ghost use Rattle.s80_machine.specs.Turn.{State, at_once, block_with, is_value, message_off, of_integers, unary_in};
 ghost use Rattle.s80_machine.specs.Step.{special_turn};
-ghost use Rattle.s80_machine.specs.Seen.{IsBlock, IsFound};
+ghost use Rattle.s80_machine.specs.Seen.{IsBlock, IsFound, two_on_top};
 ghost use Rattle.s80_machine.specs.Came.{Came, IsGiven, IsReady, IsSet, Shows, ShowsWorld, TopIsKnown, above, at_place, given_of, places, sends};
-ghost use Rattle.s80_machine.specs.Messages.{IsKnownMessage, ReceiverIsKnown, Takes, activates, finds, own_place, performs, places_in, refuses, runs, runs_method, runs_primitive, sends_one};
+ghost use Rattle.s80_machine.specs.Messages.{IsAnswerOfTwo, IsKnownMessage, ReceiverIsKnown, Takes, activates, finds, own_place, performs, places_in, refuses, runs, runs_method, runs_primitive, sends_one};
 
 use crate::activations::Block;
 use crate::halt::Halt;
@@ -105,8 +105,33 @@ impl<'a> Machine<'a> {
         )
     }
 
-    /// Sends one of the messages that have bytes of their own: it is answered at once, or activates a block, or is looked up.
+    /// Sends one of the messages that have bytes of their own. What two values are answered at once takes no memory.
     pub(crate) fn send_special(&mut self, on: &Setting<'a>, number: u8) -> Result<(), Halt>
+        requires ready { IsReady on.now }
+        requires setting { IsSet (given_of on.now) }
+        requires known { TopIsKnown on.now.classes.now self.old }
+        ensures { (c : Context) (rest : List Context) (w : World) (next : ℕ) → Shows (given_of on.now) self.old (at_place c next rest w)
+            → Came (given_of on.now) (message_off (get_or special_arguments number 0) [] c.stack (special_turn on.now.classes.now on.now.methods.now on.now.doit.now on.now.budget number c next rest w)) self.new result }
+    {
+        if let Some(answer) = self.two_at_once(number) {
+            return self.contexts.answer_two(answer);
+        }
+        self.send_taken(on, number)
+    }
+
+    // What the two on top are answered at once by a special message with one argument.
+    fn two_at_once(&self, number: u8) -> Option<Value>
+        ensures { IfSome result (IsAnswerOfTwo number (two_on_top self.now.contexts)) }
+    {
+        if special_arguments(number) != 1 {
+            return None;
+        }
+        let (receiver, argument) = self.contexts.two_on_top()?;
+        one_at_once(number, receiver, argument)
+    }
+
+    // Sends one of them, which is taken off the stack: it is answered at once, or activates a block, or is looked up.
+    fn send_taken(&mut self, on: &Setting<'a>, number: u8) -> Result<(), Halt>
         requires ready { IsReady on.now }
         requires setting { IsSet (given_of on.now) }
         requires known { TopIsKnown on.now.classes.now self.old }

@@ -9,9 +9,9 @@ use Rattle.s80_machine.proofs.lookup.find_up.Goals as goal
 
 pub loop-init : goal.loop-init
 loop-init c = record {
-  size = c.count-end.ensures;
+  size = c.count-end.ensures.count;
   live = c.requires.class;
-  same = ap (λ ns. first_found c.args.methods.now c.args.selector.now (on_side c.args.side ns)) (starts c.args.classes.now c.count-end.result c.args.from c.count-end.ensures c.requires.class);
+  same = ap (λ ns. first_found c.args.methods.now c.args.selector.now (on_side c.args.side ns)) (starts c.args.classes.now c.count-end.result c.args.from c.count-end.ensures.count c.requires.class);
 }
 
 pub returns-in_err-class : goal.returns-in_err-class

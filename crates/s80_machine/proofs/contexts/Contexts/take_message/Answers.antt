@@ -1,8 +1,13 @@
 use Rattle.s80_machine.specs.Seen.{message_taken}
 use Rattle.s80_machine.proofs.SeenContexts.{active_does}
+use Rattle.s80_machine.proofs.CountedBlocks.{changed_counted}
 use Rattle.s80_machine.proofs.contexts.Contexts.take_message.Goals as goal
 
 pub returns : goal.returns
 returns c =
     active_does (λ p. (p.0, p.1.items)) (message_taken c.args.count) c.self.inside.contexts.items c.args.self.now c.self.view_is c.in-Some.active.now c.take_message.new.self c.take_message.result
-    _ c.self.inside.contexts.ok.0 c.in-Some.ensures.item.3.0 c.in-Some.ensures.value c.take_message.ensures
+    _ c.self.inside.contexts.ok.0 c.in-Some.ensures.item.3.0 c.in-Some.ensures.value c.take_message.ensures.does
+
+pub invariant_of-self-2 : goal.invariant_of-self-2
+invariant_of-self-2 c =
+    changed_counted c.self.inside.counts.items c.self.inside.contexts.items c.self.invariant _ c.in-Some.active.now c.take_message.new.self c.self.inside.contexts.ok.0 c.in-Some.ensures.item.3.0 c.in-Some.ensures.value c.take_message.ensures.stays
