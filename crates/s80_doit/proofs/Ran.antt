@@ -1,0 +1,36 @@
+-- What a run promises, said of the system, and what its answer's text rests on.
+use Rattle.std.proofs.Common.{◌≡◌, ℕ, List, Result, Ok, Err, IfOk, refl, subst}
+use Rattle.s80_class.specs.Table.{Table}
+use Rattle.s80_code.specs.declared.code.Code.{Code}
+use Rattle.s80_dict.specs.Table.{MethodsValue}
+use Rattle.s80_object.specs.Objects.{State}
+use Rattle.s80_prims.specs.declared.stop.End.{End}
+use Rattle.s80_prims.specs.declared.stop.End.TheVariants.{Answer, Stopped}
+use Rattle.s80_prims.specs.declared.stop.Outcome.{Outcome}
+use Rattle.s80_state.specs.Entries.{Entry}
+use Rattle.s80_state.specs.System.{SystemState}
+use Rattle.s80_machine.specs.Came.{AnswersKnown, EndIsKnown, RanValue}
+use Rattle.s80_machine.specs.Run.{RunsTo}
+use Rattle.s80_outcome.specs.Outcome.{HasKnownAnswer}
+use Rattle.s80_doit.specs.DoIt.{IsDoItCode, IsRunOf}
+
+-- a run among tables that are the system's
+pub is_run : {E : Type 0} (system : SystemState) (t : Table) (methods : MethodsValue Entry) (code : Code) (budget : ℕ) (result : Result RanValue E)
+    → t ≡ system.table → methods ≡ system.methods → IfOk result (λ ran. RunsTo t methods code budget ran.outcome) → IfOk result (λ ran. ran.budget ≡ budget)
+    → IfOk result (λ ran. (text : List ℕ) → IsDoItCode text code → IsRunOf system text budget ran)
+is_run system t methods code budget (Ok ran) table_is methods_are runs under = λ text is. record {
+  code = code;
+  code_is = is;
+  runs = subst (λ (t : Table). RunsTo t system.methods code budget ran.outcome) table_is (subst (λ (m : MethodsValue Entry). RunsTo t m code budget ran.outcome) methods_are runs);
+  budget_is = under;
+}
+is_run system t methods code budget (Err e) table_is methods_are runs under = tt
+
+-- an outcome to which the code runs
+pub run_of : (system : SystemState) (text : List ℕ) (code : Code) (budget : ℕ) → IsDoItCode text code → (outcome : Outcome) × RunsTo system.table system.methods code budget outcome
+    → (ran : RanValue) × IsRunOf system text budget ran
+run_of system text code budget is (outcome, runs) = (record { outcome = outcome; budget = budget }, record { code = code; code_is = is; runs = runs; budget_is = refl })
+
+pub has_known_answer : (t : Table) (s : State) (end : End) → EndIsKnown t s end → HasKnownAnswer t s end
+has_known_answer t s (Answer v) known = known
+has_known_answer t s (Stopped stop) known = tt

@@ -1,0 +1,99 @@
+// The runs of doIts among the classes and their methods.
+ghost use Rattle.std.specs.Prelude.{◌≡◌, ◌≤◌, ℕ, List, length, IfOk};
+ghost use Rattle.s80_code.specs.declared.code.Code.{Code};
+ghost use Rattle.s80_machine.specs.Came.{AnswersKnown, RanValue};
+ghost use Rattle.s80_machine.specs.Sound.{IsSetting};
+ghost use Rattle.s80_outcome.specs.Outcome.{outcome_text};
+ghost use Rattle.s80_prims.specs.Known.{HasKernel};
+ghost use Rattle.s80_doit.specs.DoIt.{AreGiven, Fits, IsDoItCode, IsRunOf, is_stopped};
+
+use crate::code::doit_code;
+use s80_base::{OutOfMemory, Text};
+use s80_lasting::{
+    classes_have_few_variables, classes_of_bits_have_no_variables,
+    kernel_classes_have_their_variables, kernel_classes_last,
+};
+use s80_machine::{Ran, a_run_ends, run};
+use s80_method::shapes_have_as_many_variables;
+use s80_outcome::outcome_text;
+use s80_prims::End;
+use s80_state::System;
+use s80_suits::{doit_code_suits, method_code_suits};
+use s80_verify::Verified;
+use std::alloc::Global;
+
+/// The code of a doIt's text: nothing but want of memory is in the way. Among these classes and methods it comes to an end under every
+/// budget.
+pub fn compile(alloc: Global, system: &System, text: &Text) -> Result<Verified, OutOfMemory>
+    requires short { length text.now ≤ 65535 }
+    requires fits { Fits text.now }
+    ensures code { IfOk result (IsDoItCode text.now) }
+    ensures given { AreGiven system.now }
+    ensures ends { IfOk result (λ _. (budget : ℕ) → (ran : RanValue) × IsRunOf system.now text.now budget ran) }
+{
+    a_run_ends();
+    doits_are_given(system);
+    doit_code(alloc, text)
+}
+
+/// Runs the code of a doIt among the classes and their methods, for at most so many ticks (Blue Book, part four).
+pub fn evaluate(
+    alloc: Global,
+    system: &System,
+    code: &Verified,
+    budget: u64,
+) -> Result<Ran, OutOfMemory>
+    requires { (text : List ℕ) × IsDoItCode text code.now }
+    ensures run { IfOk result (λ ran. (text : List ℕ) → IsDoItCode text code.now → IsRunOf system.now text budget ran) }
+    ensures given { AreGiven system.now }
+    ensures known { IfOk result (λ ran. AnswersKnown system.now.table ran.outcome) }
+{
+    doits_are_given(system);
+    run(alloc, system.classes(), system.methods(), code, budget)
+}
+
+/// What a run among these classes is answered: what it wrote, on lines of its own, and its answer or why it was stopped, without a line feed
+/// at the end.
+pub fn answer(alloc: Global, system: &System, ran: &Ran) -> Result<Text, OutOfMemory>
+    requires { AnswersKnown system.now.table ran.now.outcome }
+    ensures { IfOk result (λ text. text ≡ outcome_text system.now.table ran.now.outcome) }
+{
+    kernel_is_there(system);
+    outcome_text(alloc, system.classes(), ran.outcome())
+}
+
+/// Whether a run was stopped before it had an answer.
+pub fn is_stopped(ran: &Ran) -> bool
+    ensures { result ≡ is_stopped ran.now.outcome.end }
+{
+    match &ran.outcome().end {
+        End::Answer(_) => false,
+        End::Stopped(_) => true,
+    }
+}
+
+// The classes of a system and its methods, with the code of a doIt, are what a run may be given.
+fn doits_are_given(system: &System)
+    ensures setting { (text : List ℕ) (code : Code) → IsDoItCode text code → IsSetting system.now.table system.now.methods code }
+    ensures given { AreGiven system.now }
+{
+    kernel_classes_last();
+    kernel_classes_have_their_variables();
+    classes_have_few_variables();
+    classes_of_bits_have_no_variables();
+    shapes_have_as_many_variables();
+    method_code_suits();
+    doit_code_suits();
+    let classes = system.classes();
+    // What a table tells of its classes with their count: each has one number.
+    let _count = classes.count();
+    let _methods = system.methods();
+}
+
+// The classes of the kernel are among those of a system.
+fn kernel_is_there(system: &System)
+    ensures { HasKernel system.now.table }
+{
+    kernel_classes_last();
+    let _classes = system.classes();
+}
