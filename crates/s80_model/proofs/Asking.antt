@@ -1,5 +1,5 @@
 -- What items ask, one by one.
-use Rattle.std.proofs.Common.{◌≡◌, ◌⊎◌, inl, inr, ℕ, List, [], ◌∷◌, refl, sym, ap, ◌∙◌}
+use Rattle.std.proofs.Common.{◌≡◌, ◌⊎◌, inl, inr, ℕ, List, refl, sym, ap, ◌∙◌}
 use Rattle.s80_chunk.specs.declared.item.Item.TheVariants as items
 use Rattle.s80_tree.specs.Tree.{DoItParts}
 use Rattle.s80_grammar.specs.Faults.{IsDoItText}
@@ -21,7 +21,9 @@ use Rattle.s80_change.specs.declared.refusal.SyntaxKind.{SyntaxKind}
 use Rattle.s80_change.specs.declared.refusal.SyntaxKind.TheVariants as kinds
 use Rattle.s80_model.specs.declared.item.SessionItem.{SessionItem}
 use Rattle.s80_model.specs.declared.item.SessionItem.TheVariants.{Chunk, Unended, Query}
-use Rattle.s80_model.specs.Asked.{Ask, refuses, adds, opens, refuses_head, adds_source, refuses_source, closes, tells, Fits, IsRefusedText, IsChangeOf, AsksPlain, IsRefusedHead, AsksHead, AsksMethod, Asks, AllAsk}
+use Rattle.s80_change.specs.Definition.{IsDefinitionOf, IsNoDefinition}
+use Rattle.s80_doit.specs.DoIt.{Fits}
+use Rattle.s80_model.specs.Asked.{Ask, refuses, adds, evaluates, opens, refuses_head, adds_source, refuses_source, closes, tells, IsRefusedText, AsksPlain, IsRefusedHead, AsksHead, AsksMethod, Asks, but_for_runs}
 
 -- no fault of a text is want of memory
 not_memory : (kind : SyntaxKind) (place : ℕ) → fault_of kind place ≡ faults.Memory → ⊥
@@ -64,8 +66,14 @@ fits_only text refusal (tree, is, size) (inr (again, also, other_size)) =
     let same = sym size ∙ ap (λ t. size_refusal (as_method t)) (one_doit_of text tree again is also) ∙ other_size in
     cc same
 
+-- the text is that of a definition, or else of a doIt
+abbrev IsChangeIn : List ℕ → Change → Type 0
+IsChangeIn text (Define d) = IsDefinitionOf text d
+IsChangeIn text (Method m) = ⊥
+IsChangeIn text (DoIt own) = (own ≡ text) × IsNoDefinition text
+
 -- a text is one change
-one_change : (text : List ℕ) (one other : Change) → IsChangeOf text one → IsChangeOf text other → one ≡ other
+one_change : (text : List ℕ) (one other : Change) → IsChangeIn text one → IsChangeIn text other → one ≡ other
 one_change text (Define d) (Define other) h k = ap Define (one_definition_of text d other h k)
 one_change text (Define d) (DoIt own) h k = absurd (k.1 d h)
 one_change text (DoIt own) (Define d) h k = absurd (h.1 d k)
@@ -74,29 +82,28 @@ one_change text (Method m) other h k = absurd h
 one_change text (Define d) (Method m) h k = absurd k
 one_change text (DoIt own) (Method m) h k = absurd k
 
-one_plain : (text : List ℕ) (one other : Ask) → AsksPlain text one → AsksPlain text other → one ≡ other
-one_plain text (refuses refusal) (refuses other) h k = ap refuses (one_reason text refusal other h k)
-one_plain text (refuses refusal) (adds change) h k = absurd (fits_only text refusal k.0 h)
-one_plain text (adds change) (refuses refusal) h k = absurd (fits_only text refusal h.0 k)
-one_plain text (adds change) (adds other) h k = ap adds (one_change text change other h.1 k.1)
-one_plain text (refuses refusal) (opens head) h k = absurd k
-one_plain text (refuses refusal) (refuses_head other) h k = absurd k
-one_plain text (refuses refusal) (adds_source source check) h k = absurd k
-one_plain text (refuses refusal) (refuses_source other) h k = absurd k
-one_plain text (refuses refusal) closes h k = absurd k
-one_plain text (refuses refusal) (tells query) h k = absurd k
-one_plain text (adds change) (opens head) h k = absurd k
-one_plain text (adds change) (refuses_head other) h k = absurd k
-one_plain text (adds change) (adds_source source check) h k = absurd k
-one_plain text (adds change) (refuses_source other) h k = absurd k
-one_plain text (adds change) closes h k = absurd k
-one_plain text (adds change) (tells query) h k = absurd k
-one_plain text (opens head) other h k = absurd h
-one_plain text (refuses_head refusal) other h k = absurd h
-one_plain text (adds_source source check) other h k = absurd h
-one_plain text (refuses_source refusal) other h k = absurd h
-one_plain text closes other h k = absurd h
-one_plain text (tells query) other h k = absurd h
+-- with its run left out, what a plain text asks is that it is refused, or that it is added
+abbrev IsPlainly : List ℕ → Ask → Type 0
+IsPlainly text ask = ((refusal : Refusal) × (ask ≡ refuses refusal) × IsRefusedText text refusal) ⊎ ((change : Change) × (ask ≡ adds change) × Fits text × IsChangeIn text change)
+
+plainly : (text : List ℕ) (ask : Ask) → AsksPlain text ask → IsPlainly text (but_for_runs ask)
+plainly text (refuses refusal) h = inl (refusal, refl, h)
+plainly text (adds (Define d)) h = inr (Define d, refl, h.0, h.1)
+plainly text (adds (Method m)) h = absurd h.1
+plainly text (adds (DoIt own)) h = absurd h.1
+plainly text (evaluates own ran told) h = inr (DoIt own, refl, h.0, (h.1, h.2))
+plainly text (opens head) h = absurd h
+plainly text (refuses_head refusal) h = absurd h
+plainly text (adds_source source check) h = absurd h
+plainly text (refuses_source refusal) h = absurd h
+plainly text closes h = absurd h
+plainly text (tells query) h = absurd h
+
+one_plain : (text : List ℕ) (one other : Ask) → IsPlainly text one → IsPlainly text other → one ≡ other
+one_plain text one other (inl (refusal, is, h)) (inl (again, also, k)) = is ∙ ap refuses (one_reason text refusal again h k) ∙ sym also
+one_plain text one other (inl (refusal, is, h)) (inr (change, also, fits, k)) = absurd (fits_only text refusal fits h)
+one_plain text one other (inr (change, is, fits, h)) (inl (refusal, also, k)) = absurd (fits_only text refusal fits k)
+one_plain text one other (inr (change, is, fits, h)) (inr (again, also, fit, k)) = is ∙ ap adds (one_change text change again h k) ∙ sym also
 
 -- ---- heads
 
@@ -136,18 +143,21 @@ one_opening text (refuses_head refusal) (opens head) h k = absurd (no_fault text
 one_opening text (refuses_head refusal) (refuses_head other) h k = ap refuses_head (same_fault text refusal other (head_fault text refusal h) (head_fault text other k))
 one_opening text (opens head) (refuses refusal) h k = absurd k
 one_opening text (opens head) (adds change) h k = absurd k
+one_opening text (opens head) (evaluates own ran told) h k = absurd k
 one_opening text (opens head) (adds_source source check) h k = absurd k
 one_opening text (opens head) (refuses_source other) h k = absurd k
 one_opening text (opens head) closes h k = absurd k
 one_opening text (opens head) (tells query) h k = absurd k
 one_opening text (refuses_head refusal) (refuses other) h k = absurd k
 one_opening text (refuses_head refusal) (adds change) h k = absurd k
+one_opening text (refuses_head refusal) (evaluates own ran told) h k = absurd k
 one_opening text (refuses_head refusal) (adds_source source check) h k = absurd k
 one_opening text (refuses_head refusal) (refuses_source other) h k = absurd k
 one_opening text (refuses_head refusal) closes h k = absurd k
 one_opening text (refuses_head refusal) (tells query) h k = absurd k
 one_opening text (refuses refusal) other h k = absurd h
 one_opening text (adds change) other h k = absurd h
+one_opening text (evaluates own ran told) other h k = absurd h
 one_opening text (adds_source source check) other h k = absurd h
 one_opening text (refuses_source refusal) other h k = absurd h
 one_opening text closes other h k = absurd h
@@ -160,6 +170,7 @@ method_asks : (text : List ℕ) (ask : Ask) → AsksMethod text ask → (check :
 method_asks text (adds_source source check) h = (check, ap (λ t. adds_source t check) h.0, h.1)
 method_asks text (refuses refusal) h = absurd h
 method_asks text (adds change) h = absurd h
+method_asks text (evaluates own ran told) h = absurd h
 method_asks text (opens head) h = absurd h
 method_asks text (refuses_head refusal) h = absurd h
 method_asks text (refuses_source refusal) h = absurd h
@@ -174,24 +185,12 @@ one_source text one other h k =
 
 -- ---- items
 
--- an item asks one thing
-pub one_ask : (item : SessionItem) (one other : Ask) → Asks item one → Asks item other → one ≡ other
-one_ask (Chunk (items.Plain text)) one other h k = one_plain text one other h k
-one_ask (Chunk (items.Head text)) one other h k = one_opening text one other h k
-one_ask (Chunk (items.Method text)) one other h k = one_source text one other h k
-one_ask (Chunk items.SectionEnd) one other h k = h ∙ sym k
-one_ask (Chunk (items.TooLong role n)) one other h k = h ∙ sym k
-one_ask Unended one other h k = h ∙ sym k
-one_ask (Query query) one other h k = h ∙ sym k
-
--- and so do items
-pub one_asking : (items : List SessionItem) (one other : List Ask) → AllAsk items one → AllAsk items other → one ≡ other
-one_asking [] [] [] h k = refl
-one_asking [] [] (again ∷ other) h k = absurd k
-one_asking [] (ask ∷ one) other h k = absurd h
-one_asking (item ∷ items) [] other h k = absurd h
-one_asking (item ∷ items) (ask ∷ one) [] h k = absurd k
-one_asking (item ∷ items) (ask ∷ one) (again ∷ other) h k =
-    let first = one_ask item ask again h.0 k.0 in
-    let rest = one_asking items one other h.1 k.1 in
-    cc (first, rest)
+-- an item asks one thing, whatever the run of a doIt came to
+pub one_ask : (item : SessionItem) (one other : Ask) → Asks item one → Asks item other → but_for_runs one ≡ but_for_runs other
+one_ask (Chunk (items.Plain text)) one other h k = one_plain text (but_for_runs one) (but_for_runs other) (plainly text one h) (plainly text other k)
+one_ask (Chunk (items.Head text)) one other h k = ap but_for_runs (one_opening text one other h k)
+one_ask (Chunk (items.Method text)) one other h k = ap but_for_runs (one_source text one other h k)
+one_ask (Chunk items.SectionEnd) one other h k = ap but_for_runs (h ∙ sym k)
+one_ask (Chunk (items.TooLong role n)) one other h k = ap but_for_runs (h ∙ sym k)
+one_ask Unended one other h k = ap but_for_runs (h ∙ sym k)
+one_ask (Query query) one other h k = ap but_for_runs (h ∙ sym k)

@@ -1,5 +1,5 @@
 -- What an item asks, whatever the list and the section in which it stands.
-use Rattle.std.specs.Prelude.{◌≡◌, ◌⊎◌, ℕ, List, [], ◌∷◌, Some, None}
+use Rattle.std.specs.Prelude.{◌≡◌, ◌⊎◌, ℕ, List, Some}
 use Rattle.s80_chunk.specs.declared.item.Role.{Role}
 use Rattle.s80_chunk.specs.declared.item.Role.TheVariants as roles
 use Rattle.s80_chunk.specs.declared.item.Item.TheVariants as items
@@ -16,6 +16,8 @@ use Rattle.s80_change.specs.declared.refusal.Refusal.TheVariants as refusals
 use Rattle.s80_section.specs.declared.head.SectionHead.{SectionHead}
 use Rattle.s80_section.specs.Check.{IsCheckOf, IsSyntaxRefusal, as_method, size_refusal}
 use Rattle.s80_section.specs.Head.{IsHeadOf}
+use Rattle.s80_doit.specs.DoIt.{Fits}
+use Rattle.s80_machine.specs.Came.{RanValue}
 use Rattle.s80_model.specs.declared.item.Query.{Query as SessionQuery}
 use Rattle.s80_model.specs.declared.item.SessionItem.{SessionItem}
 use Rattle.s80_model.specs.declared.item.SessionItem.TheVariants.{Chunk, Unended, Query}
@@ -23,8 +25,10 @@ use Rattle.s80_model.specs.declared.item.SessionItem.TheVariants.{Chunk, Unended
 pub data Ask : Type 0 where
   -- it is refused whatever the list
   refuses : Refusal → Ask
-  -- a change is added
+  -- a definition is added
   adds : Change → Ask
+  -- a doIt of this text is added and evaluated; its run came to this, and so it is told
+  evaluates : List ℕ → RanValue → List ℕ → Ask
   -- a section of this head begins
   opens : SectionHead → Ask
   -- a section begins whose head is refused so
@@ -39,24 +43,21 @@ pub data Ask : Type 0 where
 
 -- ---- plain texts
 
--- the text has a tree that fits a machine
-abbrev pub Fits : List ℕ → Type 0
-Fits text = (tree : DoItParts) × IsDoItOf text tree × (size_refusal (as_method tree) ≡ None)
-
 -- the text has no tree, or one that doesn't fit, and this is why
 abbrev pub IsRefusedText : List ℕ → Refusal → Type 0
 IsRefusedText text refusal = IsSyntaxRefusal IsDoItText text refusal ⊎ ((tree : DoItParts) × IsDoItOf text tree × (size_refusal (as_method tree) ≡ Some refusal))
 
--- the change that a text is: the definition whose form its tree is, or else a doIt
-abbrev pub IsChangeOf : List ℕ → Change → Type 0
-IsChangeOf text (Define d) = IsDefinitionOf text d
-IsChangeOf text (Method m) = ⊥
-IsChangeOf text (DoIt own) = (own ≡ text) × IsNoDefinition text
+-- the text is that of a definition
+abbrev pub IsDefinitionIn : List ℕ → Change → Type 0
+IsDefinitionIn text (Define d) = IsDefinitionOf text d
+IsDefinitionIn text (Method m) = ⊥
+IsDefinitionIn text (DoIt own) = ⊥
 
--- A plain text is refused, or it fits and is added as the change that it is.
+-- A plain text is refused, or it fits and is added: as the definition whose form its tree is, or else as a doIt, which is evaluated.
 abbrev pub AsksPlain : List ℕ → Ask → Type 0
 AsksPlain text (refuses refusal) = IsRefusedText text refusal
-AsksPlain text (adds change) = Fits text × IsChangeOf text change
+AsksPlain text (adds change) = Fits text × IsDefinitionIn text change
+AsksPlain text (evaluates own ran told) = Fits text × (own ≡ text) × IsNoDefinition text
 AsksPlain text _ = ⊥
 
 -- ---- heads
@@ -94,9 +95,7 @@ Asks (Chunk (items.TooLong role n)) ask = ask ≡ ask_of_too_long role n
 Asks Unended ask = ask ≡ refuses refusals.Unended
 Asks (Query query) ask = ask ≡ tells query
 
--- what items ask, one by one
-abbrev pub AllAsk : List SessionItem → List Ask → Type 0
-AllAsk [] [] = Unit {0}
-AllAsk [] (ask ∷ asks) = ⊥
-AllAsk (item ∷ items) [] = ⊥
-AllAsk (item ∷ items) (ask ∷ asks) = Asks item ask × AllAsk items asks
+-- what is asked, with the run of a doIt left out
+abbrev pub but_for_runs : Ask → Ask
+but_for_runs (evaluates text ran told) = adds (DoIt text)
+but_for_runs ask = ask

@@ -10,21 +10,28 @@ use Rattle.s80_state.specs.Accept.{unknown_name}
 use Rattle.s80_state.specs.List.{classes_of, state_of, add}
 use Rattle.s80_model.specs.declared.reply.Answer.{Answer}
 use Rattle.s80_model.specs.declared.reply.Reply.{Reply}
-use Rattle.s80_model.specs.declared.reply.Reply.TheVariants.{Silent, Accepted, Refused, Told}
+use Rattle.s80_model.specs.declared.reply.Reply.TheVariants.{Silent, Accepted, Refused, Evaluated, Told}
 use Rattle.s80_model.specs.declared.section.Section.{Section}
 use Rattle.s80_model.specs.declared.section.Section.TheVariants as sections
 use Rattle.s80_model.specs.Section.{section_or}
 use Rattle.s80_model.specs.Told.{told}
-use Rattle.s80_model.specs.Asked.{Ask, refuses, adds, opens, refuses_head, adds_source, refuses_source, closes, tells}
+use Rattle.s80_model.specs.declared.item.SessionItem.{SessionItem}
+use Rattle.s80_doit.specs.DoIt.{AreGiven, IsRunOf, is_stopped}
+use Rattle.s80_machine.specs.Came.{RanValue}
+use Rattle.s80_outcome.specs.Outcome.{outcome_text}
+use Rattle.s80_state.specs.System.{IsSystemOf, SystemState}
+use Rattle.s80_model.specs.Asked.{Ask, Asks, refuses, adds, evaluates, opens, refuses_head, adds_source, refuses_source, closes, tells}
 
--- the list of changes, and the section in which the next item stands
+-- the list of changes, the section in which the next item stands, how many ticks a doIt may take, and the run of the last that was evaluated
 pub record Work : Type 0 where
   pub changes : List Change
   pub section : Section
+  pub budget : ℕ
+  pub last_run : Option RanValue
 
 -- before the first item of an input
-abbrev pub begun : List Change → Work
-begun changes = record { changes = changes; section = sections.Top }
+abbrev pub begun : ℕ → List Change → Work
+begun budget changes = record { changes = changes; section = sections.Top; budget = budget; last_run = None }
 
 abbrev pub reply_to_adding : Result (List Change) Refusal → Reply
 reply_to_adding (Ok changes) = Accepted
@@ -33,6 +40,31 @@ reply_to_adding (Err refusal) = Refused refusal
 abbrev pub list_or : Result (List Change) Refusal → List Change → List Change
 list_or (Ok changes) before = changes
 list_or (Err refusal) before = before
+
+-- ---- doIts
+
+-- once it is added, a doIt is answered with what its run came to
+abbrev pub reply_to_evaluating : Result (List Change) Refusal → RanValue → List ℕ → Reply
+reply_to_evaluating (Ok changes) ran told = Evaluated (told ++ 10 ∷ []) (is_stopped ran.outcome.end)
+reply_to_evaluating (Err refusal) ran told = Refused refusal
+
+-- the run of the last doIt that was evaluated: of this one, where it is added
+abbrev pub run_or : Result (List Change) Refusal → RanValue → Option RanValue → Option RanValue
+run_or (Ok changes) ran before = Some ran
+run_or (Err refusal) ran before = before
+
+-- among classes and methods of the list with the doIt, the run of its text's code under the budget came to this, and is told so
+pub record IsEvaluatedIn (changes : List Change) (text : List ℕ) (budget : ℕ) (ran : RanValue) (told : List ℕ) : Type 0 where
+  pub system : SystemState
+  pub is : IsSystemOf system (state_of changes)
+  pub given : AreGiven system
+  pub run : IsRunOf system text budget ran
+  pub told_is : told ≡ outcome_text system.table ran.outcome
+
+-- the same where the doIt is added; a refused one isn't evaluated
+abbrev pub IsEvaluated : Result (List Change) Refusal → List ℕ → ℕ → RanValue → List ℕ → Type 0
+IsEvaluated (Ok changes) text budget ran told = IsEvaluatedIn changes text budget ran told
+IsEvaluated (Err refusal) text budget ran told = Unit {0}
 
 -- ---- sections
 
@@ -74,6 +106,7 @@ reply_in_section sections.Refused refusal = Silent
 abbrev pub reply_to : Work → Ask → Reply
 reply_to work (refuses refusal) = Refused refusal
 reply_to work (adds change) = reply_to_adding (add work.changes change)
+reply_to work (evaluates text ran told) = reply_to_evaluating (add work.changes (changes.DoIt text)) ran told
 reply_to work (opens head) = reply_to_head (refusal_of_head work.changes head)
 reply_to work (refuses_head refusal) = Refused refusal
 reply_to work (adds_source source check) = reply_to_source work.changes work.section source check
@@ -81,16 +114,38 @@ reply_to work (refuses_source refusal) = reply_in_section work.section refusal
 reply_to work closes = Silent
 reply_to work (tells query) = told (state_of work.changes) (length work.changes) query
 
--- the list and the section afterwards
+-- the work that goes on afterwards
 abbrev pub work_after : Work → Ask → Work
 work_after work (refuses refusal) = work
 work_after work (adds change) = record work { changes = list_or (add work.changes change) work.changes }
+work_after work (evaluates text ran told) =
+    let added = add work.changes (changes.DoIt text) in
+    record work { changes = list_or added work.changes; last_run = run_or added ran work.last_run }
 work_after work (opens head) = record work { section = section_of head (refusal_of_head work.changes head) }
 work_after work (refuses_head refusal) = record work { section = sections.Refused }
 work_after work (adds_source source check) = record work { changes = list_after_source work.changes work.section source check }
 work_after work (refuses_source refusal) = work
 work_after work closes = record work { section = sections.Top }
 work_after work (tells query) = work
+
+-- what is asked is so in this work: a run is that of its doIt
+abbrev pub IsSo : Work → Ask → Type 0
+IsSo work (evaluates text ran told) = IsEvaluated (add work.changes (changes.DoIt text)) text work.budget ran told
+IsSo work _ = Unit {0}
+
+-- what an item asks in this work, and what items ask, one by one
+abbrev pub AsksIn : Work → SessionItem → Ask → Type 0
+AsksIn work item ask = Asks item ask × IsSo work ask
+
+abbrev pub AllAsk : Work → List SessionItem → List Ask → Type 0
+AllAsk work [] [] = Unit {0}
+AllAsk work [] (ask ∷ asks) = ⊥
+AllAsk work (item ∷ items) [] = ⊥
+AllAsk work (item ∷ items) (ask ∷ asks) = AsksIn work item ask × AllAsk (work_after work ask) items asks
+
+-- the list behind what was asked, with all else as it was
+abbrev pub kept : Work → Ask → Work
+kept work ask = record work { changes = (work_after work ask).changes }
 
 -- it is what is answered, and names the section behind what was asked
 abbrev pub IsAnswer : Work → Ask → Answer → Type 0
@@ -101,15 +156,18 @@ abbrev pub reply_text : Reply → List ℕ
 reply_text Silent = []
 reply_text Accepted = codes "ok" ++ 10 ∷ []
 reply_text (Refused refusal) = refusal_text refusal ++ 10 ∷ []
+reply_text (Evaluated lines stopped) = lines
 reply_text (Told text) = text
 
-abbrev pub is_refused : Reply → Bool
-is_refused Silent = false
-is_refused Accepted = false
-is_refused (Refused refusal) = true
-is_refused (Told text) = false
+-- a change was refused, or a doIt stopped
+abbrev pub is_trouble : Reply → Bool
+is_trouble Silent = false
+is_trouble Accepted = false
+is_trouble (Refused refusal) = true
+is_trouble (Evaluated lines stopped) = stopped
+is_trouble (Told text) = false
 
--- the replies to what is asked one after another, and the list and section after all of it
+-- the replies to what is asked one after another, and the work after all of it
 abbrev pub replies : Work → List Ask → List ℕ
 replies work [] = []
 replies work (ask ∷ asks) = reply_text (reply_to work ask) ++ replies (work_after work ask) asks
@@ -121,7 +179,7 @@ work_after_all work (ask ∷ asks) = work_after_all (work_after work ask) asks
 abbrev pub list_after_all : Work → List Ask → List Change
 list_after_all work asks = (work_after_all work asks).changes
 
--- whether something is refused
-abbrev pub any_refused : Work → List Ask → Bool
-any_refused work [] = false
-any_refused work (ask ∷ asks) = is_refused (reply_to work ask) || any_refused (work_after work ask) asks
+-- whether something is refused or stopped
+abbrev pub any_trouble : Work → List Ask → Bool
+any_trouble work [] = false
+any_trouble work (ask ∷ asks) = is_trouble (reply_to work ask) || any_trouble (work_after work ask) asks

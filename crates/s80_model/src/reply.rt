@@ -12,6 +12,8 @@ pub enum Reply {
     Silent,
     /// The change was kept.
     Accepted,
+    /// The doIt was kept and evaluated: what it is told, and whether its run was stopped.
+    Evaluated { lines: Text, stopped: bool },
     Refused(Refusal),
     /// These lines.
     Told(Text),
