@@ -19,7 +19,7 @@ use Rattle.s80_model.specs.declared.reply.Reply.TheVariants.{Accepted, Refused}
 use Rattle.s80_model.specs.Replies.{Work, reply_to_adding}
 use Rattle.s80_session.specs.declared.session.Session.{Session}
 use Rattle.s80_session.specs.Run.{Shown, HasKept}
-use Rattle.s80_session.specs.Session.{keeper_of, section_of}
+use Rattle.s80_session.specs.Session.{budget_of, keeper_of, last_run_of, section_of}
 use Rattle.s80_session.specs.Working.{IsAt, IsLawfulFor, KeepLeaves, adding}
 use Rattle.s80_session.proofs.Keeping.{keeps_prepared}
 
@@ -36,9 +36,16 @@ log_is : (may_leave : Image → Type 0) (o : Shown) (session : Session) (work : 
 log_is may_leave o session work put h = sym h.keeps.end ∙ h.keeps.stands.files.whole
 
 -- a session before and after its keeper prepared a change
-module _ (may_leave : Image → Type 0) (o : Shown) (before now : Session) (work : Work) (put : List ℕ) (change : Change) (same : keeper_of now ≡ record (keeper_of before) { system = (keeper_of now).system }) (system : IsSystemOf (keeper_of now).system (state_of work.changes)) (section : section_of now ≡ section_of before) (at : IsAt may_leave o before work put) where
+module _ (may_leave : Image → Type 0) (o : Shown) (before now : Session) (work : Work) (put : List ℕ) (change : Change) (same : keeper_of now ≡ record (keeper_of before) { system = (keeper_of now).system }) (system : IsSystemOf (keeper_of now).system (state_of work.changes)) (rest : now ≡ record before { keeper = keeper_of now }) (at : IsAt may_leave o before work put) where
   pub still_at : IsAt may_leave o now work put
-  still_at = record { keeps = keeps_prepared o.tells o.files may_leave (keeper_of before) work.changes (keeper_of now) same system at.keeps; section = section ∙ at.section; taken = at.taken; told = at.told }
+  still_at = record {
+    keeps = keeps_prepared o.tells o.files may_leave (keeper_of before) work.changes (keeper_of now) same system at.keeps;
+    section = ap section_of rest ∙ at.section;
+    budget = ap budget_of rest ∙ at.budget;
+    last_run = ap last_run_of rest ∙ at.last_run;
+    taken = at.taken;
+    told = at.told;
+  }
 
   pub refused : (refusal : Refusal) → refusal_to (state_of work.changes) (keeper_of before).log.end change ≡ Some refusal → (Refused refusal ≡ reply_to_adding (add work.changes change)) × IsAt may_leave o now (adding work change) put
   refused refusal is =
@@ -62,8 +69,19 @@ module _ (may_leave : Image → Type 0) (o : Shown) (before now : Session) (work
         subst P (sym is) (lawful (subst Q (sym accepts.1) tt))
 
 -- what was kept
-pub kept : (may_leave : Image → Type 0) (now : Shown) (session : Session) (work : Work) (put : List ℕ) (change : Change) → add work.changes change ≡ Ok (work.changes ++ change ∷ []) → Keeps now.tells now.files may_leave (keeper_of session) (work.changes ++ change ∷ []) → section_of session ≡ work.section → now.taken ≡ Some put → now.told ≡ length put → (Accepted ≡ reply_to_adding (add work.changes change)) × IsAt may_leave now session (adding work change) put
-kept may_leave now session work put change takes keeps section taken told = rw takes (refl, record { keeps = keeps; section = section; taken = taken; told = told })
+pub kept : (was may_leave : Image → Type 0) (o now : Shown) (before session : Session) (work : Work) (put : List ℕ) (change : Change) → add work.changes change ≡ Ok (work.changes ++ change ∷ []) → Keeps now.tells now.files may_leave (keeper_of session) (work.changes ++ change ∷ []) → session ≡ record before { keeper = keeper_of session } → now ≡ record o { files = now.files } → IsAt was o before work put
+    → (Accepted ≡ reply_to_adding (add work.changes change)) × IsAt may_leave now session (adding work change) put
+kept was may_leave o now before session work put change takes keeps rest shown at = rw takes (
+  refl,
+  record {
+    keeps = keeps;
+    section = ap section_of rest ∙ at.section;
+    budget = ap budget_of rest ∙ at.budget;
+    last_run = ap last_run_of rest ∙ at.last_run;
+    taken = ap (λ (s : Shown). s.taken) shown ∙ at.taken;
+    told = ap (λ (s : Shown). s.told) shown ∙ at.told;
+  },
+)
 
 -- each moment of the keeping
 keep_leaves : (work : Work) (put : List ℕ) (change : Change) (told_before : ℕ) → add work.changes change ≡ Ok (work.changes ++ change ∷ []) → told_before ≡ length put → (told : ℕ) (c : Image) → LeavesEither told_before work.changes (work.changes ++ change ∷ []) told c → KeepLeaves work put change told c

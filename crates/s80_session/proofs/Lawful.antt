@@ -1,5 +1,5 @@
 -- What a list accepts is lawful.
-use Rattle.std.proofs.Common.{◌≡◌, ◌≤◌, ℕ, List, ◌∷◌, [], length, Bool, cond, true, false, refl, Option, Some, None}
+use Rattle.std.proofs.Common.{◌≡◌, ◌≤◌, ℕ, List, ◌∷◌, [], length, Bool, cond, true, false, refl, sym, subst, Option, Some, None}
 use Rattle.std.specs.FinMap as map
 use Rattle.s80_chunk.specs.Chunks.{IsChunkText, longest}
 use Rattle.s80_block.specs.declared.change.Change.TheVariants.{Define, Method}
@@ -16,6 +16,7 @@ use Rattle.s80_section.specs.declared.source_check.SourceCheck.{SourceCheck}
 use Rattle.s80_section.specs.declared.source_check.SourceCheck.TheVariants as checks
 use Rattle.s80_section.specs.Check.{IsCheckOf}
 use Rattle.s80_state.specs.State.{State}
+use Rattle.s80_state.specs.System.{IsChecked}
 use Rattle.s80_state.specs.Accept.{unknown_name, too_many_methods, put_source, accepted, accept_checked, first_some}
 use Rattle.s80_state.specs.List.{IsAccepted, classes_of, state_of}
 use Rattle.s80_state.proofs.Lawful.{accepted_lawful, classes_named}
@@ -55,3 +56,9 @@ method_lawful changes m text short check = λ is.
 pub source_lawful : (changes : List Change) (head : SectionHead) (source : List ℕ) (check : SourceCheck) → IsChunkText source → length source ≤ longest → IsCheckOf source check → IsLawfulFor changes (method_in head source check)
 source_lawful changes head source check text short is =
     method_lawful changes (record { class_name = head.class_name; side = head.side; category = head.category; source = source; check = check }) text short is
+
+-- and it may be prepared
+pub source_checked : (change : Change) (head : SectionHead) (source : List ℕ) (check : SourceCheck) → change ≡ method_in head source check → length source ≤ longest → IsCheckOf source check → IsChecked change
+source_checked change head source check same short is =
+    let own : IsChecked (method_in head source check) = (is, short) in
+    subst IsChecked (sym same) own

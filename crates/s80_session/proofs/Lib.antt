@@ -1,6 +1,7 @@
 pub mod Adding
 pub mod Answering
 pub mod Asking
+pub mod Evaluating
 pub mod Finishing
 pub mod Keeping
 pub mod Lasting
@@ -10,3 +11,4 @@ pub mod Stepping
 pub mod Taking
 pub mod Telling
 pub mod UnderWay
+pub mod Unmarked

@@ -1,11 +1,13 @@
 -- One step of a session.
-use Rattle.std.proofs.Common.{◌≡◌, inl, inr, ℕ, List, ◌++◌, take, refl, sym, ap, subst, ◌∙◌, Result, Ok, Err, Some, Bool, true, false}
+use Rattle.std.proofs.Common.{◌≡◌, inl, inr, ℕ, List, ◌++◌, take, refl, sym, ap, subst, ◌∙◌, Result, Ok, Err, Option, Some, Bool, true, false}
 use Rattle.std.specs.Prelude.{◌||◌, None, length}
 use Rattle.std.proofs.lemmas.List.{append-nil}
 use Rattle.s80_chunk.specs.declared.item.Role.{Role}
 use Rattle.s80_chunk.specs.declared.item.Role.TheVariants as roles
 use Rattle.s80_chunk.specs.declared.item.Item.TheVariants as items
 use Rattle.s80_block.specs.declared.change.Change.{Change}
+use Rattle.s80_block.specs.declared.change.Change.TheVariants.{Define, DoIt}
+use Rattle.s80_change.specs.declared.definition.Definition.{Definition}
 use Rattle.s80_change.specs.declared.refusal.Refusal.{Refusal}
 use Rattle.s80_disk.specs.Image.{Image}
 use Rattle.s80_disk.specs.Moments.{LeavesOnly}
@@ -26,38 +28,46 @@ use Rattle.s80_model.specs.declared.reply.Reply.{Reply}
 use Rattle.s80_model.specs.declared.reply.Reply.TheVariants.{Silent, Refused}
 use Rattle.s80_model.specs.declared.section.Section.{Section}
 use Rattle.s80_model.specs.declared.section.Section.TheVariants as sections
-use Rattle.s80_model.specs.Asked.{Ask, refuses, adds, opens, refuses_head, adds_source, refuses_source, closes, tells, ask_of_too_long, Asks, AsksPlain, AsksHead, AsksMethod}
-use Rattle.s80_model.specs.Replies.{IsAnswer, Work, list_or, list_after_source, method_in, reply_to, reply_to_adding, reply_to_source, reply_text, is_refused, work_after}
+use Rattle.s80_machine.specs.Came.{RanValue}
+use Rattle.s80_model.specs.Asked.{Ask, refuses, adds, evaluates, opens, refuses_head, adds_source, refuses_source, closes, tells, ask_of_too_long, AsksPlain, AsksHead, AsksMethod}
+use Rattle.s80_model.specs.Replies.{IsAnswer, Work, AsksIn, IsSo, list_or, list_after_source, method_in, reply_to, reply_to_adding, reply_to_evaluating, reply_to_source, reply_text, run_or, is_trouble, work_after}
 use Rattle.s80_model.specs.Section.{section_or}
 use Rattle.s80_model.specs.Told.{told}
 use Rattle.s80_session.specs.declared.end.SessionEnd.{SessionEnd}
 use Rattle.s80_session.specs.declared.end.SessionEnd.TheVariants as ends
 use Rattle.s80_session.specs.declared.session.Session.{Session}
-use Rattle.s80_session.specs.Ends.{end_of_start}
+use Rattle.s80_session.specs.Ends.{end_of_start, reply_to_keeping}
 use Rattle.s80_session.specs.Run.{Shown, HasKept}
-use Rattle.s80_session.specs.Session.{keeper_of, section_of, troubled_of}
-use Rattle.s80_session.specs.Working.{IsAt, Kept, Replied, Worked, Stepped, Unworked, IsPut, AnswerPut, KeepLeaves, WorkLeaves, Starts, adding, listed}
+use Rattle.s80_session.specs.Session.{budget_of, keeper_of, last_run_of, section_of, troubled_of}
+use Rattle.s80_session.specs.Working.{IsAt, Kept, Replied, Worked, Stepped, Unreplied, Unworked, IsPut, AnswerPut, KeepLeaves, WorkLeaves, Starts, adding, staying}
 use Rattle.s80_session.proofs.Keeping.{keeps_less}
 
 -- ---- texts that are kept
 
--- a text that is a change is worked by keeping it
-pub replied_plain : (r : Result Reply SessionEnd) (may_leave : Image → Type 0) (now : Shown) (session : Session) (work : Work) (put text : List ℕ) (change : Change) → AsksPlain text (adds change) → Kept r may_leave now session work put change → Replied r may_leave now session work put (Chunk (items.Plain text))
-replied_plain (Ok reply) may_leave now session work put text change is h = (adds change, is, h.0, h.1)
-replied_plain (Err end) may_leave now session work put text change is h = h
+-- what broke off before anything was kept
+pub unreplied : (end : SessionEnd) (may_leave : Image → Type 0) (now : Shown) (session : Session) (work : Work) (put : List ℕ) (item : SessionItem) → Unworked end may_leave now session work put → Unreplied end may_leave now session work put item
+unreplied ends.Memory may_leave now session work put item h = inl h
+unreplied (ends.Disk failed) may_leave now session work put item h = h
+unreplied (ends.Read failed) may_leave now session work put item h = h
+unreplied (ends.Write failed) may_leave now session work put item h = h
+unreplied ends.TooLong may_leave now session work put item h = h
+unreplied (ends.Damaged damage) may_leave now session work put item h = h
+
+-- a text that is a definition is worked by keeping it
+pub replied_definition : (may_leave : Image → Type 0) (now : Shown) (session : Session) (work : Work) (put text : List ℕ) (d : Definition) (refusal : Option Refusal) (reply : Reply) → AsksPlain text (adds (Define d)) → reply ≡ reply_to_keeping refusal → Kept (Ok refusal) may_leave now session work put (Define d) → Replied (Ok reply) may_leave now session work put (Chunk (items.Plain text))
+replied_definition may_leave now session work put text d refusal reply is reply_is h = (adds (Define d), (is, tt), reply_is ∙ h.0, h.1)
 
 -- one that is none is refused
 pub replied_refusal : (may_leave : Image → Type 0) (now : Shown) (session : Session) (work : Work) (put text : List ℕ) (refusal : Refusal) → AsksPlain text (refuses refusal) → IsAt may_leave now session work put → Replied (Ok (Refused refusal)) may_leave now session work put (Chunk (items.Plain text))
-replied_refusal may_leave now session work put text refusal is h = (refuses refusal, is, refl, h)
+replied_refusal may_leave now session work put text refusal is h = (refuses refusal, (is, tt), refl, h)
 
 -- a source is worked by keeping its method, in a section that is open
-pub replied_source : (r : Result Reply SessionEnd) (may_leave : Image → Type 0) (now : Shown) (session : Session) (work : Work) (put source : List ℕ) (check : SourceCheck) (head : SectionHead) (change : Change) → change ≡ method_in head source check → work.section ≡ sections.Open head → IsCheckOf source check → Kept r may_leave now session work put change → Replied r may_leave now session work put (Chunk (items.Method source))
-replied_source (Ok reply) may_leave now session work put source check head change method section is h =
+pub replied_source : (may_leave : Image → Type 0) (now : Shown) (session : Session) (work : Work) (put source : List ℕ) (check : SourceCheck) (head : SectionHead) (change : Change) (refusal : Option Refusal) (reply : Reply) → change ≡ method_in head source check → work.section ≡ sections.Open head → IsCheckOf source check → reply ≡ reply_to_keeping refusal → Kept (Ok refusal) may_leave now session work put change → Replied (Ok reply) may_leave now session work put (Chunk (items.Method source))
+replied_source may_leave now session work put source check head change refusal reply method section is reply_is h =
     let P : Section → Type 0 = λ s. (reply ≡ reply_to_source work.changes s source check) × IsAt may_leave now session (record work { changes = list_after_source work.changes s source check }) put in
     let Q : Change → Type 0 = λ c. (reply ≡ reply_to_adding (add work.changes c)) × IsAt may_leave now session (adding work c) put in
-    let both = subst P (sym section) (subst Q method h) in
-    (adds_source source check, (refl, is), both.0, both.1)
-replied_source (Err end) may_leave now session work put source check head change method section is h = h
+    let both = subst P (sym section) (subst Q method (reply_is ∙ h.0, h.1)) in
+    (adds_source source check, ((refl, is), tt), both.0, both.1)
 
 -- in every other section it is passed over
 passes_over : (may_leave : Image → Type 0) (now : Shown) (session : Session) (work : Work) (put source : List ℕ) (check : SourceCheck) (section : Section) → reply_to_source work.changes section source check ≡ Silent → list_after_source work.changes section source check ≡ work.changes → work.section ≡ section → IsCheckOf source check → IsAt may_leave now session work put → Replied (Ok Silent) may_leave now session work put (Chunk (items.Method source))
@@ -65,7 +75,7 @@ passes_over may_leave now session work put source check section silent stays is 
     let P : List Change → Type 0 = λ l. IsAt may_leave now session (record work { changes = l }) put in
     let Q : Section → Type 0 = λ s. (Silent ≡ reply_to_source work.changes s source check) × IsAt may_leave now session (record work { changes = list_after_source work.changes s source check }) put in
     let both = subst Q (sym is) (sym silent, subst P (sym stays) h) in
-    (adds_source source check, (refl, checked), both.0, both.1)
+    (adds_source source check, ((refl, checked), tt), both.0, both.1)
 
 pub passed_top : (may_leave : Image → Type 0) (now : Shown) (session : Session) (work : Work) (put source : List ℕ) (check : SourceCheck) → work.section ≡ sections.Top → IsCheckOf source check → IsAt may_leave now session work put → Replied (Ok Silent) may_leave now session work put (Chunk (items.Method source))
 passed_top may_leave now session work put source check is checked h = passes_over may_leave now session work put source check sections.Top refl refl is checked h
@@ -74,32 +84,33 @@ pub passed_refused : (may_leave : Image → Type 0) (now : Shown) (session : Ses
 passed_refused may_leave now session work put source check is checked h = passes_over may_leave now session work put source check sections.Refused refl refl is checked h
 
 -- what a crash leaves while a change is kept
-keep_works : (work : Work) (put : List ℕ) (item : SessionItem) (ask : Ask) (change : Change) (told : ℕ) (c : Image) → Asks item ask → (work_after work ask).changes ≡ list_or (add work.changes change) work.changes → KeepLeaves work put change told c → WorkLeaves work put item told c
+keep_works : (work : Work) (put : List ℕ) (item : SessionItem) (ask : Ask) (change : Change) (told : ℕ) (c : Image) → AsksIn work item ask → (work_after work ask).changes ≡ list_or (add work.changes change) work.changes → KeepLeaves work put change told c → WorkLeaves work put item told c
 keep_works work put item ask change told c one is (inl h) = inl h
 keep_works work put item ask change told c one is (inr h) = inr (ask, one, let P : List Change → Type 0 = λ l. HasKept l (length put) told c in subst P (sym is) h)
 
 module _ {D : Type 0} (moment : D → ℕ) (left_since : D → ℕ → ℕ → Image → Type 0) where
-  kept_lasts : (old new : D) (work : Work) (put : List ℕ) (item : SessionItem) (ask : Ask) (change : Change) → Asks item ask → (work_after work ask).changes ≡ list_or (add work.changes change) work.changes → LeavesOnly moment left_since old new (KeepLeaves work put change) → LeavesOnly moment left_since old new (WorkLeaves work put item)
+  pub kept_lasts : (old new : D) (work : Work) (put : List ℕ) (item : SessionItem) (ask : Ask) (change : Change) → AsksIn work item ask → (work_after work ask).changes ≡ list_or (add work.changes change) work.changes → LeavesOnly moment left_since old new (KeepLeaves work put change) → LeavesOnly moment left_since old new (WorkLeaves work put item)
   kept_lasts old new work put item ask change one is run = weaker moment left_since old new (KeepLeaves work put change) (WorkLeaves work put item) run (λ told c h. keep_works work put item ask change told c one is h)
 
   pub plain_lasts : (old new : D) (work : Work) (put text : List ℕ) (change : Change) → AsksPlain text (adds change) → LeavesOnly moment left_since old new (KeepLeaves work put change) → LeavesOnly moment left_since old new (WorkLeaves work put (Chunk (items.Plain text)))
-  plain_lasts old new work put text change is run = kept_lasts old new work put (Chunk (items.Plain text)) (adds change) change is refl run
+  plain_lasts old new work put text change is run = kept_lasts old new work put (Chunk (items.Plain text)) (adds change) change (is, tt) refl run
 
   pub source_lasts : (old new : D) (work : Work) (put source : List ℕ) (check : SourceCheck) (head : SectionHead) (change : Change) → change ≡ method_in head source check → work.section ≡ sections.Open head → IsCheckOf source check → LeavesOnly moment left_since old new (KeepLeaves work put change) → LeavesOnly moment left_since old new (WorkLeaves work put (Chunk (items.Method source)))
   source_lasts old new work put source check head change method section is run =
-      kept_lasts old new work put (Chunk (items.Method source)) (adds_source source check) change (refl, is) (ap (λ s. list_after_source work.changes s source check) section ∙ ap (λ c. list_or (add work.changes c) work.changes) (sym method)) run
+      kept_lasts old new work put (Chunk (items.Method source)) (adds_source source check) change ((refl, is), tt) (ap (λ s. list_after_source work.changes s source check) section ∙ ap (λ c. list_or (add work.changes c) work.changes) (sym method)) run
 
 -- ---- the answer to an item
 
--- an answer by which list and section are as what was asked makes them
-pub worked_so : (may_leave : Image → Type 0) (now : Shown) (session : Session) (work : Work) (put : List ℕ) (item : SessionItem) (ask : Ask) (answer : Answer) → Asks item ask → IsAnswer work ask answer → (work_after work ask).changes ≡ work.changes → IsAt may_leave now session work put → Worked (Ok answer) may_leave now session work put item
+-- an answer by which all is as before but for the section
+pub worked_so : (may_leave : Image → Type 0) (now : Shown) (session : Session) (work : Work) (put : List ℕ) (item : SessionItem) (ask : Ask) (answer : Answer) → AsksIn work item ask → IsAnswer work ask answer → staying work ask ≡ work → IsAt may_leave now session work put → Worked (Ok answer) may_leave now session work put item
 worked_so may_leave now session work put item ask answer one is stays h =
-    let P : List Change → Type 0 = λ l. IsAt may_leave now session (record work { changes = l }) put in
+    let P : Work → Type 0 = λ w. IsAt may_leave now session w put in
     (ask, one, is, subst P (sym stays) h)
 
 plain_stays : (work : Work) (text : List ℕ) (ask : Ask) → AsksPlain text ask → (work_after work ask).section ≡ work.section
 plain_stays work text (refuses refusal) h = refl
 plain_stays work text (adds change) h = refl
+plain_stays work text (evaluates own ran told) h = refl
 plain_stays work text (opens head) h = absurd h
 plain_stays work text (refuses_head refusal) h = absurd h
 plain_stays work text (adds_source source check) h = absurd h
@@ -111,6 +122,7 @@ method_stays : (work : Work) (text : List ℕ) (ask : Ask) → AsksMethod text a
 method_stays work text (adds_source source check) h = refl
 method_stays work text (refuses refusal) h = absurd h
 method_stays work text (adds change) h = absurd h
+method_stays work text (evaluates own ran told) h = absurd h
 method_stays work text (opens head) h = absurd h
 method_stays work text (refuses_head refusal) h = absurd h
 method_stays work text (refuses_source refusal) h = absurd h
@@ -118,9 +130,9 @@ method_stays work text closes h = absurd h
 method_stays work text (tells query) h = absurd h
 
 -- a reply to an item that leaves the section is its answer
-staying : (may_leave : Image → Type 0) (now : Shown) (session : Session) (work : Work) (put : List ℕ) (item : SessionItem) (ask : Ask) (answer : Answer) → Asks item ask → (work_after work ask).section ≡ work.section → answer.reply ≡ reply_to work ask → section_or answer.section work.section ≡ work.section → IsAt may_leave now session (work_after work ask) put → Worked (Ok answer) may_leave now session work put item
-staying may_leave now session work put item ask answer one stays is same h =
-    (ask, one, (is, same ∙ sym stays), record { keeps = h.keeps; section = h.section ∙ stays; taken = h.taken; told = h.told })
+stays_there : (may_leave : Image → Type 0) (now : Shown) (session : Session) (work : Work) (put : List ℕ) (item : SessionItem) (ask : Ask) (answer : Answer) → AsksIn work item ask → (work_after work ask).section ≡ work.section → answer.reply ≡ reply_to work ask → section_or answer.section work.section ≡ work.section → IsAt may_leave now session (work_after work ask) put → Worked (Ok answer) may_leave now session work put item
+stays_there may_leave now session work put item ask answer one stays is same h =
+    (ask, one, (is, same ∙ sym stays), record { keeps = h.keeps; section = h.section ∙ stays; budget = h.budget; last_run = h.last_run; taken = h.taken; told = h.told })
 
 -- it stays where an answer names no section
 abbrev pub IsStaying : Reply → Answer → Type 0
@@ -128,54 +140,77 @@ IsStaying reply answer = answer ≡ record { reply = reply; section = None }
 
 pub worked_plain : (may_leave : Image → Type 0) (now : Shown) (session : Session) (work : Work) (put text : List ℕ) (reply : Reply) (answer : Answer) → IsStaying reply answer → Replied (Ok reply) may_leave now session work put (Chunk (items.Plain text)) → Worked (Ok answer) may_leave now session work put (Chunk (items.Plain text))
 worked_plain may_leave now session work put text reply answer is h =
-    staying may_leave now session work put (Chunk (items.Plain text)) h.0 answer h.1 (plain_stays work text h.0 h.1) (ap (λ (a : Answer). a.reply) is ∙ h.2) (ap (λ (a : Answer). section_or a.section work.section) is) h.3
+    stays_there may_leave now session work put (Chunk (items.Plain text)) h.0 answer h.1 (plain_stays work text h.0 h.1.0) (ap (λ (a : Answer). a.reply) is ∙ h.2) (ap (λ (a : Answer). section_or a.section work.section) is) h.3
 
 pub worked_method : (may_leave : Image → Type 0) (now : Shown) (session : Session) (work : Work) (put text : List ℕ) (reply : Reply) (answer : Answer) → IsStaying reply answer → Replied (Ok reply) may_leave now session work put (Chunk (items.Method text)) → Worked (Ok answer) may_leave now session work put (Chunk (items.Method text))
 worked_method may_leave now session work put text reply answer is h =
-    staying may_leave now session work put (Chunk (items.Method text)) h.0 answer h.1 (method_stays work text h.0 h.1) (ap (λ (a : Answer). a.reply) is ∙ h.2) (ap (λ (a : Answer). section_or a.section work.section) is) h.3
+    stays_there may_leave now session work put (Chunk (items.Method text)) h.0 answer h.1 (method_stays work text h.0 h.1.0) (ap (λ (a : Answer). a.reply) is ∙ h.2) (ap (λ (a : Answer). section_or a.section work.section) is) h.3
 
 pub worked_query : (may_leave : Image → Type 0) (now : Shown) (session : Session) (work : Work) (put : List ℕ) (query : SessionQuery) (reply : Reply) (answer : Answer) → IsStaying reply answer → Replied (Ok reply) may_leave now session work put (Query query) → Worked (Ok answer) may_leave now session work put (Query query)
 worked_query may_leave now session work put query reply answer is h =
     let P : Ask → Type 0 = λ a. (work_after work a).section ≡ work.section in
-    staying may_leave now session work put (Query query) h.0 answer h.1 (subst P (sym h.1) refl) (ap (λ (a : Answer). a.reply) is ∙ h.2) (ap (λ (a : Answer). section_or a.section work.section) is) h.3
+    stays_there may_leave now session work put (Query query) h.0 answer h.1 (subst P (sym h.1.0) refl) (ap (λ (a : Answer). a.reply) is ∙ h.2) (ap (λ (a : Answer). section_or a.section work.section) is) h.3
 
-head_lists : (work : Work) (text : List ℕ) (ask : Ask) → AsksHead text ask → (work_after work ask).changes ≡ work.changes
+head_lists : (work : Work) (text : List ℕ) (ask : Ask) → AsksHead text ask → staying work ask ≡ work
 head_lists work text (opens head) h = refl
 head_lists work text (refuses_head refusal) h = refl
 head_lists work text (refuses refusal) h = absurd h
 head_lists work text (adds change) h = absurd h
+head_lists work text (evaluates own ran told) h = absurd h
 head_lists work text (adds_source source check) h = absurd h
 head_lists work text (refuses_source refusal) h = absurd h
 head_lists work text closes h = absurd h
 head_lists work text (tells query) h = absurd h
 
-pub worked_head : (may_leave : Image → Type 0) (now : Shown) (session : Session) (work : Work) (put text : List ℕ) (answer : Answer) → (ask : Ask) × AsksHead text ask × IsAnswer work ask answer → IsAt may_leave now session work put → Worked (Ok answer) may_leave now session work put (Chunk (items.Head text))
-worked_head may_leave now session work put text answer is h = worked_so may_leave now session work put (Chunk (items.Head text)) is.0 answer is.1 is.2 (head_lists work text is.0 is.1) h
+head_so : (work : Work) (text : List ℕ) (ask : Ask) → AsksHead text ask → IsSo work ask
+head_so work text (opens head) h = tt
+head_so work text (refuses_head refusal) h = tt
+head_so work text (refuses refusal) h = absurd h
+head_so work text (adds change) h = absurd h
+head_so work text (evaluates own ran told) h = absurd h
+head_so work text (adds_source source check) h = absurd h
+head_so work text (refuses_source refusal) h = absurd h
+head_so work text closes h = absurd h
+head_so work text (tells query) h = absurd h
 
-too_long_lists : (work : Work) (role : Role) (n : ℕ) → (work_after work (ask_of_too_long role n)).changes ≡ work.changes
+pub worked_head : (may_leave : Image → Type 0) (now : Shown) (session : Session) (work : Work) (put text : List ℕ) (answer : Answer) → (ask : Ask) × AsksHead text ask × IsAnswer work ask answer → IsAt may_leave now session work put → Worked (Ok answer) may_leave now session work put (Chunk (items.Head text))
+worked_head may_leave now session work put text answer is h = worked_so may_leave now session work put (Chunk (items.Head text)) is.0 answer (is.1, head_so work text is.0 is.1) is.2 (head_lists work text is.0 is.1) h
+
+too_long_so : (work : Work) (role : Role) (n : ℕ) → IsSo work (ask_of_too_long role n)
+too_long_so work roles.Plain n = tt
+too_long_so work roles.Head n = tt
+too_long_so work roles.Method n = tt
+
+too_long_lists : (work : Work) (role : Role) (n : ℕ) → staying work (ask_of_too_long role n) ≡ work
 too_long_lists work roles.Plain n = refl
 too_long_lists work roles.Head n = refl
 too_long_lists work roles.Method n = refl
 
 pub worked_too_long : (may_leave : Image → Type 0) (now : Shown) (session : Session) (work : Work) (put : List ℕ) (role : Role) (n : ℕ) (answer : Answer) → IsAnswer work (ask_of_too_long role n) answer → IsAt may_leave now session work put → Worked (Ok answer) may_leave now session work put (Chunk (items.TooLong role n))
-worked_too_long may_leave now session work put role n answer is h = worked_so may_leave now session work put (Chunk (items.TooLong role n)) (ask_of_too_long role n) answer refl is (too_long_lists work role n) h
+worked_too_long may_leave now session work put role n answer is h = worked_so may_leave now session work put (Chunk (items.TooLong role n)) (ask_of_too_long role n) answer (refl, too_long_so work role n) is (too_long_lists work role n) h
 
 -- what a query is told
 pub replied_told : (may_leave : Image → Type 0) (now : Shown) (session : Session) (work : Work) (put : List ℕ) (query asked : SessionQuery) (count : ℕ) (reply : Reply) → query ≡ asked → count ≡ length work.changes → reply ≡ told (state_of work.changes) count asked → IsAt may_leave now session work put → Replied (Ok reply) may_leave now session work put (Query query)
-replied_told may_leave now session work put query asked count reply is counted told_is h = (tells query, refl, told_is ∙ (λ i. told (state_of work.changes) (counted i) (sym is i)), h)
+replied_told may_leave now session work put query asked count reply is counted told_is h = (tells query, (refl, tt), told_is ∙ (λ i. told (state_of work.changes) (counted i) (sym is i)), h)
 
 -- ---- the section is entered
 
-pub entered : (may_leave : Image → Type 0) (now : Shown) (mid session : Session) (work : Work) (put : List ℕ) (ask : Ask) (answer : Answer) → IsAnswer work ask answer → section_of session ≡ section_or answer.section (section_of mid) → keeper_of session ≡ keeper_of mid → IsAt may_leave now mid (listed work ask) put → IsAt may_leave now session (work_after work ask) put
-entered may_leave now mid session work put ask answer is section same h = record {
-  keeps = let P : KeeperState → Type 0 = λ k. Keeps now.tells now.files may_leave k (work_after work ask).changes in subst P (sym same) h.keeps;
+-- whether something was in the way is no matter
+pub at_calm : (may_leave : Image → Type 0) (now : Shown) (session : Session) (work : Work) (put : List ℕ) (troubled : Bool) → IsAt may_leave now session work put → IsAt may_leave now (record session { troubled = troubled }) work put
+at_calm may_leave now session work put troubled h = record { keeps = h.keeps; section = h.section; budget = h.budget; last_run = h.last_run; taken = h.taken; told = h.told }
+
+pub entered : (may_leave : Image → Type 0) (now : Shown) (mid session : Session) (work : Work) (put : List ℕ) (ask : Ask) (answer : Answer) → IsAnswer work ask answer → section_of session ≡ section_or answer.section (section_of mid) → session ≡ record mid { section = section_of session } → IsAt may_leave now mid (staying work ask) put → IsAt may_leave now session (work_after work ask) put
+entered may_leave now mid session work put ask answer is section rest h = record {
+  keeps = let P : KeeperState → Type 0 = λ k. Keeps now.tells now.files may_leave k (work_after work ask).changes in subst P (sym (ap keeper_of rest)) h.keeps;
   section = section ∙ ap (section_or answer.section) h.section ∙ is.1;
+  budget = ap budget_of rest ∙ h.budget;
+  last_run = ap last_run_of rest ∙ h.last_run;
   taken = h.taken;
   told = h.told;
 }
 
 -- where the work breaks off, nothing is answered
-pub worked_err : (T : Type 0) (end : SessionEnd) (may_leave : Image → Type 0) (now : Shown) (session : Session) (was : Bool) (work : Work) (put : List ℕ) (item : SessionItem) → Unworked end may_leave now session work put → Stepped {T = T} (Err end) may_leave now session was work put item
+pub worked_err : (T : Type 0) (end : SessionEnd) (may_leave : Image → Type 0) (now : Shown) (session : Session) (was : Bool) (work : Work) (put : List ℕ) (item : SessionItem) → Unreplied end may_leave now session work put item → Stepped {T = T} (Err end) may_leave now session was work put item
 worked_err T ends.Memory may_leave now session was work put item h = h
 worked_err T (ends.Disk failed) may_leave now session was work put item h = h
 worked_err T (ends.Read failed) may_leave now session was work put item h = h
@@ -187,26 +222,31 @@ adding_refused : (r : Result (List Change) Refusal) (changes : List Change) (ref
 adding_refused (Ok list) changes refusal e = cc
 adding_refused (Err other) changes refusal e = refl
 
+evaluating_refused : (r : Result (List Change) Refusal) (work : Work) (ran : RanValue) (told : List ℕ) (refusal : Refusal) → reply_to_evaluating r ran told ≡ Refused refusal → record work { changes = list_or r work.changes; last_run = run_or r ran work.last_run } ≡ work
+evaluating_refused (Ok list) work ran told refusal e = absurd (cc)
+evaluating_refused (Err other) work ran told refusal e = refl
+
 source_refused : (changes : List Change) (section : Section) (source : List ℕ) (check : SourceCheck) (refusal : Refusal) → reply_to_source changes section source check ≡ Refused refusal → list_after_source changes section source check ≡ changes
 source_refused changes sections.Top source check refusal e = refl
 source_refused changes (sections.Open head) source check refusal e = adding_refused (add changes (method_in head source check)) changes refusal e
 source_refused changes sections.Refused source check refusal e = refl
 
--- a refusal leaves the list
-refused_stays : (work : Work) (ask : Ask) (refusal : Refusal) → reply_to work ask ≡ Refused refusal → (work_after work ask).changes ≡ work.changes
+-- a refusal leaves all but the section
+refused_stays : (work : Work) (ask : Ask) (refusal : Refusal) → reply_to work ask ≡ Refused refusal → staying work ask ≡ work
 refused_stays work (refuses other) refusal e = refl
-refused_stays work (adds change) refusal e = adding_refused (add work.changes change) work.changes refusal e
+refused_stays work (adds change) refusal e = ap (λ l. record work { changes = l }) (adding_refused (add work.changes change) work.changes refusal e)
+refused_stays work (evaluates text ran told) refusal e = evaluating_refused (add work.changes (DoIt text)) work ran told refusal e
 refused_stays work (opens head) refusal e = refl
 refused_stays work (refuses_head other) refusal e = refl
-refused_stays work (adds_source source check) refusal e = source_refused work.changes work.section source check refusal e
+refused_stays work (adds_source source check) refusal e = ap (λ l. record work { changes = l }) (source_refused work.changes work.section source check refusal e)
 refused_stays work (refuses_source other) refusal e = refl
 refused_stays work closes refusal e = refl
 refused_stays work (tells query) refusal e = refl
 
--- so where its line isn't made, list and section are as they were
-pub refused_is_at : (may_leave : Image → Type 0) (now : Shown) (session : Session) (work : Work) (put : List ℕ) (ask : Ask) (refusal : Refusal) → reply_to work ask ≡ Refused refusal → IsAt may_leave now session (listed work ask) put → IsAt may_leave now session work put
+-- so where its line isn't made, all is as it was
+pub refused_is_at : (may_leave : Image → Type 0) (now : Shown) (session : Session) (work : Work) (put : List ℕ) (ask : Ask) (refusal : Refusal) → reply_to work ask ≡ Refused refusal → IsAt may_leave now session (staying work ask) put → IsAt may_leave now session work put
 refused_is_at may_leave now session work put ask refusal e h =
-    let P : List Change → Type 0 = λ l. IsAt may_leave now session (record work { changes = l }) put in
+    let P : Work → Type 0 = λ w. IsAt may_leave now session w put in
     subst P (refused_stays work ask refusal e) h
 
 -- after a put the disk stands as it did
@@ -214,12 +254,14 @@ at_put : (was may_leave : Image → Type 0) (mid now : Shown) (session : Session
 at_put was may_leave mid now session work before put h less e is_put = record {
   keeps = let P : Shown → Type 0 = λ o. Keeps o.tells o.files may_leave (keeper_of session) work.changes in subst P (sym e) (keeps_less mid.tells mid.files may_leave (keeper_of session) work.changes was less h.keeps);
   section = h.section;
+  budget = h.budget;
+  last_run = h.last_run;
   taken = is_put.0;
   told = is_put.1;
 }
 
 -- an item that was worked is answered
-pub answered : {T : Type 0} (r : Result T SessionEnd) (was_left may_leave : Image → Type 0) (mid now : Shown) (session : Session) (was : Bool) (work : Work) (put line : List ℕ) (item : SessionItem) (ask : Ask) → Asks item ask → IsAt was_left mid session (work_after work ask) put → line ≡ reply_text (reply_to work ask) → troubled_of session ≡ (was || is_refused (reply_to work ask))
+pub answered : {T : Type 0} (r : Result T SessionEnd) (was_left may_leave : Image → Type 0) (mid now : Shown) (session : Session) (was : Bool) (work : Work) (put line : List ℕ) (item : SessionItem) (ask : Ask) → AsksIn work item ask → IsAt was_left mid session (work_after work ask) put → line ≡ reply_text (reply_to work ask) → troubled_of session ≡ (was || is_trouble (reply_to work ask))
     → AnswerPut r now.taken now.told put line → ((c : Image) → may_leave c → was_left c) → now ≡ record mid { taken = now.taken; told = now.told } → Stepped r may_leave now session was work put item
 answered (Ok done) was_left may_leave mid now session was work put line item ask one h is calm p less e =
     (ask, one, calm, at_put was_left may_leave mid now session (work_after work ask) put (put ++ reply_text (reply_to work ask)) h less e (let P : List ℕ → Type 0 = λ l. IsPut now.taken now.told (put ++ l) in subst P is p))
@@ -235,23 +277,26 @@ answered (Err (ends.Damaged damage)) was_left may_leave mid now session was work
 pub silent : (may_leave : Image → Type 0) (now : Shown) (session : Session) (work : Work) (put : List ℕ) (reply : Reply) → reply ≡ Silent → IsAt may_leave now session work put → IsAt may_leave now session work (put ++ reply_text reply)
 silent may_leave now session work put reply is h = let P : List ℕ → Type 0 = λ l. IsAt may_leave now session work l in subst P (sym (append-nil put) ∙ ap (λ r. put ++ reply_text r) (sym is)) h
 
--- whether something was refused
-pub still_troubled : (was now : Bool) (reply : Reply) → is_refused reply ≡ false → now ≡ was → now ≡ (was || is_refused reply)
-still_troubled was now reply calm same = same ∙ or_false was ∙ ap (λ b. was || b) (sym calm)
+-- whether something was refused or stopped
+pub troubled_so : (was now trouble : Bool) (reply : Reply) → is_trouble reply ≡ trouble → now ≡ (was || trouble) → now ≡ (was || is_trouble reply)
+troubled_so was now trouble reply is same = same ∙ ap (λ b. was || b) (sym is)
+
+pub still_troubled : (was now : Bool) (reply : Reply) → is_trouble reply ≡ false → now ≡ was → now ≡ (was || is_trouble reply)
+still_troubled was now reply calm same = troubled_so was now false reply calm (same ∙ or_false was)
   where
     or_false : (b : Bool) → b ≡ (b || false)
     or_false true = refl
     or_false false = refl
 
-pub now_troubled : (was now : Bool) (reply : Reply) → is_refused reply ≡ true → now ≡ true → now ≡ (was || is_refused reply)
-now_troubled was now reply refused is = is ∙ or_true was ∙ ap (λ b. was || b) (sym refused)
+pub now_troubled : (was now : Bool) (reply : Reply) → is_trouble reply ≡ true → now ≡ true → now ≡ (was || is_trouble reply)
+now_troubled was now reply refused is = troubled_so was now true reply refused (is ∙ or_true was)
   where
     or_true : (b : Bool) → true ≡ (b || true)
     or_true true = refl
     or_true false = refl
 
 -- how a start that fails ends the session
-pub starts_err : (fault : StartFault) (may_leave : Image → Type 0) (now : Shown) (changes : List Change) (put : List ℕ) → Started (Err fault) now.tells now.files may_leave changes → Starts (Err (end_of_start fault)) may_leave now changes put
-starts_err faults.Memory may_leave now changes put h = h
-starts_err (faults.Disk failed) may_leave now changes put h = tt
-starts_err (faults.Damaged damage) may_leave now changes put h = absurd h
+pub starts_err : (fault : StartFault) (may_leave : Image → Type 0) (now : Shown) (budget : ℕ) (changes : List Change) (put : List ℕ) → Started (Err fault) now.tells now.files may_leave changes → Starts (Err (end_of_start fault)) may_leave now budget changes put
+starts_err faults.Memory may_leave now budget changes put h = h
+starts_err (faults.Disk failed) may_leave now budget changes put h = tt
+starts_err (faults.Damaged damage) may_leave now budget changes put h = absurd h

@@ -1,5 +1,5 @@
 -- The input, taken piece by piece and answered as far as it is whole.
-use Rattle.std.proofs.Common.{◌≡◌, inl, ℕ, ◌≤◌, List, [], ◌∷◌, ◌++◌, length, refl, sym, ap, subst, ◌∙◌, Ok, Err, Some, Bool, true, false, append_assoc, arith}
+use Rattle.std.proofs.Common.{◌≡◌, inl, inr, ℕ, ◌≤◌, List, [], ◌∷◌, ◌++◌, length, refl, sym, ap, subst, ◌∙◌, Ok, Err, Option, Some, Bool, true, false, append_assoc, arith}
 use Rattle.std.proofs.lemmas.List.{append-nil}
 use Rattle.s80_chunk.specs.declared.item.Item.{Item}
 use Rattle.s80_chunk.specs.Chunks.{Reads}
@@ -10,11 +10,13 @@ use Rattle.s80_disk.specs.Image.{Image}
 use Rattle.s80_session.specs.declared.session.Session.{Session}
 use Rattle.s80_session.specs.declared.end.SessionEnd.{SessionEnd}
 use Rattle.s80_session.specs.declared.end.SessionEnd.TheVariants as ends
-use Rattle.s80_model.specs.Replies.{Work, list_after_all, work_after_all, replies}
-use Rattle.s80_model.specs.Asked.{Ask, AllAsk}
-use Rattle.s80_session.specs.Run.{Shown, chunks, FirstItemsOf, FirstAsksOf, WholeAsksOf, Answered, BrokeOff, Ends, input_limit}
+use Rattle.s80_machine.specs.Came.{RanValue}
+use Rattle.s80_model.specs.Asked.{Ask, evaluates}
+use Rattle.s80_model.specs.Replies.{Work, AllAsk, kept, list_after_all, work_after_all, replies}
+use Rattle.s80_session.specs.Run.{Shown, ShownFor, chunks, FirstItemsOf, FirstAsksOf, WholeAsksOf, Answered, BrokeOff, Unevaluated, Ends, input_limit}
 use Rattle.s80_session.specs.Session.{keeper_of, troubled_of}
 use Rattle.s80_session.specs.Working.{IsAt, IsWorking, BeginsWith, BeginsAsking, BreaksOff, AnswersAll, Takes, AtEnd}
+use Rattle.s80_session.proofs.Answering.{work_after_more}
 use Rattle.s80_session.proofs.Keeping.{keeps_less, keeps_stands}
 
 -- a front of the input was taken, and what is whole of it is answered
@@ -37,38 +39,55 @@ first_of true bytes left input given h is none =
     inl (given, h.0, subst P (sym (is ∙ ap (λ (l : List ℕ). bytes ++ l) (none refl) ∙ append-nil bytes)) h.1, refl)
 
 -- and asks what the front does
-pub first_asks : (ended : Bool) (bytes left input : List ℕ) (asks : List Ask) → BeginsAsking ended bytes asks → input ≡ bytes ++ left → (ended ≡ true → left ≡ []) → FirstAsksOf input asks
-first_asks ended bytes left input asks h is none = (chunks h.0, first_of ended bytes left input h.0 h.1 is none, h.2)
+pub first_asks : (ended : Bool) (work : Work) (bytes left input : List ℕ) (asks : List Ask) → BeginsAsking work ended bytes asks → input ≡ bytes ++ left → (ended ≡ true → left ≡ []) → FirstAsksOf work input asks
+first_asks ended work bytes left input asks h is none = (chunks h.0, first_of ended bytes left input h.0 h.1 is none, h.2)
 
 pub answered_all : (may_leave : Image → Type 0) (now : Shown) (session : Session) (work : Work) (before : List ℕ) (asks : List Ask) → IsAt may_leave now session (work_after_all work asks) (before ++ replies work asks) → Answered may_leave now work before asks
 answered_all may_leave now session work before asks h = record { stands = keeps_stands now.tells now.files may_leave (keeper_of session) (list_after_all work asks) h.keeps; taken = h.taken }
 
+-- a doIt was kept, and isn't evaluated
+pub unevaluated : (may_leave : Image → Type 0) (now : Shown) (session : Session) (work : Work) (before input : List ℕ) (asks : List Ask) (text : List ℕ) (ran : RanValue) (told : List ℕ) → FirstAsksOf work input (asks ++ evaluates text ran told ∷ [])
+    → IsAt may_leave now session (kept (work_after_all work asks) (evaluates text ran told)) (before ++ replies work asks) → Unevaluated may_leave now work input before
+unevaluated may_leave now session work before input asks text ran told first at =
+    let P : Work → Type 0 = λ w. ShownFor may_leave now w.changes in
+    record {
+      asks = asks;
+      text = text;
+      ran = ran;
+      told = told;
+      first = first;
+      stands = subst P (sym (work_after_more work asks (evaluates text ran told))) (keeps_stands now.tells now.files may_leave (keeper_of session) (kept (work_after_all work asks) (evaluates text ran told)).changes at.keeps);
+      taken = at.taken;
+    }
+
 -- where the answering breaks off, the run does
-pub breaks : (T : Type 0) (end : SessionEnd) (may_leave : Image → Type 0) (now : Shown) (session : Session) (ended refused : Bool) (work : Work) (before bytes left input : List ℕ) → BreaksOff end may_leave now session ended work before bytes → input ≡ bytes ++ left → (ended ≡ true → left ≡ []) → Ends {T = T} (Err end) may_leave now refused work input before
-breaks T ends.Memory may_leave now session ended refused work before bytes left input h is none = record {
+pub breaks : (T : Type 0) (end : SessionEnd) (may_leave : Image → Type 0) (now : Shown) (session : Session) (ended troubled : Bool) (last : Option RanValue) (work : Work) (before bytes left input : List ℕ) → BreaksOff end may_leave now session ended work before bytes → input ≡ bytes ++ left → (ended ≡ true → left ≡ []) → Ends {T = T} (Err end) may_leave now troubled last work input before
+breaks T ends.Memory may_leave now session ended troubled last work before bytes left input (inl h) is none = inl (record {
   asks = h.0;
-  first = first_asks ended bytes left input h.0 h.1 is none;
+  first = first_asks ended work bytes left input h.0 h.1 is none;
   answered = answered_all may_leave now session work before h.0 h.2;
-}
-breaks T (ends.Disk failed) may_leave now session ended refused work before bytes left input h is none = record {
+})
+breaks T ends.Memory may_leave now session ended troubled last work before bytes left input (inr (asks, text, ran, told, begins, at)) is none =
+    inr (unevaluated may_leave now session work before input asks text ran told (first_asks ended work bytes left input (asks ++ evaluates text ran told ∷ []) begins is none) at)
+breaks T (ends.Disk failed) may_leave now session ended troubled last work before bytes left input h is none = record {
   asks = h.0;
-  first = first_asks ended bytes left input h.0 h.1 is none;
+  first = first_asks ended work bytes left input h.0 h.1 is none;
   taken = h.2;
 }
-breaks T (ends.Write failed) may_leave now session ended refused work before bytes left input h is none = record {
+breaks T (ends.Write failed) may_leave now session ended troubled last work before bytes left input h is none = record {
   asks = h.0;
   last = h.1;
   count = h.2;
-  first = first_asks ended bytes left input (h.0 ++ h.1 ∷ []) h.3 is none;
+  first = first_asks ended work bytes left input (h.0 ++ h.1 ∷ []) h.3 is none;
   stands = keeps_stands now.tells now.files may_leave (keeper_of session) (list_after_all work (h.0 ++ h.1 ∷ [])) h.4.keeps;
   taken = h.4.taken;
 }
-breaks T (ends.Read failed) may_leave now session ended refused work before bytes left input h is none = absurd h
-breaks T ends.TooLong may_leave now session ended refused work before bytes left input h is none = absurd h
-breaks T (ends.Damaged damage) may_leave now session ended refused work before bytes left input h is none = absurd h
+breaks T (ends.Read failed) may_leave now session ended troubled last work before bytes left input h is none = absurd h
+breaks T ends.TooLong may_leave now session ended troubled last work before bytes left input h is none = absurd h
+breaks T (ends.Damaged damage) may_leave now session ended troubled last work before bytes left input h is none = absurd h
 
-whole_of : (reader : Held) (bytes : List ℕ) (given : List Item) (asks : List Ask) → reader.ended ≡ false → HasRead reader bytes given → AllAsk (chunks given) asks → HoldsNoMore false bytes given → WholeAsksOf bytes asks
-whole_of reader bytes given asks opened read asked none =
+whole_of : (reader : Held) (work : Work) (bytes : List ℕ) (given : List Item) (asks : List Ask) → reader.ended ≡ false → HasRead reader bytes given → AllAsk work (chunks given) asks → HoldsNoMore false bytes given → WholeAsksOf work bytes asks
+whole_of reader work bytes given asks opened read asked none =
     let P : Bool → Type 0 = λ b. Reads b false bytes given read.rest in
     (chunks given, (given, read.rest, subst P opened read.reads, none, refl), asked)
 
@@ -76,20 +95,20 @@ whole_of reader bytes given asks opened read asked none =
 at_take : (was_left may_leave : Image → Type 0) (mid now : Shown) (session : Session) (work : Work) (put : List ℕ) → now ≡ record mid { left = now.left } → ((c : Image) → may_leave c → was_left c) → IsAt was_left mid session work put → IsAt may_leave now session work put
 at_take was_left may_leave mid now session work put e less h =
     let P : Shown → Type 0 = λ s. IsAt may_leave s session work put in
-    subst P (sym e) (record { keeps = keeps_less mid.tells mid.files may_leave (keeper_of session) work.changes was_left less h.keeps; section = h.section; taken = h.taken; told = h.told })
+    subst P (sym e) (record { keeps = keeps_less mid.tells mid.files may_leave (keeper_of session) work.changes was_left less h.keeps; section = h.section; budget = h.budget; last_run = h.last_run; taken = h.taken; told = h.told })
 
 -- a run to which no more input came
-pub no_more : (T : Type 0) (end : SessionEnd) (was_left may_leave : Image → Type 0) (mid now : Shown) (session : Session) (refused : Bool) (was reader : Held) (work : Work) (input before : List ℕ) → (h : IsTaking was_left mid session was work input before) → was.ended ≡ false → now ≡ record mid { left = now.left } → ((c : Image) → may_leave c → was_left c) → (n : ℕ) → fed was ≡ n → Takes (Err end) now n reader h.left h.bytes h.given → Ends {T = T} (Err end) may_leave now refused work input before
-no_more T (ends.Read failed) was_left may_leave mid now session refused was reader work input before h opened e less n counted t = record {
+pub no_more : (T : Type 0) (end : SessionEnd) (was_left may_leave : Image → Type 0) (mid now : Shown) (session : Session) (troubled : Bool) (last : Option RanValue) (was reader : Held) (work : Work) (input before : List ℕ) → (h : IsTaking was_left mid session was work input before) → was.ended ≡ false → now ≡ record mid { left = now.left } → ((c : Image) → may_leave c → was_left c) → (n : ℕ) → fed was ≡ n → Takes (Err end) now n reader h.left h.bytes h.given → Ends {T = T} (Err end) may_leave now troubled last work input before
+no_more T (ends.Read failed) was_left may_leave mid now session troubled last was reader work input before h opened e less n counted t = record {
   asks = h.working.asks;
   got = h.bytes;
   left = h.left;
   input_is = h.input_is;
   left_is = t.0;
-  whole = whole_of was h.bytes h.given h.working.asks opened h.working.read h.working.asked h.none;
+  whole = whole_of was work h.bytes h.given h.working.asks opened h.working.read h.working.asked h.none;
   answered = answered_all may_leave now session work before h.working.asks (at_take was_left may_leave mid now session (work_after_all work h.working.asks) (before ++ replies work h.working.asks) e less h.working.at);
 }
-no_more T ends.TooLong was_left may_leave mid now session refused was reader work input before h opened e less n counted t = record {
+no_more T ends.TooLong was_left may_leave mid now session troubled last was reader work input before h opened e less n counted t = record {
   asks = h.working.asks;
   got = h.bytes;
   next = t.0;
@@ -97,13 +116,13 @@ no_more T ends.TooLong was_left may_leave mid now session refused was reader wor
   input_is = h.input_is ∙ ap (λ (l : List ℕ). h.bytes ++ l) t.2;
   limit = sym h.working.read.counted ∙ counted ∙ t.5;
   left_is = t.3;
-  whole = whole_of was h.bytes h.given h.working.asks opened h.working.read h.working.asked h.none;
+  whole = whole_of was work h.bytes h.given h.working.asks opened h.working.read h.working.asked h.none;
   answered = answered_all may_leave now session work before h.working.asks (at_take was_left may_leave mid now session (work_after_all work h.working.asks) (before ++ replies work h.working.asks) e less h.working.at);
 }
-no_more T ends.Memory was_left may_leave mid now session refused was reader work input before h opened e less n counted t = absurd t
-no_more T (ends.Damaged damage) was_left may_leave mid now session refused was reader work input before h opened e less n counted t = absurd t
-no_more T (ends.Write failed) was_left may_leave mid now session refused was reader work input before h opened e less n counted t = absurd t
-no_more T (ends.Disk failed) was_left may_leave mid now session refused was reader work input before h opened e less n counted t = absurd t
+no_more T ends.Memory was_left may_leave mid now session troubled last was reader work input before h opened e less n counted t = absurd t
+no_more T (ends.Damaged damage) was_left may_leave mid now session troubled last was reader work input before h opened e less n counted t = absurd t
+no_more T (ends.Write failed) was_left may_leave mid now session troubled last was reader work input before h opened e less n counted t = absurd t
+no_more T (ends.Disk failed) was_left may_leave mid now session troubled last was reader work input before h opened e less n counted t = absurd t
 
 -- a piece more is fed
 pub record IsFed (may_leave : Image → Type 0) (now : Shown) (session : Session) (reader : Held) (work : Work) (input before : List ℕ) (count : ℕ) : Type 0 where
@@ -127,7 +146,7 @@ fed_more was_left may_leave mid now session was reader work input before n count
     read = t.5;
     asked = h.working.asked;
     at = at_take was_left may_leave mid now session (work_after_all work h.working.asks) (before ++ replies work h.working.asks) e less h.working.at;
-    refused = h.working.refused;
+    troubled = h.working.troubled;
   };
   none = t.6;
 }
@@ -152,7 +171,7 @@ at_end may_leave now session was reader work input before count h none within re
     let size : length input ≡ fed was = ap length input_is ∙ sym h.working.read.counted in
     record {
       given = h.given;
-      working = record { asks = h.working.asks; read = subst P (sym input_is) read; asked = h.working.asked; at = h.working.at; refused = h.working.refused };
+      working = record { asks = h.working.asks; read = subst P (sym input_is) read; asked = h.working.asked; at = h.working.at; troubled = h.working.troubled };
       left = h.left_is ∙ ap Some (h.none none);
       within = omega (arith, size, within);
     }
@@ -164,7 +183,7 @@ still_open b left is not = cc
 pub starts_working : (may_leave : Image → Type 0) (o : Shown) (session : Session) (reader : Held) (work : Work) (before : List ℕ) → HasRead reader [] [] → troubled_of session ≡ false → IsAt may_leave o session work before → IsWorking may_leave o session reader work before [] []
 starts_working may_leave o session reader work before read calm h =
     let P : List ℕ → Type 0 = λ l. IsAt may_leave o session work l in
-    record { asks = []; read = read; asked = tt; at = subst P (sym (append-nil before)) h; refused = calm }
+    record { asks = []; read = read; asked = tt; at = subst P (sym (append-nil before)) h; troubled = calm }
 
 pub broke_at_start : (may_leave : Image → Type 0) (now : Shown) (session : Session) (work : Work) (input before : List ℕ) → IsAt may_leave now session work before → BrokeOff may_leave now work input before
 broke_at_start may_leave now session work input before h = record {

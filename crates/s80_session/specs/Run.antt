@@ -10,8 +10,9 @@ use Rattle.s80_model.specs.declared.item.SessionItem.{SessionItem}
 use Rattle.s80_model.specs.declared.item.SessionItem.TheVariants.{Chunk, Unended}
 use Rattle.s80_session.specs.declared.end.SessionEnd.{SessionEnd}
 use Rattle.s80_session.specs.declared.end.SessionEnd.TheVariants as ends
-use Rattle.s80_model.specs.Asked.{Ask, AllAsk}
-use Rattle.s80_model.specs.Replies.{Work, replies, reply_to, reply_text, work_after_all, list_after_all, any_refused}
+use Rattle.s80_machine.specs.Came.{RanValue}
+use Rattle.s80_model.specs.Asked.{Ask, evaluates}
+use Rattle.s80_model.specs.Replies.{Work, AllAsk, replies, reply_to, reply_text, work_after_all, list_after_all, any_trouble}
 
 -- what an outside shows: whether it tells its contents, what its files read, what is left of its input, the bytes that it took, and their number
 pub record Shown : Type 0 where
@@ -52,15 +53,15 @@ abbrev pub WholeItemsOf : List ℕ → List SessionItem → Type 0
 WholeItemsOf bytes items =
     (given : List Item) × (rest : List ℕ) × Reads false false bytes given rest × HoldsNoMore false bytes given × (items ≡ chunks given)
 
--- what all items of a whole input ask, what its first items do, and what all whole items of bytes do
-abbrev pub AsksOf : List ℕ → List Ask → Type 0
-AsksOf input asks = (items : List SessionItem) × ItemsOf input items × AllAsk items asks
+-- what all items of a whole input ask in a work, what its first items do, and what all whole items of bytes do
+abbrev pub AsksOf : Work → List ℕ → List Ask → Type 0
+AsksOf work input asks = (items : List SessionItem) × ItemsOf input items × AllAsk work items asks
 
-abbrev pub FirstAsksOf : List ℕ → List Ask → Type 0
-FirstAsksOf input asks = (items : List SessionItem) × FirstItemsOf input items × AllAsk items asks
+abbrev pub FirstAsksOf : Work → List ℕ → List Ask → Type 0
+FirstAsksOf work input asks = (items : List SessionItem) × FirstItemsOf input items × AllAsk work items asks
 
-abbrev pub WholeAsksOf : List ℕ → List Ask → Type 0
-WholeAsksOf bytes asks = (items : List SessionItem) × WholeItemsOf bytes items × AllAsk items asks
+abbrev pub WholeAsksOf : Work → List ℕ → List Ask → Type 0
+WholeAsksOf work bytes asks = (items : List SessionItem) × WholeItemsOf bytes items × AllAsk work items asks
 
 abbrev pub input_limit : ℕ
 input_limit = 2 ^ 30
@@ -71,13 +72,14 @@ pub record Answered (may_leave : Image → Type 0) (now : Shown) (work : Work) (
   pub taken : now.taken ≡ Some (before ++ replies work asks)
 
 -- a run that came to the end of its input
-pub record Finished (may_leave : Image → Type 0) (now : Shown) (work : Work) (input before : List ℕ) (refused : Bool) : Type 0 where
+pub record Finished (may_leave : Image → Type 0) (now : Shown) (work : Work) (input before : List ℕ) (trouble : Bool) (ran : Option RanValue) : Type 0 where
   pub asks : List Ask
-  pub all : AsksOf input asks
+  pub all : AsksOf work input asks
   pub within : length input ≤ input_limit
   pub left : now.left ≡ Some []
   pub answered : Answered may_leave now work before asks
-  pub troubled : any_refused work asks ≡ refused
+  pub troubled : any_trouble work asks ≡ trouble
+  pub last_run : (work_after_all work asks).last_run ≡ ran
 
 -- a run to which no more input came: all whole items of the bytes taken are answered
 pub record CutOff (may_leave : Image → Type 0) (now : Shown) (work : Work) (input before : List ℕ) : Type 0 where
@@ -86,7 +88,7 @@ pub record CutOff (may_leave : Image → Type 0) (now : Shown) (work : Work) (in
   pub left : List ℕ
   pub input_is : input ≡ got ++ left
   pub left_is : now.left ≡ Some left
-  pub whole : WholeAsksOf got asks
+  pub whole : WholeAsksOf work got asks
   pub answered : Answered may_leave now work before asks
 
 -- the same, where the limit of the input was reached and one byte came behind it
@@ -98,13 +100,13 @@ pub record TooLong (may_leave : Image → Type 0) (now : Shown) (work : Work) (i
   pub input_is : input ≡ got ++ next ∷ left
   pub limit : length got ≡ input_limit
   pub left_is : now.left ≡ Some left
-  pub whole : WholeAsksOf got asks
+  pub whole : WholeAsksOf work got asks
   pub answered : Answered may_leave now work before asks
 
 -- a run that broke off between two items, or before an item had changed anything
 pub record BrokeOff (may_leave : Image → Type 0) (now : Shown) (work : Work) (input before : List ℕ) : Type 0 where
   pub asks : List Ask
-  pub first : FirstAsksOf input asks
+  pub first : FirstAsksOf work input asks
   pub answered : Answered may_leave now work before asks
 
 -- a run whose output failed within the reply to an item that it had worked
@@ -112,28 +114,38 @@ pub record Unanswered (may_leave : Image → Type 0) (now : Shown) (work : Work)
   pub asks : List Ask
   pub last : Ask
   pub count : ℕ
-  pub first : FirstAsksOf input (asks ++ last ∷ [])
+  pub first : FirstAsksOf work input (asks ++ last ∷ [])
   pub stands : ShownFor may_leave now (list_after_all work (asks ++ last ∷ []))
   pub taken : now.taken ≡ Some ((before ++ replies work asks) ++ take count (reply_text (reply_to (work_after_all work asks) last)))
+
+-- a run that kept a doIt, and had no memory to evaluate it
+pub record Unevaluated (may_leave : Image → Type 0) (now : Shown) (work : Work) (input before : List ℕ) : Type 0 where
+  pub asks : List Ask
+  pub text : List ℕ
+  pub ran : RanValue
+  pub told : List ℕ
+  pub first : FirstAsksOf work input (asks ++ evaluates text ran told ∷ [])
+  pub stands : ShownFor may_leave now (list_after_all work (asks ++ evaluates text ran told ∷ []))
+  pub taken : now.taken ≡ Some (before ++ replies work asks)
 
 -- a run whose disk failed: nothing is said of the disk
 pub record LostDisk (now : Shown) (work : Work) (input before : List ℕ) : Type 0 where
   pub asks : List Ask
-  pub first : FirstAsksOf input asks
+  pub first : FirstAsksOf work input asks
   pub taken : now.taken ≡ Some (before ++ replies work asks)
 
 -- what a run leaves, by how it ends
-abbrev pub Ends : {T : Type 0} → Result T SessionEnd → (Image → Type 0) → Shown → Bool → Work → List ℕ → List ℕ → Type 0
-Ends (Ok done) may_leave now refused work input before = Finished may_leave now work input before refused
-Ends (Err ends.Memory) may_leave now refused work input before = BrokeOff may_leave now work input before
-Ends (Err (ends.Read failed)) may_leave now refused work input before = CutOff may_leave now work input before
-Ends (Err (ends.Write failed)) may_leave now refused work input before = Unanswered may_leave now work input before
-Ends (Err (ends.Disk failed)) may_leave now refused work input before = LostDisk now work input before
-Ends (Err (ends.Damaged damage)) may_leave now refused work input before = ⊥
-Ends (Err ends.TooLong) may_leave now refused work input before = TooLong may_leave now work input before
+abbrev pub Ends : {T : Type 0} → Result T SessionEnd → (Image → Type 0) → Shown → Bool → Option RanValue → Work → List ℕ → List ℕ → Type 0
+Ends (Ok done) may_leave now troubled ran work input before = Finished may_leave now work input before troubled ran
+Ends (Err ends.Memory) may_leave now troubled ran work input before = BrokeOff may_leave now work input before ⊎ Unevaluated may_leave now work input before
+Ends (Err (ends.Read failed)) may_leave now troubled ran work input before = CutOff may_leave now work input before
+Ends (Err (ends.Write failed)) may_leave now troubled ran work input before = Unanswered may_leave now work input before
+Ends (Err (ends.Disk failed)) may_leave now troubled ran work input before = LostDisk now work input before
+Ends (Err (ends.Damaged damage)) may_leave now troubled ran work input before = ⊥
+Ends (Err ends.TooLong) may_leave now troubled ran work input before = TooLong may_leave now work input before
 
 -- What a crash leaves at a moment at which so many bytes are told: files that stand for the list after the first items of the input, up
 -- to one at least whose reply is among the bytes told. So no change is answered that a crash takes.
 abbrev pub Keeps : Work → List ℕ → List ℕ → ℕ → Image → Type 0
 Keeps work input before told c =
-    (asks : List Ask) × FirstAsksOf input asks × HasKept (list_after_all work asks) (length (before ++ replies work asks)) told c
+    (asks : List Ask) × FirstAsksOf work input asks × HasKept (list_after_all work asks) (length (before ++ replies work asks)) told c

@@ -1,7 +1,8 @@
 -- A session in the middle of its work.
 use Rattle.std.specs.Prelude.{◌≡◌, ◌⊎◌, ℕ, ◌≤◌, Bool, false, ◌||◌, List, [], ◌∷◌, ◌++◌, length, take, Option, Some, Result, Ok, Err}
 use Rattle.s80_chunk.specs.declared.item.Item.{Item}
-use Rattle.s80_chunk.specs.Chunks.{Reads, IsSound}
+use Rattle.s80_chunk.specs.declared.item.Item.TheVariants as items
+use Rattle.s80_chunk.specs.Chunks.{Reads, IsChunkText, IsSound, longest}
 use Rattle.s80_chunk.specs.Held.{Held, HasRead, HoldsNoMore}
 use Rattle.s80_block.specs.declared.change.Change.{Change}
 use Rattle.s80_block.specs.Block.{blocks, IsLawful}
@@ -15,23 +16,32 @@ use Rattle.s80_model.specs.declared.item.SessionItem.{SessionItem}
 use Rattle.s80_model.specs.declared.item.SessionItem.TheVariants.{Chunk, Unended, Query}
 use Rattle.s80_model.specs.declared.reply.Answer.{Answer}
 use Rattle.s80_model.specs.declared.reply.Reply.{Reply}
-use Rattle.s80_model.specs.Asked.{Ask, Asks, AllAsk}
-use Rattle.s80_model.specs.Replies.{IsAnswer, Work, begun, list_or, reply_to_adding, reply_to, reply_text, is_refused, work_after, work_after_all, list_after_all, replies, any_refused}
+use Rattle.s80_model.specs.declared.reply.Reply.TheVariants.{Evaluated}
+use Rattle.s80_doit.specs.DoIt.{AreGiven, IsRunOf, is_stopped}
+use Rattle.s80_machine.specs.Came.{RanValue}
+use Rattle.s80_outcome.specs.Outcome.{outcome_text}
+use Rattle.s80_model.specs.Asked.{Ask, evaluates}
+use Rattle.s80_model.specs.Replies.{IsAnswer, Work, AsksIn, AllAsk, begun, kept, list_or, reply_to_adding, reply_to, reply_text, is_trouble, work_after, work_after_all, list_after_all, replies, any_trouble}
 use Rattle.s80_session.specs.declared.session.Session.{Session}
 use Rattle.s80_session.specs.declared.end.SessionEnd.{SessionEnd}
 use Rattle.s80_session.specs.declared.end.SessionEnd.TheVariants as ends
-use Rattle.s80_session.specs.Session.{keeper_of, section_of, troubled_of}
+use Rattle.s80_change.specs.declared.refusal.Refusal.{Refusal}
+use Rattle.s80_session.specs.Ends.{reply_to_keeping}
+use Rattle.s80_session.specs.Session.{budget_of, keeper_of, last_run_of, section_of, troubled_of}
 use Rattle.s80_session.specs.Run.{Shown, ShownFor, HasKept, chunks, input_limit, Ends}
 
 -- the session is at work on a disk that stands for this list, in this section, and these bytes were put
 pub record IsAt (may_leave : Image → Type 0) (o : Shown) (session : Session) (work : Work) (put : List ℕ) : Type 0 where
   pub keeps : Keeps o.tells o.files may_leave (keeper_of session) work.changes
   pub section : section_of session ≡ work.section
+  pub budget : budget_of session ≡ work.budget
+  pub last_run : last_run_of session ≡ work.last_run
   pub taken : o.taken ≡ Some put
   pub told : o.told ≡ length put
 
--- its text is one that a reader gives
+-- its text is the text of a chunk, which isn't too long, or else its length is
 abbrev pub IsReadable : SessionItem → Type 0
+IsReadable (Chunk (items.Plain text)) = IsChunkText text × (length text ≤ longest)
 IsReadable (Chunk item) = IsSound item
 IsReadable Unended = Unit {0}
 IsReadable (Query query) = Unit {0}
@@ -64,33 +74,55 @@ abbrev pub adding : Work → Change → Work
 adding work change = record work { changes = list_or (add work.changes change) work.changes }
 
 -- after a change was to be kept
-abbrev pub Kept : Result Reply SessionEnd → (Image → Type 0) → Shown → Session → Work → List ℕ → Change → Type 0
-Kept (Ok reply) may_leave now session work put change = (reply ≡ reply_to_adding (add work.changes change)) × IsAt may_leave now session (adding work change) put
+abbrev pub Kept : Result (Option Refusal) SessionEnd → (Image → Type 0) → Shown → Session → Work → List ℕ → Change → Type 0
+Kept (Ok refusal) may_leave now session work put change =
+    (reply_to_keeping refusal ≡ reply_to_adding (add work.changes change)) × IsAt may_leave now session (adding work change) put
 Kept (Err end) may_leave now session work put change = Unworked end may_leave now session work put
+
+-- after the code of this text was to be evaluated among the classes and methods that the session's keeper has
+abbrev pub Evaluates : {E : Type 0} → Result Reply E → Session → Session → List ℕ → Type 0
+Evaluates (Ok reply) before now text =
+    (ran : RanValue) × AreGiven (keeper_of before).system × IsRunOf (keeper_of before).system text (budget_of before) ran
+    × (reply ≡ Evaluated (outcome_text (keeper_of before).system.table ran.outcome ++ 10 ∷ []) (is_stopped ran.outcome.end)) × (last_run_of now ≡ Some ran)
+Evaluates (Err memory) before now text = last_run_of now ≡ last_run_of before
+
+-- the doIt that an item asks to evaluate was kept, and memory was wanting to evaluate it; all else is as before
+abbrev pub IsUnevaluated : (Image → Type 0) → Shown → Session → Work → List ℕ → SessionItem → Type 0
+IsUnevaluated may_leave now session work put item =
+    (text : List ℕ) × (ran : RanValue) × (told : List ℕ) × AsksIn work item (evaluates text ran told) × IsAt may_leave now session (kept work (evaluates text ran told)) put
+
+-- after work on an item that ended so: nothing was put
+abbrev pub Unreplied : SessionEnd → (Image → Type 0) → Shown → Session → Work → List ℕ → SessionItem → Type 0
+Unreplied ends.Memory may_leave now session work put item = IsAt may_leave now session work put ⊎ IsUnevaluated may_leave now session work put item
+Unreplied (ends.Disk failed) may_leave now session work put item = now.taken ≡ Some put
+Unreplied (ends.Read failed) may_leave now session work put item = ⊥
+Unreplied (ends.Write failed) may_leave now session work put item = ⊥
+Unreplied (ends.Damaged damage) may_leave now session work put item = ⊥
+Unreplied ends.TooLong may_leave now session work put item = ⊥
 
 -- after an item was worked that leaves the section, and before it is answered
 abbrev pub Replied : Result Reply SessionEnd → (Image → Type 0) → Shown → Session → Work → List ℕ → SessionItem → Type 0
-Replied (Ok reply) may_leave now session work put item = (ask : Ask) × Asks item ask × (reply ≡ reply_to work ask) × IsAt may_leave now session (work_after work ask) put
-Replied (Err end) may_leave now session work put item = Unworked end may_leave now session work put
+Replied (Ok reply) may_leave now session work put item = (ask : Ask) × AsksIn work item ask × (reply ≡ reply_to work ask) × IsAt may_leave now session (work_after work ask) put
+Replied (Err end) may_leave now session work put item = Unreplied end may_leave now session work put item
 
--- the list behind what was asked, and the section as it was
-abbrev pub listed : Work → Ask → Work
-listed work ask = record work { changes = (work_after work ask).changes }
+-- the work behind what was asked, with the section as it was
+abbrev pub staying : Work → Ask → Work
+staying work ask = record (work_after work ask) { section = work.section }
 
 -- after an item was worked, before its section is entered and it is answered
 abbrev pub Worked : Result Answer SessionEnd → (Image → Type 0) → Shown → Session → Work → List ℕ → SessionItem → Type 0
-Worked (Ok answer) may_leave now session work put item = (ask : Ask) × Asks item ask × IsAnswer work ask answer × IsAt may_leave now session (listed work ask) put
-Worked (Err end) may_leave now session work put item = Unworked end may_leave now session work put
+Worked (Ok answer) may_leave now session work put item = (ask : Ask) × AsksIn work item ask × IsAnswer work ask answer × IsAt may_leave now session (staying work ask) put
+Worked (Err end) may_leave now session work put item = Unreplied end may_leave now session work put item
 
--- after an item was worked and answered, with whether something was refused before
+-- after an item was worked and answered, with whether something was refused or stopped before
 abbrev pub Stepped : {T : Type 0} → Result T SessionEnd → (Image → Type 0) → Shown → Session → Bool → Work → List ℕ → SessionItem → Type 0
 Stepped (Ok done) may_leave now session was work put item =
-    (ask : Ask) × Asks item ask × (troubled_of session ≡ (was || is_refused (reply_to work ask)))
+    (ask : Ask) × AsksIn work item ask × (troubled_of session ≡ (was || is_trouble (reply_to work ask)))
     × IsAt may_leave now session (work_after work ask) (put ++ reply_text (reply_to work ask))
-Stepped (Err ends.Memory) may_leave now session was work put item = IsAt may_leave now session work put
+Stepped (Err ends.Memory) may_leave now session was work put item = IsAt may_leave now session work put ⊎ IsUnevaluated may_leave now session work put item
 Stepped (Err (ends.Disk failed)) may_leave now session was work put item = now.taken ≡ Some put
 Stepped (Err (ends.Write failed)) may_leave now session was work put item =
-    (ask : Ask) × Asks item ask × (count : ℕ) × IsAt may_leave now session (work_after work ask) (put ++ take count (reply_text (reply_to work ask)))
+    (ask : Ask) × AsksIn work item ask × (count : ℕ) × IsAt may_leave now session (work_after work ask) (put ++ take count (reply_text (reply_to work ask)))
 Stepped (Err (ends.Read failed)) may_leave now session was work put item = ⊥
 Stepped (Err (ends.Damaged damage)) may_leave now session was work put item = ⊥
 Stepped (Err ends.TooLong) may_leave now session was work put item = ⊥
@@ -103,26 +135,28 @@ HasReadSome reader = (bytes : List ℕ) × (given : List Item) × HasRead reader
 pub record IsWorking (may_leave : Image → Type 0) (o : Shown) (session : Session) (reader : Held) (work : Work) (before bytes : List ℕ) (given : List Item) : Type 0 where
   pub asks : List Ask
   pub read : HasRead reader bytes given
-  pub asked : AllAsk (chunks given) asks
+  pub asked : AllAsk work (chunks given) asks
   pub at : IsAt may_leave o session (work_after_all work asks) (before ++ replies work asks)
-  pub refused : troubled_of session ≡ any_refused work asks
+  pub troubled : troubled_of session ≡ any_trouble work asks
 
 -- these are the first items of the bytes
 abbrev pub BeginsWith : Bool → List ℕ → List Item → Type 0
 BeginsWith ended bytes given = (rest : List ℕ) × Reads ended false bytes given rest
 
--- the first items of the bytes ask this
-abbrev pub BeginsAsking : Bool → List ℕ → List Ask → Type 0
-BeginsAsking ended bytes asks = (given : List Item) × BeginsWith ended bytes given × AllAsk (chunks given) asks
+-- the first items of the bytes ask this in a work
+abbrev pub BeginsAsking : Work → Bool → List ℕ → List Ask → Type 0
+BeginsAsking work ended bytes asks = (given : List Item) × BeginsWith ended bytes given × AllAsk work (chunks given) asks
 
 -- the work broke off for this reason
 abbrev pub BreaksOff : SessionEnd → (Image → Type 0) → Shown → Session → Bool → Work → List ℕ → List ℕ → Type 0
 BreaksOff ends.Memory may_leave now session ended work before bytes =
-    (asks : List Ask) × BeginsAsking ended bytes asks × IsAt may_leave now session (work_after_all work asks) (before ++ replies work asks)
+    ((asks : List Ask) × BeginsAsking work ended bytes asks × IsAt may_leave now session (work_after_all work asks) (before ++ replies work asks))
+    ⊎ ((asks : List Ask) × (text : List ℕ) × (ran : RanValue) × (told : List ℕ) × BeginsAsking work ended bytes (asks ++ evaluates text ran told ∷ [])
+    × IsAt may_leave now session (kept (work_after_all work asks) (evaluates text ran told)) (before ++ replies work asks))
 BreaksOff (ends.Disk failed) may_leave now session ended work before bytes =
-    (asks : List Ask) × BeginsAsking ended bytes asks × (now.taken ≡ Some (before ++ replies work asks))
+    (asks : List Ask) × BeginsAsking work ended bytes asks × (now.taken ≡ Some (before ++ replies work asks))
 BreaksOff (ends.Write failed) may_leave now session ended work before bytes =
-    (asks : List Ask) × (last : Ask) × (count : ℕ) × BeginsAsking ended bytes (asks ++ last ∷ [])
+    (asks : List Ask) × (last : Ask) × (count : ℕ) × BeginsAsking work ended bytes (asks ++ last ∷ [])
     × IsAt may_leave now session (work_after_all work (asks ++ last ∷ [])) ((before ++ replies work asks) ++ take count (reply_text (reply_to (work_after_all work asks) last)))
 BreaksOff (ends.Read failed) may_leave now session ended work before bytes = ⊥
 BreaksOff (ends.Damaged damage) may_leave now session ended work before bytes = ⊥
@@ -155,7 +189,7 @@ pub record AtEnd (may_leave : Image → Type 0) (now : Shown) (session : Session
 
 abbrev pub TakesAll : {T : Type 0} → Result T SessionEnd → (Image → Type 0) → Shown → Session → Held → Work → List ℕ → List ℕ → Type 0
 TakesAll (Ok done) may_leave now session reader work input before = AtEnd may_leave now session reader work input before
-TakesAll (Err end) may_leave now session reader work input before = Ends {T = Unit {0}} (Err end) may_leave now (troubled_of session) work input before
+TakesAll (Err end) may_leave now session reader work input before = Ends {T = Unit {0}} (Err end) may_leave now (troubled_of session) (last_run_of session) work input before
 
 -- what a crash leaves while a change is kept
 abbrev pub KeepLeaves : Work → List ℕ → Change → ℕ → Image → Type 0
@@ -164,28 +198,28 @@ KeepLeaves work put change told c = HasKept work.changes (length put) told c ⊎
 -- what a crash leaves while an item is worked, and before it is answered
 abbrev pub WorkLeaves : Work → List ℕ → SessionItem → ℕ → Image → Type 0
 WorkLeaves work put item told c =
-    HasKept work.changes (length put) told c ⊎ ((ask : Ask) × Asks item ask × HasKept (work_after work ask).changes (length put) told c)
+    HasKept work.changes (length put) told c ⊎ ((ask : Ask) × AsksIn work item ask × HasKept (work_after work ask).changes (length put) told c)
 
 -- what a crash leaves while an item is worked and answered
 abbrev pub StepLeaves : Work → List ℕ → SessionItem → ℕ → Image → Type 0
 StepLeaves work put item told c =
     HasKept work.changes (length put) told c
-    ⊎ ((ask : Ask) × Asks item ask × HasKept (work_after work ask).changes (length (put ++ reply_text (reply_to work ask))) told c)
+    ⊎ ((ask : Ask) × AsksIn work item ask × HasKept (work_after work ask).changes (length (put ++ reply_text (reply_to work ask))) told c)
 
 -- what a crash leaves while the whole items are answered that a reader holds
 abbrev pub AnswersLeave : Bool → Work → List ℕ → List ℕ → ℕ → Image → Type 0
 AnswersLeave ended work before bytes told c =
-    (asks : List Ask) × BeginsAsking ended bytes asks × HasKept (list_after_all work asks) (length (before ++ replies work asks)) told c
+    (asks : List Ask) × BeginsAsking work ended bytes asks × HasKept (list_after_all work asks) (length (before ++ replies work asks)) told c
 
--- after a start on a disk that reads for this list
-abbrev pub Starts : Result Session SessionEnd → (Image → Type 0) → Shown → List Change → List ℕ → Type 0
-Starts (Ok session) may_leave now changes put = IsAt may_leave now session (begun changes) put
-Starts (Err ends.Memory) may_leave now changes put = ShownFor may_leave now changes
-Starts (Err (ends.Disk failed)) may_leave now changes put = Unit {0}
-Starts (Err (ends.Read failed)) may_leave now changes put = ⊥
-Starts (Err (ends.Write failed)) may_leave now changes put = ⊥
-Starts (Err (ends.Damaged damage)) may_leave now changes put = ⊥
-Starts (Err ends.TooLong) may_leave now changes put = ⊥
+-- after a start on a disk that reads for this list, under a budget
+abbrev pub Starts : Result Session SessionEnd → (Image → Type 0) → Shown → ℕ → List Change → List ℕ → Type 0
+Starts (Ok session) may_leave now budget changes put = IsAt may_leave now session (begun budget changes) put
+Starts (Err ends.Memory) may_leave now budget changes put = ShownFor may_leave now changes
+Starts (Err (ends.Disk failed)) may_leave now budget changes put = Unit {0}
+Starts (Err (ends.Read failed)) may_leave now budget changes put = ⊥
+Starts (Err (ends.Write failed)) may_leave now budget changes put = ⊥
+Starts (Err (ends.Damaged damage)) may_leave now budget changes put = ⊥
+Starts (Err ends.TooLong) may_leave now budget changes put = ⊥
 
 -- what the files call for at the start
 abbrev pub IsSessionStart : Image → Result Session SessionEnd → Type 0

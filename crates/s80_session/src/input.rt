@@ -8,7 +8,7 @@ ghost use Rattle.s80_disk.specs.Moments.{LeavesOnly};
 ghost use Rattle.s80_session.specs.Putting.{IsAsBefore};
 ghost use Rattle.s80_session.specs.Run.{shown, input_limit, Ends, Keeps};
 ghost use Rattle.s80_model.specs.Replies.{Work};
-ghost use Rattle.s80_session.specs.Session.{troubled_of, IsFaultless};
+ghost use Rattle.s80_session.specs.Session.{last_run_of, troubled_of, IsFaultless};
 ghost use Rattle.s80_session.specs.Working.{HasReadSome, IsAt, IsWorking, AnswersAll, AnswersLeave, Takes, TakesAll};
 
 use crate::end::SessionEnd;
@@ -146,7 +146,7 @@ impl Session {
             → IsAt (O.may_leave outside.old)
             (shown O.tells O.reads O.left O.taken O.told outside.old) self.old work before
             → Ends result (O.may_leave outside.new)
-            (shown O.tells O.reads O.left O.taken O.told outside.new) (troubled_of self.new) work input before }
+            (shown O.tells O.reads O.left O.taken O.told outside.new) (troubled_of self.new) (last_run_of self.new) work input before }
         ensures any_moment { (work : Work) (input before : List ℕ) → O.left outside.old ≡ Some input
             → troubled_of self.old ≡ false
             → IsAt (O.may_leave outside.old)

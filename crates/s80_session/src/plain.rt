@@ -1,18 +1,26 @@
-// The changes that plain texts are.
+// What plain texts ask.
 ghost use Rattle.std.specs.Prelude.{◌≤◌, length};
-ghost use Rattle.s80_session.specs.Plain.{IsPlainChange};
+ghost use Rattle.s80_session.specs.Plain.{IsPlain};
 
 use s80_base::Text;
-use s80_block::Change;
-use s80_change::{Recognised, Refused, recognise};
+use s80_change::{Definition, Recognised, Refused, recognise};
 use s80_section::{size_refusal, syntax_refusal};
 use s80_syntax::parse_doit;
 use std::alloc::Global;
 
-/// The change that a plain text is, or why it is refused by itself: it has no tree, or one that doesn't fit a machine.
-pub(crate) fn change_of(alloc: Global, text: Text) -> Result<Change, Refused>
+/// What a plain text asks that has a tree which fits a machine.
+#[derive(Debug, Drop)]
+pub(crate) enum Plain {
+    /// To define a class.
+    Define(Definition),
+    /// To evaluate this text.
+    Evaluate(Text),
+}
+
+/// What a plain text asks, or why it is refused by itself: it has no tree, or one that doesn't fit a machine.
+pub(crate) fn plain_of(alloc: Global, text: Text) -> Result<Plain, Refused>
     requires { length text ≤ 65535 }
-    ensures { IsPlainChange text result }
+    ensures { IsPlain text result }
 {
     let tree = match parse_doit(alloc, &text) {
         Ok(tree) => tree,
@@ -23,7 +31,7 @@ pub(crate) fn change_of(alloc: Global, text: Text) -> Result<Change, Refused>
         return Err(Refused::Refusal(refusal));
     }
     match recognised {
-        Recognised::Define(definition) => Ok(Change::Define(definition)),
-        Recognised::Evaluate => Ok(Change::DoIt { text }),
+        Recognised::Define(definition) => Ok(Plain::Define(definition)),
+        Recognised::Evaluate => Ok(Plain::Evaluate(text)),
     }
 }

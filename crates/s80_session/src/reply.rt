@@ -1,7 +1,7 @@
 // How an answer is written, and what a fault of the keeper answers.
 ghost use Rattle.std.specs.Prelude.{◌≡◌, ◌++◌, ◌∷◌, [], IfOk};
 ghost use Rattle.s80_print.specs.Refusal.{refusal_text};
-ghost use Rattle.s80_session.specs.Ends.{reply_to_fault};
+ghost use Rattle.s80_session.specs.Ends.{refusal_at_fault, reply_to_keeping};
 
 use crate::end::SessionEnd;
 use s80_base::{OutOfMemory, Text};
@@ -20,14 +20,24 @@ pub(crate) fn refusal_line(alloc: Global, refusal: &Refusal) -> Result<Text, Out
     Ok(line)
 }
 
-/// What an item is answered at a fault of the keeper: a full log refuses it, and every other fault ends the session.
-pub(crate) fn reply_to_fault(fault: KeepFault) -> Result<Reply, SessionEnd>
-    ensures { result ≡ reply_to_fault fault }
+/// Why an item is refused at a fault of the keeper: the log is full. Every other fault ends the session.
+pub(crate) fn refusal_at_fault(fault: KeepFault) -> Result<Refusal, SessionEnd>
+    ensures { result ≡ refusal_at_fault fault }
 {
     match fault {
         KeepFault::Memory => Err(SessionEnd::Memory),
         KeepFault::Disk(failed) | KeepFault::Closed(failed) => Err(SessionEnd::Disk(failed)),
-        KeepFault::Full(length) => Ok(Reply::Refused(Refusal::LogFull(length))),
+        KeepFault::Full(length) => Ok(Refusal::LogFull(length)),
         KeepFault::Damaged(damage) => Err(SessionEnd::Damaged(damage)),
+    }
+}
+
+/// What a change is answered, by why it is refused, if it is.
+pub(crate) fn reply_to_keeping(refusal: Option<Refusal>) -> Reply
+    ensures { result ≡ reply_to_keeping refusal }
+{
+    match refusal {
+        None => Reply::Accepted,
+        Some(refusal) => Reply::Refused(refusal),
     }
 }

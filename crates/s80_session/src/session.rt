@@ -1,11 +1,12 @@
 // A session works items: it keeps what they change, and answers them.
-ghost use Rattle.std.specs.Prelude.{◌≡◌, ◌≢◌, ◌<◌, ◌≤◌, ℕ, false, List, ◌++◌, length, Some, IsTrue, IfOk, OnOk};
+ghost use Rattle.std.specs.Prelude.{◌≡◌, ◌≢◌, ◌<◌, ◌≤◌, ℕ, false, List, ◌++◌, length, option_map, Some, IsTrue, IfOk, OnOk};
 ghost use Rattle.s80_block.specs.declared.change.Change.{Change};
 ghost use Rattle.s80_chunk.specs.declared.item.Item.TheVariants as items;
 ghost use Rattle.s80_disk.specs.declared.disk.FileId.{FileId};
 ghost use Rattle.s80_disk.specs.declared.disk.FileId.TheVariants.{Mark};
 ghost use Rattle.s80_disk.specs.Moments.{LeavesOnly};
 ghost use Rattle.s80_mark.specs.Found.{longer_log};
+ghost use Rattle.s80_state.specs.System.{IsChecked};
 ghost use Rattle.s80_keeper.specs.Keeper.{Knows};
 ghost use Rattle.s80_keeper.specs.Standing.{FilesStandFor, ReadsFor, StandsFor};
 ghost use Rattle.s80_model.specs.Replies.{Work};
@@ -16,19 +17,22 @@ ghost use Rattle.s80_session.specs.Working.{AnswerPut};
 
 use crate::end::SessionEnd;
 use crate::outside::{keep_change, put_all, read_source, start_keeper};
-use crate::plain::change_of;
-use crate::reply::{refusal_line, reply_to_fault};
+use crate::plain::{Plain, plain_of};
+use crate::reply::{refusal_at_fault, refusal_line, reply_to_keeping};
 use crate::told::{tell_browsed, tell_classes, tell_recovered};
-use s80_base::Text;
+use s80_base::{OutOfMemory, Text};
 use s80_block::Change;
 use s80_change::{FitWord, Refusal, Refused};
 use s80_chunk::{Item, LONGEST, Role};
 use s80_disk::Outside;
+use s80_doit::{answer as answer_of, compile, evaluate, is_stopped};
 use s80_keeper::Keeper;
+use s80_machine::Ran;
 use s80_model::{
     Answer, Query, Reply, Section, SessionItem, head_answer, method_of, side_named, too_long_answer,
 };
 use s80_section::check_source;
+use s80_verify::Verified;
 use std::alloc::Global;
 
 /// A session at work on a folder.
@@ -37,22 +41,32 @@ pub struct Session {
     pub(crate) keeper: Keeper,
     /// The section in which the next item stands.
     pub(crate) section: Section,
-    /// Whether some item was refused.
+    /// Whether some item was refused or stopped.
     pub(crate) troubled: bool,
+    /// How many ticks a doIt may take.
+    pub(crate) budget: u64,
+    /// The run of the doIt that was evaluated last.
+    pub(crate) last_run: Option<Ran>,
 }
 
 impl Session {
-    ghost use Rattle.s80_chunk.specs.Chunks.{IsChunkText, IsPlainText, longest};
-    ghost use Rattle.s80_session.specs.Session.{keeper_of, section_of, troubled_of, IsFaultless};
-    ghost use Rattle.s80_session.specs.Working.{IsAt, IsLawfulFor, IsReadable, IsSessionStart, Kept, KeepLeaves, Replied, Starts, Worked, WorkLeaves, Stepped, StepLeaves};
+    ghost use Rattle.s80_change.specs.Definition.{IsNoDefinition};
+    ghost use Rattle.s80_chunk.specs.Chunks.{IsChunkText, longest};
+    ghost use Rattle.s80_doit.specs.DoIt.{Fits, IsDoItCode};
+    ghost use Rattle.s80_session.specs.Session.{keeper_of, last_run_of, section_of, troubled_of, IsFaultless};
+    ghost use Rattle.s80_session.specs.Working.{Evaluates, IsAt, IsLawfulFor, IsReadable, IsSessionStart, Kept, KeepLeaves, Replied, Starts, Worked, WorkLeaves, Stepped, StepLeaves};
 
-    /// A session on the folder that was attached, at the top level of its input.
-    pub fn start<O: Outside>(alloc: Global, outside: &mut O) -> Result<Session, SessionEnd>
+    /// A session on the folder that was attached, at the top level of its input. A doIt may take at most `budget` ticks.
+    pub fn start<O: Outside>(
+        alloc: Global,
+        outside: &mut O,
+        budget: u64,
+    ) -> Result<Session, SessionEnd>
         ensures answer { IsTrue (O.tells outside.old) → IsSessionStart (O.reads outside.old) result }
         ensures started { (changes : List Change) (put : List ℕ)
             → ReadsFor (O.tells outside.old) (O.reads outside.old) (O.may_leave outside.old) changes
             → O.taken outside.old ≡ Some put → O.told outside.old ≡ length put
-            → Starts result (O.may_leave outside.new) (shown O.tells O.reads O.left O.taken O.told outside.new) changes put }
+            → Starts result (O.may_leave outside.new) (shown O.tells O.reads O.left O.taken O.told outside.new) budget changes put }
         ensures any_moment { (changes : List Change)
             → StandsFor (O.tells outside.old) (O.reads outside.old) (O.may_leave outside.old) changes
             → LeavesOnly O.moment O.left_since outside.old outside.new (HasKept changes (O.told outside.old)) }
@@ -73,14 +87,23 @@ impl Session {
             keeper,
             section: Section::Top,
             troubled: false,
+            budget,
+            last_run: None,
         })
     }
 
-    /// Whether some item was refused.
+    /// Whether some item was refused or stopped.
     pub fn troubled(&self) -> bool
         ensures { result ≡ troubled_of self.now }
     {
         self.troubled
+    }
+
+    /// The run of the doIt that this session evaluated last, if it has evaluated one.
+    pub fn last_run(&self) -> Option<&Ran>
+        ensures { option_map (λ ran. ran.now) result ≡ last_run_of self.now }
+    {
+        self.last_run.as_ref()
     }
 
     /// Works and answers one item.
@@ -122,6 +145,11 @@ impl Session {
                 self.enter(section);
                 answer(outside, line.bytes())
             }
+            Reply::Evaluated { lines, stopped } => {
+                self.troubled |= stopped;
+                self.enter(section);
+                answer(outside, lines.bytes())
+            }
             Reply::Told(text) => {
                 self.enter(section);
                 answer(outside, text.bytes())
@@ -132,7 +160,7 @@ impl Session {
     /// Goes on in this section, where it is another one.
     fn enter(&mut self, section: Option<Section>)
         ensures section { section_of self.new ≡ section_or section (section_of self.old) }
-        ensures rest { (keeper_of self.new ≡ keeper_of self.old) × (troubled_of self.new ≡ troubled_of self.old) }
+        ensures rest { self.new ≡ record self.old { section = section_of self.new } }
     {
         if let Some(section) = section {
             self.section = section;
@@ -185,7 +213,8 @@ impl Session {
         }
     }
 
-    /// Keeps the change that a plain text is, and refuses every other text: one that is too long, has no tree, or doesn't fit a machine.
+    /// Keeps the change that a plain text is, and evaluates it where it is a doIt. Refuses every other text: one that is too long, has no tree,
+    /// or doesn't fit a machine.
     fn keep_text<O: Outside>(
         &mut self,
         alloc: Global,
@@ -193,12 +222,12 @@ impl Session {
         outside: &mut O,
     ) -> Result<Reply, SessionEnd>
         requires faultless { IsFaultless self.old }
-        ensures replied { (work : Work) (put : List ℕ) → IsPlainText text
+        ensures replied { (work : Work) (put : List ℕ) → IsChunkText text → length text ≤ longest
             → IsAt (O.may_leave outside.old)
             (shown O.tells O.reads O.left O.taken O.told outside.old) self.old work put
             → Replied result (O.may_leave outside.new)
             (shown O.tells O.reads O.left O.taken O.told outside.new) self.new work put (SessionItem.Chunk (items.Plain text)) }
-        ensures any_moment { (work : Work) (put : List ℕ) → IsPlainText text
+        ensures any_moment { (work : Work) (put : List ℕ) → IsChunkText text → length text ≤ longest
             → IsAt (O.may_leave outside.old)
             (shown O.tells O.reads O.left O.taken O.told outside.old) self.old work put
             → LeavesOnly O.moment O.left_since outside.old outside.new (WorkLeaves work put (SessionItem.Chunk (items.Plain text))) }
@@ -213,11 +242,62 @@ impl Session {
             let refusal = Refusal::TooLarge(FitWord::Chunk, length as u64);
             return Ok(Reply::Refused(refusal));
         }
-        match change_of(alloc, text) {
-            Ok(change) => self.keep(alloc, change, outside),
+        match plain_of(alloc, text) {
+            Ok(Plain::Define(definition)) => {
+                let refusal = self.keep(alloc, Change::Define(definition), outside)?;
+                Ok(reply_to_keeping(refusal))
+            }
+            Ok(Plain::Evaluate(text)) => self.keep_doit(alloc, text, outside),
             Err(Refused::Memory) => Err(SessionEnd::Memory),
             Err(Refused::Refusal(refusal)) => Ok(Reply::Refused(refusal)),
         }
+    }
+
+    /// Keeps a doIt, and then evaluates it.
+    fn keep_doit<O: Outside>(
+        &mut self,
+        alloc: Global,
+        text: Text,
+        outside: &mut O,
+    ) -> Result<Reply, SessionEnd>
+        requires faultless { IsFaultless self.old }
+        requires short { length text ≤ 65535 }
+        requires fits { Fits text }
+        ensures replied { (work : Work) (put : List ℕ) → IsChunkText text → IsNoDefinition text
+            → IsAt (O.may_leave outside.old)
+            (shown O.tells O.reads O.left O.taken O.told outside.old) self.old work put
+            → Replied result (O.may_leave outside.new)
+            (shown O.tells O.reads O.left O.taken O.told outside.new) self.new work put (SessionItem.Chunk (items.Plain text)) }
+        ensures any_moment { (work : Work) (put : List ℕ) → IsChunkText text → IsNoDefinition text
+            → IsAt (O.may_leave outside.old)
+            (shown O.tells O.reads O.left O.taken O.told outside.old) self.old work put
+            → LeavesOnly O.moment O.left_since outside.old outside.new (WorkLeaves work put (SessionItem.Chunk (items.Plain text))) }
+        ensures troubled { troubled_of self.new ≡ troubled_of self.old }
+        ensures faultless { OnOk result (IsFaultless self.new) }
+        ensures left { O.left outside.new ≡ O.left outside.old }
+        ensures counts { Counts (faults O.read_faults O.write_faults O.disk_faults outside.old)
+            (faults O.read_faults O.write_faults O.disk_faults outside.new) result }
+    {
+        let code = compile(alloc, self.keeper.system(), &text)?;
+        match self.keep(alloc, Change::DoIt { text }, outside)? {
+            None => Ok(self.evaluate(alloc, &code)?),
+            Some(refusal) => Ok(Reply::Refused(refusal)),
+        }
+    }
+
+    /// Evaluates the code of a doIt among the classes and methods as they are. The keeper stays.
+    fn evaluate(&mut self, alloc: Global, code: &Verified) -> Result<Reply, OutOfMemory>
+        requires { (text : List ℕ) × IsDoItCode text code.now }
+        ensures evaluated { (text : List ℕ) → IsDoItCode text code.now → Evaluates result self.old self.new text }
+        ensures rest { self.new ≡ record self.old { last_run = last_run_of self.new } }
+    {
+        let system = self.keeper.system();
+        let ran = evaluate(alloc, system, code, self.budget)?;
+        let mut lines = answer_of(alloc, system, &ran)?;
+        lines.append(b"\n")?;
+        let stopped = is_stopped(&ran);
+        self.last_run = Some(ran);
+        Ok(Reply::Evaluated { lines, stopped })
     }
 
     /// Keeps the method of a source in the class of an open section. In another section it is passed over.
@@ -251,21 +331,23 @@ impl Session {
         match &self.section {
             Section::Open(head) => {
                 let method = method_of(alloc, head, source, check)?;
-                self.keep(alloc, Change::Method(method), outside)
+                let refusal = self.keep(alloc, Change::Method(method), outside)?;
+                Ok(reply_to_keeping(refusal))
             }
             Section::Top => Ok(Reply::Silent),
             Section::Refused => Ok(Reply::Silent),
         }
     }
 
-    /// Keeps a change, on the disk.
+    /// Keeps a change, on the disk. Says why it is refused, if it is.
     fn keep<O: Outside>(
         &mut self,
         alloc: Global,
         change: Change,
         outside: &mut O,
-    ) -> Result<Reply, SessionEnd>
+    ) -> Result<Option<Refusal>, SessionEnd>
         requires faultless { IsFaultless self.old }
+        requires checked { IsChecked change }
         ensures kept { (work : Work) (put : List ℕ) → IsLawfulFor work.changes change
             → IsAt (O.may_leave outside.old)
             (shown O.tells O.reads O.left O.taken O.told outside.old) self.old work put
@@ -275,7 +357,7 @@ impl Session {
             → IsAt (O.may_leave outside.old)
             (shown O.tells O.reads O.left O.taken O.told outside.old) self.old work put
             → LeavesOnly O.moment O.left_since outside.old outside.new (KeepLeaves work put change) }
-        ensures troubled { troubled_of self.new ≡ troubled_of self.old }
+        ensures rest { self.new ≡ record self.old { keeper = keeper_of self.new } }
         ensures faultless { OnOk result (IsFaultless self.new) }
         ensures left { O.left outside.new ≡ O.left outside.old }
         ensures counts { Counts (faults O.read_faults O.write_faults O.disk_faults outside.old)
@@ -284,11 +366,11 @@ impl Session {
         let prepared = match self.keeper.prepare(alloc, change) {
             Ok(prepared) => prepared,
             Err(Refused::Memory) => return Err(SessionEnd::Memory),
-            Err(Refused::Refusal(refusal)) => return Ok(Reply::Refused(refusal)),
+            Err(Refused::Refusal(refusal)) => return Ok(Some(refusal)),
         };
         match keep_change(&mut self.keeper, outside, prepared) {
-            Ok(_) => Ok(Reply::Accepted),
-            Err(fault) => reply_to_fault(fault),
+            Ok(_) => Ok(None),
+            Err(fault) => Ok(Some(refusal_at_fault(fault)?)),
         }
     }
 
@@ -362,7 +444,7 @@ impl Session {
                 Ok(Reply::Told(source))
             }
             Ok(None) => Ok(Reply::Refused(Refusal::NoSelector(name, side, selector))),
-            Err(fault) => reply_to_fault(fault),
+            Err(fault) => Ok(Reply::Refused(refusal_at_fault(fault)?)),
         }
     }
 }

@@ -1,6 +1,7 @@
 // A session over an outside in memory, with ample memory.
-ghost use Rattle.std.specs.Prelude.{◌≡◌, IfOk};
+ghost use Rattle.std.specs.Prelude.{◌≡◌, IfOk, OnOk};
 ghost use Rattle.s80_disk.specs.Memory.{told_by};
+ghost use Rattle.s80_session.specs.Session.{IsFaultless};
 
 use crate::{Session, SessionEnd, put_all};
 use s80_base::{Call, Failed, FixedClock, MemSink, MemSource, OutOfMemory, Text};
@@ -12,6 +13,9 @@ use std::alloc::Global;
 use std::test::Fail;
 
 const ROOM: usize = 4096;
+
+/// How many ticks a doIt of a test may take.
+pub(crate) const BUDGET: u64 = 1_000_000;
 
 /// An outside over this disk with this input.
 pub(crate) fn outside_of(
@@ -37,7 +41,7 @@ pub(crate) fn new_disk(alloc: Global, plan: FaultPlan) -> Result<MemDisk, OutOfM
 fn items_are_answered_one_by_one(rt: HostRuntime) -> Result<(), Fail> {
     let alloc = rt.alloc();
     let mut outside = outside_of(alloc, new_disk(alloc, FaultPlan::Never)?, b"")?;
-    let mut session = Session::start(alloc, &mut outside)?;
+    let mut session = Session::start(alloc, &mut outside, BUDGET)?;
     let sum = Item::Plain(Text::from_bytes(alloc, b"3 + 4")?);
     session.step(alloc, SessionItem::Chunk(sum), &mut outside)?;
     session.step(alloc, SessionItem::Query(Query::Recover), &mut outside)?;
@@ -55,15 +59,30 @@ fn items_are_answered_one_by_one(rt: HostRuntime) -> Result<(), Fail> {
     let (_disk, _source, sink) = outside.parts();
     assert_eq!(rt;
         sink.bytes(),
-        b"ok\nrecovered 1 changes, 0 classes, 0 methods\nrefused 13 no section Object foo\nrefused 3 too large chunk 65536\nrefused 1 unended\n".as_slice()
+        b"=> 7\nrecovered 1 changes, 0 classes, 0 methods\nrefused 13 no section Object foo\nrefused 3 too large chunk 65536\nrefused 1 unended\n".as_slice()
     );
+    Ok(())
+}
+
+/// Steps a plain text.
+fn step_text(
+    alloc: Global,
+    session: &mut Session,
+    text: &[u8],
+    outside: &mut MemOutside<MemSource>,
+) -> Result<(), Fail>
+    requires { IsFaultless session.old }
+    ensures { OnOk result (IsFaultless session.new) }
+{
+    let item = Item::Plain(Text::from_bytes(alloc, text)?);
+    session.step(alloc, SessionItem::Chunk(item), outside)?;
     Ok(())
 }
 
 /// What a session answers to a plain text.
 fn answer_to(alloc: Global, text: &[u8]) -> Result<Vec<u8>, Fail> {
     let mut outside = outside_of(alloc, new_disk(alloc, FaultPlan::Never)?, b"")?;
-    let mut session = Session::start(alloc, &mut outside)?;
+    let mut session = Session::start(alloc, &mut outside, BUDGET)?;
     let item = Item::Plain(Text::from_bytes(alloc, text)?);
     session.step(alloc, SessionItem::Chunk(item), &mut outside)?;
     let (_disk, _source, sink) = outside.parts();
@@ -103,6 +122,107 @@ fn a_text_without_a_tree_is_refused_with_its_first_fault(rt: HostRuntime) -> Res
     Ok(())
 }
 
+#[test]
+fn a_plain_text_that_begins_with_a_mark_has_no_tree(rt: HostRuntime) -> Result<(), Fail> {
+    let alloc = rt.alloc();
+    let marked = answer_to(alloc, b"!3")?;
+    assert_eq!(rt;
+        marked.as_slice(),
+        b"refused 2 unexpected at 0\n".as_slice()
+    );
+    Ok(())
+}
+
+#[test]
+fn a_doit_is_answered_with_what_it_came_to(rt: HostRuntime) -> Result<(), Fail> {
+    let alloc = rt.alloc();
+    let rows: [(&[u8], &[u8]); 4] = [
+        (b"3 + 4", b"=> 7\n"),
+        (b"\"a\"", b"=> nil\n"),
+        (b"Transcript show: 'hi'; cr", b"hi\n=> a TextCollector\n"),
+        (
+            b"Transcript show: 'hi'. 3 zork",
+            b"hi\nstopped 2 not understood SmallInteger zork\n",
+        ),
+    ];
+    for (text, wanted) in rows {
+        let found = answer_to(alloc, text)?;
+        assert_eq!(rt; found.as_slice(), wanted);
+    }
+    Ok(())
+}
+
+#[test]
+fn a_doit_has_the_budget_of_its_session(rt: HostRuntime) -> Result<(), Fail> {
+    let alloc = rt.alloc();
+    let mut outside = outside_of(alloc, new_disk(alloc, FaultPlan::Never)?, b"")?;
+    let mut session = Session::start(alloc, &mut outside, 5)?;
+    step_text(alloc, &mut session, b"[true] whileTrue: []", &mut outside)?;
+    step_text(
+        alloc,
+        &mut session,
+        b"| i | i _ 0. [i < 5] whileTrue: [i _ i + 1]. i",
+        &mut outside,
+    )?;
+    let (_disk, _source, sink) = outside.parts();
+    assert_eq!(rt; sink.bytes(), b"stopped 9 budget 5\n=> 5\n".as_slice());
+    Ok(())
+}
+
+#[test]
+fn a_doit_that_stops_troubles_its_session(rt: HostRuntime) -> Result<(), Fail> {
+    let alloc = rt.alloc();
+    let mut outside = outside_of(alloc, new_disk(alloc, FaultPlan::Never)?, b"")?;
+    let mut session = Session::start(alloc, &mut outside, BUDGET)?;
+    step_text(alloc, &mut session, b"3 + 4", &mut outside)?;
+    assert!(rt; !session.troubled());
+    step_text(alloc, &mut session, b"3 zork", &mut outside)?;
+    assert!(rt; session.troubled());
+    step_text(alloc, &mut session, b"3 + 4", &mut outside)?;
+    assert!(rt; session.troubled());
+    Ok(())
+}
+
+/// Whether a session's last run took so many ticks under the budget of these tests.
+fn took(session: &Session, ticks: u64) -> bool {
+    match session.last_run() {
+        None => false,
+        Some(ran) => ran.outcome().ticks == ticks && ran.budget() == BUDGET,
+    }
+}
+
+#[test]
+fn the_last_run_is_that_of_the_last_doit(rt: HostRuntime) -> Result<(), Fail> {
+    let alloc = rt.alloc();
+    let mut outside = outside_of(alloc, new_disk(alloc, FaultPlan::Never)?, b"")?;
+    let mut session = Session::start(alloc, &mut outside, BUDGET)?;
+    assert!(rt; session.last_run().is_none());
+    step_text(
+        alloc,
+        &mut session,
+        b"| i | i _ 0. [i < 5] whileTrue: [i _ i + 1]. i",
+        &mut outside,
+    )?;
+    assert!(rt; took(&session, 5));
+    step_text(alloc, &mut session, b"3 +", &mut outside)?;
+    assert!(rt; took(&session, 5));
+    step_text(
+        alloc,
+        &mut session,
+        b"Object subclass: #A instanceVariableNames: '' classVariableNames: '' poolDictionaries: '' category: ''",
+        &mut outside,
+    )?;
+    assert!(rt; took(&session, 5));
+    step_text(alloc, &mut session, b"3 + 4", &mut outside)?;
+    assert!(rt; took(&session, 0));
+    let (_disk, _source, sink) = outside.parts();
+    assert_eq!(rt;
+        sink.bytes(),
+        b"=> 5\nrefused 2 unexpected at 3\nok\n=> 7\n".as_slice()
+    );
+    Ok(())
+}
+
 /// A string of so many digits that doesn't end.
 fn unended_string(alloc: Global, count: usize) -> Result<Text, OutOfMemory> {
     let digits = vec![in alloc; b'1'; count]?;
@@ -130,7 +250,7 @@ fn a_text_that_is_too_long_is_refused_before_it_is_parsed(rt: HostRuntime) -> Re
 /// What a session answers to an input and then to a query.
 pub(crate) fn answers(alloc: Global, input: &[u8], query: Query) -> Result<Vec<u8>, Fail> {
     let mut outside = outside_of(alloc, new_disk(alloc, FaultPlan::Never)?, input)?;
-    let mut session = Session::start(alloc, &mut outside)?;
+    let mut session = Session::start(alloc, &mut outside, BUDGET)?;
     session.run_items(alloc, &mut outside)?;
     session.step(alloc, SessionItem::Query(query), &mut outside)?;
     let (_disk, _source, sink) = outside.parts();
@@ -316,7 +436,7 @@ fn every_other_expression_is_kept_as_a_doit(rt: HostRuntime) -> Result<(), Fail>
     )?;
     assert_eq!(rt;
         returned.as_slice(),
-        b"ok\nok\nok\nrecovered 3 changes, 0 classes, 0 methods\n".as_slice()
+        b"stopped 2 not understood Object class subclass:instanceVariableNames:classVariableNames:poolDictionaries:category:\nstopped 2 not understood Object class subclass:instanceVariableNames:classVariableNames:poolDictionaries:category:\nstopped 2 not understood UndefinedObject subclass:instanceVariableNames:classVariableNames:poolDictionaries:category:\nrecovered 3 changes, 0 classes, 0 methods\n".as_slice()
     );
     let others = answers(
         alloc,
@@ -325,7 +445,7 @@ fn every_other_expression_is_kept_as_a_doit(rt: HostRuntime) -> Result<(), Fail>
     )?;
     assert_eq!(rt;
         others.as_slice(),
-        b"ok\nok\nok\nok\nok\nok\nrecovered 6 changes, 0 classes, 0 methods\n".as_slice()
+        b"stopped 2 not understood Object class subclass:\nstopped 2 not understood Object class subclass:instanceVariableNames:classVariableNames:poolDictionaries:category:\nstopped 2 not understood Object class comment:\nstopped 2 not understood Object class removeSelector:\n=> 'a'\n=> nil\nrecovered 6 changes, 0 classes, 0 methods\n".as_slice()
     );
     Ok(())
 }
@@ -334,7 +454,7 @@ fn every_other_expression_is_kept_as_a_doit(rt: HostRuntime) -> Result<(), Fail>
 fn a_definition_is_kept_or_refused(rt: HostRuntime) -> Result<(), Fail> {
     let alloc = rt.alloc();
     let mut outside = outside_of(alloc, new_disk(alloc, FaultPlan::Never)?, b"")?;
-    let mut session = Session::start(alloc, &mut outside)?;
+    let mut session = Session::start(alloc, &mut outside, BUDGET)?;
     let account = Item::Plain(Text::from_bytes(
         alloc,
         b"Object subclass: #Account instanceVariableNames: 'balance ' classVariableNames: '' poolDictionaries: '' category: 'Bank'",
@@ -360,14 +480,14 @@ fn a_definition_is_kept_or_refused(rt: HostRuntime) -> Result<(), Fail> {
 fn a_refused_text_is_not_kept(rt: HostRuntime) -> Result<(), Fail> {
     let alloc = rt.alloc();
     let mut outside = outside_of(alloc, new_disk(alloc, FaultPlan::Never)?, b"1! 3 + ! 2!")?;
-    let mut session = Session::start(alloc, &mut outside)?;
+    let mut session = Session::start(alloc, &mut outside, BUDGET)?;
     session.run_items(alloc, &mut outside)?;
     session.step(alloc, SessionItem::Query(Query::Recover), &mut outside)?;
     assert!(rt; session.troubled());
     let (_disk, _source, sink) = outside.parts();
     assert_eq!(rt;
         sink.bytes(),
-        b"ok\nrefused 2 unexpected at 4\nok\nrecovered 2 changes, 0 classes, 0 methods\n".as_slice()
+        b"=> 1\nrefused 2 unexpected at 4\n=> 2\nrecovered 2 changes, 0 classes, 0 methods\n".as_slice()
     );
     Ok(())
 }
@@ -376,11 +496,11 @@ fn a_refused_text_is_not_kept(rt: HostRuntime) -> Result<(), Fail> {
 fn a_whole_input_is_worked(rt: HostRuntime) -> Result<(), Fail> {
     let alloc = rt.alloc();
     let mut outside = outside_of(alloc, new_disk(alloc, FaultPlan::Never)?, b"1! 2! 3!")?;
-    let mut session = Session::start(alloc, &mut outside)?;
+    let mut session = Session::start(alloc, &mut outside, BUDGET)?;
     session.run_items(alloc, &mut outside)?;
     put_all(&mut outside, b"done\n")?;
     let (_disk, _source, sink) = outside.parts();
-    assert_eq!(rt; sink.bytes(), b"ok\nok\nok\ndone\n".as_slice());
+    assert_eq!(rt; sink.bytes(), b"=> 1\n=> 2\n=> 3\ndone\n".as_slice());
     Ok(())
 }
 
@@ -391,7 +511,7 @@ fn a_session_does_not_start_on_damaged_files(rt: HostRuntime) -> Result<(), Fail
     disk.write_at(FileId::Log0, 0, b"1!\n")?;
     let mut outside = outside_of(alloc, disk.crash(alloc, 1)?, b"2!")?;
     assert_eq!(rt;
-        Session::start(alloc, &mut outside).err(),
+        Session::start(alloc, &mut outside, BUDGET).err(),
         Some(SessionEnd::Damaged(Damage::NoMark(3)))
     );
     Ok(())
@@ -403,7 +523,7 @@ fn a_fault_of_the_disk_ends_a_session(rt: HostRuntime) -> Result<(), Fail> {
     let disk = new_disk(alloc, FaultPlan::One(1))?;
     let mut outside = outside_of(alloc, disk, b"")?;
     assert_eq!(rt;
-        Session::start(alloc, &mut outside).err(),
+        Session::start(alloc, &mut outside, BUDGET).err(),
         Some(SessionEnd::Disk(Failed { call: Call::Sync }))
     );
     Ok(())

@@ -1,5 +1,5 @@
 // Sections, methods and their sources, over an outside in memory.
-use crate::tests::{answers, browsed, new_disk, outside_of};
+use crate::tests::{BUDGET, answers, browsed, new_disk, outside_of};
 use crate::{Session, SessionEnd};
 use s80_base::{OutOfMemory, Text};
 use s80_chunk::{Item, Role};
@@ -19,7 +19,7 @@ fn a_section_goes_on_behind_a_refused_method(rt: HostRuntime) -> Result<(), Fail
     )?;
     assert_eq!(rt;
         found.as_slice(),
-        b"ok\nrefused 2 unexpected at 7\nok\nok\nrecovered 3 changes, 0 classes, 2 methods\n".as_slice()
+        b"ok\nrefused 2 unexpected at 7\nok\n=> 4\nrecovered 3 changes, 0 classes, 2 methods\n".as_slice()
     );
     Ok(())
 }
@@ -34,7 +34,7 @@ fn a_refused_head_has_one_reply(rt: HostRuntime) -> Result<(), Fail> {
     )?;
     assert_eq!(rt;
         unknown.as_slice(),
-        b"refused 4 unknown class Nobody\nok\nrecovered 1 changes, 0 classes, 0 methods\n".as_slice()
+        b"refused 4 unknown class Nobody\n=> 4\nrecovered 1 changes, 0 classes, 0 methods\n".as_slice()
     );
     let no_section = answers(alloc, b"!Object foo!\na ^1! !\n", Query::Recover)?;
     assert_eq!(rt;
@@ -158,7 +158,7 @@ fn a_source_that_was_damaged_ends_a_session(rt: HostRuntime) -> Result<(), Fail>
     let alloc = rt.alloc();
     let input = b"!Object methodsFor: 'x'!\none ^1! !\n";
     let mut outside = outside_of(alloc, new_disk(alloc, FaultPlan::Never)?, input)?;
-    let mut session = Session::start(alloc, &mut outside)?;
+    let mut session = Session::start(alloc, &mut outside, BUDGET)?;
     session.run_items(alloc, &mut outside)?;
     outside.write_at(FileId::Log0, 26, b"!")?;
     let query = Query::Source(
@@ -186,7 +186,7 @@ fn literals(alloc: Global, pattern: &[u8], count: u8) -> Result<Text, OutOfMemor
 /// What a session answers to a doIt with so many literals, and to a method.
 fn with_literals(alloc: Global, count: u8) -> Result<Vec<u8>, Fail> {
     let mut outside = outside_of(alloc, new_disk(alloc, FaultPlan::Never)?, b"")?;
-    let mut session = Session::start(alloc, &mut outside)?;
+    let mut session = Session::start(alloc, &mut outside, BUDGET)?;
     let doit = Item::Plain(literals(alloc, b"nil.", count)?);
     session.step(alloc, SessionItem::Chunk(doit), &mut outside)?;
     let head = Item::Head(Text::from_bytes(alloc, b"Object methodsFor: 'x'")?);
@@ -201,7 +201,7 @@ fn with_literals(alloc: Global, count: u8) -> Result<Vec<u8>, Fail> {
 fn a_text_with_too_many_literals_is_refused(rt: HostRuntime) -> Result<(), Fail> {
     let alloc = rt.alloc();
     let most = with_literals(alloc, 60)?;
-    assert_eq!(rt; most.as_slice(), b"ok\nok\n".as_slice());
+    assert_eq!(rt; most.as_slice(), b"=> $k\nok\n".as_slice());
     let more = with_literals(alloc, 61)?;
     assert_eq!(rt;
         more.as_slice(),
@@ -213,7 +213,7 @@ fn a_text_with_too_many_literals_is_refused(rt: HostRuntime) -> Result<(), Fail>
 /// What a session answers to a method that is too long, in the section of this head, where there is one.
 fn long_method(alloc: Global, head: &[u8]) -> Result<Vec<u8>, Fail> {
     let mut outside = outside_of(alloc, new_disk(alloc, FaultPlan::Never)?, b"")?;
-    let mut session = Session::start(alloc, &mut outside)?;
+    let mut session = Session::start(alloc, &mut outside, BUDGET)?;
     if !head.is_empty() {
         let head = Item::Head(Text::from_bytes(alloc, head)?);
         session.step(alloc, SessionItem::Chunk(head), &mut outside)?;

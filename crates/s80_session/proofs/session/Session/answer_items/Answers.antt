@@ -1,23 +1,23 @@
-use Rattle.std.proofs.Common.{sym, ap, ◌∙◌, ◌++◌, ◌∷◌, [], refl, arith}
+use Rattle.std.proofs.Common.{inl, sym, ap, ◌∙◌, ◌++◌, ◌∷◌, [], refl, arith}
 use Rattle.std.proofs.lemmas.Result.{err_from_is_err_and}
 use Rattle.s80_model.specs.Replies.{work_after_all, replies}
 use Rattle.s80_session.specs.Run.{shown}
 use Rattle.s80_session.proofs.Lasting.{items_last, answers_start, nothing_happens}
-use Rattle.s80_session.proofs.Answering.{worked_on, begins, broke_off, read_some, read_none, holds_none, sound_some, no_fewer_on}
+use Rattle.s80_session.proofs.Answering.{worked_on, begins, broke_off, read_some, read_none, holds_none, readable_some, no_fewer_on}
 use Rattle.s80_session.proofs.session.Session.answer_items.Goals as goal
 
 pub returns-in_err-item-clause-answered : goal.returns-in_err-item-clause-answered
 returns-in_err-item-clause-answered g c = λ work before bytes given start.
     let w = c.loop-item.invariant.working work before bytes given start in
     let p = err_from_is_err_and c.from_residual.result c.from_residual.ensures.1 in
-    rw (p.1, p.2) (w.1.asks, (w.0, begins c.loop-item.reader c.next_item.new.self.ended bytes w.0 (sym c.next_item.ensures.ended) w.1.read, w.1.asked), w.1.at)
+    rw (p.1, p.2) (inl (w.1.asks, (w.0, begins c.loop-item.reader c.next_item.new.self.ended bytes w.0 (sym c.next_item.ensures.ended) w.1.read, w.1.asked), w.1.at))
 
 pub loop-item-preserved : goal.loop-item-preserved
 loop-item-preserved g c = record {
   working = λ work before bytes given start.
       let w = c.loop-item.invariant.working work before bytes given start in
       let read = read_some c.next_item.new.self bytes w.0 c.in_ok-item.field-0 c.in-Some.item c.in-Some.is (c.in_ok-item.ensures.item bytes w.0 w.1.read) in
-      let sound = sound_some c.in_ok-item.field-0 c.in-Some.item c.loop-item.reader bytes w.0 c.in-Some.is c.in_ok-item.ensures.sound w.1.read in
+      let sound = readable_some c.in_ok-item.field-0 c.in-Some.item c.loop-item.reader bytes w.0 c.in-Some.is c.in_ok-item.ensures.sound w.1.read in
       let list = work_after_all work w.1.asks in
       let put = before ++ replies work w.1.asks in (
         w.0 ++ c.in-Some.item ∷ [],
@@ -26,7 +26,7 @@ loop-item-preserved g c = record {
   run = λ work before bytes given start.
       let w = c.loop-item.invariant.working work before bytes given start in
       let read = read_some c.next_item.new.self bytes w.0 c.in_ok-item.field-0 c.in-Some.item c.in-Some.is (c.in_ok-item.ensures.item bytes w.0 w.1.read) in
-      let sound = sound_some c.in_ok-item.field-0 c.in-Some.item c.loop-item.reader bytes w.0 c.in-Some.is c.in_ok-item.ensures.sound w.1.read in
+      let sound = readable_some c.in_ok-item.field-0 c.in-Some.item c.loop-item.reader bytes w.0 c.in-Some.is c.in_ok-item.ensures.sound w.1.read in
       items_last g.O.Disk.moment g.O.Disk.left_since _ _ _ c.args.reader.now.ended work before bytes w.0 w.1.asks c.in-Some.item (begins c.loop-item.reader c.args.reader.now.ended bytes w.0 c.loop-item.invariant.ended w.1.read) w.1.asked (begins c.next_item.new.self c.args.reader.now.ended bytes (w.0 ++ c.in-Some.item ∷ []) (c.next_item.ensures.ended ∙ c.loop-item.invariant.ended) read) (c.loop-item.invariant.run work before bytes given start) (c.step.ensures.any_moment (work_after_all work w.1.asks) (before ++ replies work w.1.asks) sound w.1.at);
   reading =
       let some = c.loop-item.invariant.reading in
@@ -42,7 +42,7 @@ pub returns-in_err-step-clause-answered : goal.returns-in_err-step-clause-answer
 returns-in_err-step-clause-answered g c = λ work before bytes given start.
     let w = c.loop-item.invariant.working work before bytes given start in
     let read = read_some c.next_item.new.self bytes w.0 c.in_ok-item.field-0 c.in-Some.item c.in-Some.is (c.in_ok-item.ensures.item bytes w.0 w.1.read) in
-    let sound = sound_some c.in_ok-item.field-0 c.in-Some.item c.loop-item.reader bytes w.0 c.in-Some.is c.in_ok-item.ensures.sound w.1.read in
+    let sound = readable_some c.in_ok-item.field-0 c.in-Some.item c.loop-item.reader bytes w.0 c.in-Some.is c.in_ok-item.ensures.sound w.1.read in
     let list = work_after_all work w.1.asks in
     let put = before ++ replies work w.1.asks in
     let p = err_from_is_err_and c.from_residual-in_err-step.result c.from_residual-in_err-step.ensures.1 in
@@ -53,7 +53,7 @@ returns-clause-answered g c = λ work before bytes given start.
     let w = c.loop-item.invariant.working work before bytes given start in
     let read = read_none c.next_item.new.self bytes w.0 c.in_ok-item.field-0 c.in_default.is (c.in_ok-item.ensures.item bytes w.0 w.1.read) in (
       w.0,
-      record { asks = w.1.asks; read = read; asked = w.1.asked; at = w.1.at; refused = w.1.refused },
+      record { asks = w.1.asks; read = read; asked = w.1.asked; at = w.1.at; troubled = w.1.troubled },
       holds_none c.in_ok-item.field-0 c.loop-item.reader c.next_item.new.self.ended bytes w.0 c.in_default.is c.in_ok-item.ensures.none w.1.read c.next_item.ensures.ended,
     )
 
@@ -77,7 +77,7 @@ pub returns-in_err-step-clause-any_moment : goal.returns-in_err-step-clause-any_
 returns-in_err-step-clause-any_moment g c = λ work before bytes given start.
     let w = c.loop-item.invariant.working work before bytes given start in
     let read = read_some c.next_item.new.self bytes w.0 c.in_ok-item.field-0 c.in-Some.item c.in-Some.is (c.in_ok-item.ensures.item bytes w.0 w.1.read) in
-    let sound = sound_some c.in_ok-item.field-0 c.in-Some.item c.loop-item.reader bytes w.0 c.in-Some.is c.in_ok-item.ensures.sound w.1.read in
+    let sound = readable_some c.in_ok-item.field-0 c.in-Some.item c.loop-item.reader bytes w.0 c.in-Some.is c.in_ok-item.ensures.sound w.1.read in
     items_last g.O.Disk.moment g.O.Disk.left_since _ _ _ c.args.reader.now.ended work before bytes w.0 w.1.asks c.in-Some.item (begins c.loop-item.reader c.args.reader.now.ended bytes w.0 c.loop-item.invariant.ended w.1.read) w.1.asked (begins c.next_item.new.self c.args.reader.now.ended bytes (w.0 ++ c.in-Some.item ∷ []) (c.next_item.ensures.ended ∙ c.loop-item.invariant.ended) read) (c.loop-item.invariant.run work before bytes given start) (c.step.ensures.any_moment (work_after_all work w.1.asks) (before ++ replies work w.1.asks) sound w.1.at)
 
 pub returns-clause-any_moment : goal.returns-clause-any_moment

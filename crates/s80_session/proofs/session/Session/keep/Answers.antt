@@ -1,25 +1,26 @@
 use Rattle.std.proofs.Common.{◌≡◌, ◌++◌, ◌∷◌, [], ℕ, List, length, None, refl, sym, Result, Ok, Err, ap, subst, ◌∙◌, arith}
+use Rattle.std.specs.Prelude.{IfErr}
+use Rattle.std.proofs.lemmas.Result.{err_from_is_err_and}
 use Rattle.s80_block.specs.declared.change.Change.{Change}
 use Rattle.s80_block.specs.Block.{block, IsLawful}
+use Rattle.s80_change.specs.declared.refusal.Refusal.{Refusal}
 use Rattle.s80_change.specs.declared.refusal.Refused.{Refused}
 use Rattle.s80_disk.specs.Moments.{LeavesOnly}
-use Rattle.s80_keeper.specs.declared.keep.KeepFault.{KeepFault}
 use Rattle.s80_keeper.specs.declared.keep.KeepFault.TheVariants.{Full}
 use Rattle.s80_keeper.specs.Keeper.{KeeperState, Keeps}
 use Rattle.s80_keeper.specs.Standing.{LeavesEither}
 use Rattle.s80_keeper.specs.Answers.{Prepares}
 use Rattle.s80_state.specs.List.{add, state_of}
-use Rattle.s80_model.specs.declared.reply.Reply.{Reply}
 use Rattle.s80_model.specs.Replies.{Work}
 use Rattle.s80_session.specs.declared.end.SessionEnd.{SessionEnd}
 use Rattle.s80_session.specs.declared.session.Session.{Session}
-use Rattle.s80_session.specs.Ending.{Faults, NoFewer, Counts, faults}
-use Rattle.s80_session.specs.Run.{Shown, shown}
+use Rattle.s80_session.specs.Ending.{Faults, HasReason, NoFewer, faults}
+use Rattle.s80_session.specs.Run.{shown}
 use Rattle.s80_session.specs.Session.{keeper_of}
-use Rattle.s80_session.specs.Working.{IsAt, IsLawfulFor, Kept, KeepLeaves}
+use Rattle.s80_session.specs.Working.{IsAt, IsLawfulFor, KeepLeaves}
 use Rattle.s80_session.proofs.Lasting.{nothing_happens}
 use Rattle.s80_session.proofs.Adding.{still_at, refused, takes, lawful_on, kept, keep_lasts, keep_still}
-use Rattle.s80_session.proofs.Reading.{fault_kept, kept_counts}
+use Rattle.s80_session.proofs.Reading.{fault_ends, kept_reason}
 use Rattle.s80_session.proofs.session.Session.keep.Goals as goal
 use Rattle.s80_session.proofs.session.Session.keep.Goals.{After-keep_change}
 
@@ -79,29 +80,28 @@ returns-in-Ok-keep_change-clause-kept g c = λ work put lawful at.
     let new = c.keep_change.new.outside in
     let is = answer g after work put lawful at in
     let P : Change → Type 0 = λ x. Keeps (g.O.Disk.tells new) (g.O.Disk.reads new) (g.O.Disk.may_leave new) c.keep_change.new.keeper (work.changes ++ x ∷ []) in
-    kept (g.O.Disk.may_leave new) (shown g.O.Disk.tells g.O.Disk.reads g.O.Source.left g.O.Sink.taken g.O.Sink.told new) (record c.args.self.now { keeper = c.keep_change.new.keeper }) work put c.args.change (is_added g after work put lawful at)
+    kept (g.O.Disk.may_leave c.args.outside.now) (g.O.Disk.may_leave new) (shown g.O.Disk.tells g.O.Disk.reads g.O.Source.left g.O.Sink.taken g.O.Sink.told c.args.outside.now) (shown g.O.Disk.tells g.O.Disk.reads g.O.Source.left g.O.Sink.taken g.O.Sink.told new) c.args.self.now (record c.args.self.now { keeper = c.keep_change.new.keeper }) work put c.args.change (is_added g after work put lawful at)
     (subst P is.0 (c.in-Ok-keep_change.ensures.kept work.changes (now_at g after work put lawful at).keeps (is_lawful g after work put lawful at) is.1))
-    at.section
-    (ap (λ (o : Shown). o.taken) c.keep_change.ensures.shown ∙ at.taken)
-    (ap (λ (o : Shown). o.told) c.keep_change.ensures.shown ∙ at.told)
+    refl c.keep_change.ensures.shown at
 
 pub returns-in-Ok-keep_change-clause-any_moment : goal.returns-in-Ok-keep_change-clause-any_moment
 returns-in-Ok-keep_change-clause-any_moment g c = run g (goal.at.returns-in-Ok-keep_change-clause-any_moment g c).After-keep_change
 
-pub returns-in-Err-clause-kept : goal.returns-in-Err-clause-kept
-returns-in-Err-clause-kept g c = λ work put lawful at.
-    let after = (goal.at.returns-in-Err-clause-kept g c).After-keep_change in
-    let new = c.keep_change.new.outside in
-    let now : Session = record c.args.self.now { keeper = c.keep_change.new.keeper } in
-    let P : Result Reply SessionEnd → Type 0 = λ r. Kept r (g.O.Disk.may_leave new) (shown g.O.Disk.tells g.O.Disk.reads g.O.Source.left g.O.Sink.taken g.O.Sink.told new) now work put c.args.change in
-    subst P (sym c.reply_to_fault.ensures) (fault_kept c.keep_change.result c.in-Ok.prepared c.prepare.new.self c.in-Err.fault (g.O.Disk.may_leave new) (shown g.O.Disk.tells g.O.Disk.reads g.O.Source.left g.O.Sink.taken g.O.Sink.told new) now work put c.args.change c.in-Err.is c.keep_change.ensures.after (roomy g after work put lawful at) (ap (λ (o : Shown). o.taken) c.keep_change.ensures.shown ∙ at.taken))
+-- no fault refuses what was prepared
+pub returns-in_ok-refusal_at_fault-in-Err-clause-kept : goal.returns-in_ok-refusal_at_fault-in-Err-clause-kept
+returns-in_ok-refusal_at_fault-in-Err-clause-kept g c = λ work put lawful at.
+    let after = (goal.at.returns-in_ok-refusal_at_fault-in-Err-clause-kept g c).After-keep_change in
+    absurd (fault_ends c.keep_change.result c.in-Err.fault c.in_ok-refusal_at_fault-in-Err.field-0 c.in-Err.is (roomy g after work put lawful at) (sym c.in_ok-refusal_at_fault-in-Err.ensures))
 
-pub returns-in-Err-clause-any_moment : goal.returns-in-Err-clause-any_moment
-returns-in-Err-clause-any_moment g c = run g (goal.at.returns-in-Err-clause-any_moment g c).After-keep_change
+pub returns-in_ok-refusal_at_fault-in-Err-clause-any_moment : goal.returns-in_ok-refusal_at_fault-in-Err-clause-any_moment
+returns-in_ok-refusal_at_fault-in-Err-clause-any_moment g c = run g (goal.at.returns-in_ok-refusal_at_fault-in-Err-clause-any_moment g c).After-keep_change
+
+pub returns-in_err-refusal_at_fault-in-Err-clause-any_moment : goal.returns-in_err-refusal_at_fault-in-Err-clause-any_moment
+returns-in_err-refusal_at_fault-in-Err-clause-any_moment g c = run g (goal.at.returns-in_err-refusal_at_fault-in-Err-clause-any_moment g c).After-keep_change
 
 -- no fault was met before
-pub returns-in-Err-clause-counts : goal.returns-in-Err-clause-counts
-returns-in-Err-clause-counts g c =
+pub returns-in_err-refusal_at_fault-in-Err-clause-counts : goal.returns-in_err-refusal_at_fault-in-Err-clause-counts
+returns-in_err-refusal_at_fault-in-Err-clause-counts g c =
     let counts = c.keep_change.ensures.faults in
     let old = faults g.O.Source.read_faults g.O.Sink.write_faults g.O.Disk.disk_faults c.args.outside.now in
     let new = faults g.O.Source.read_faults g.O.Sink.write_faults g.O.Disk.disk_faults c.keep_change.new.outside in
@@ -111,5 +111,7 @@ returns-in-Err-clause-counts g c =
       disk = c.keep_change.ensures.later;
     } in
     let calm : c.prepare.new.self.fault ≡ None = ap (λ (k : KeeperState). k.fault) c.prepare.ensures.same ∙ c.requires.faultless in
-    let P : Result Reply SessionEnd → Type 0 = λ r. Counts old new r in
-    subst P (sym c.reply_to_fault.ensures) (kept_counts c.keep_change.result c.in-Ok.prepared c.prepare.new.self c.in-Err.fault c.keep_change.new.keeper old new c.in-Err.is c.keep_change.ensures.after later c.keep_change.ensures.cause c.keep_change.ensures.closed calm)
+    let P : Result Refusal SessionEnd → Type 0 = λ r. IfErr r (HasReason old new) in
+    let reason = subst P (sym c.in_err-refusal_at_fault-in-Err.ensures) (kept_reason c.keep_change.result c.in-Ok.prepared c.prepare.new.self c.keep_change.new.keeper c.in-Err.fault old new c.in-Err.is c.keep_change.ensures.after c.keep_change.ensures.cause c.keep_change.ensures.closed calm) in
+    let p = err_from_is_err_and c.from_residual.result c.from_residual.ensures.1 in
+    rw (p.1, p.2) (record { later = later; reason = reason })

@@ -1,14 +1,24 @@
-use Rattle.std.proofs.Common.{ap, sym, subst, ◌∙◌}
+use Rattle.std.proofs.Common.{◌≤◌, ℕ, List, length, arith, ap, sym, subst, ◌∙◌}
+use Rattle.std.proofs.lemmas.Result.{err_from_is_err_and}
 use Rattle.s80_block.specs.declared.change.Change.{Change}
 use Rattle.s80_block.specs.declared.change.Change.TheVariants as changes
 use Rattle.s80_chunk.specs.declared.item.Item.TheVariants as items
+use Rattle.s80_chunk.specs.Chunks.{IsChunkText, longest}
+use Rattle.s80_disk.specs.Moments.{LeavesOnly}
 use Rattle.s80_model.specs.declared.item.SessionItem.TheVariants.{Chunk}
+use Rattle.s80_model.specs.Replies.{Work}
 use Rattle.s80_session.specs.Run.{shown}
-use Rattle.s80_session.specs.Working.{IsLawfulFor}
+use Rattle.s80_session.specs.Working.{IsAt, IsLawfulFor, WorkLeaves}
 use Rattle.s80_session.proofs.Lasting.{nothing_happens, work_still}
-use Rattle.s80_session.proofs.Lawful.{source_lawful}
-use Rattle.s80_session.proofs.Stepping.{replied_source, passed_top, passed_refused, source_lasts}
+use Rattle.s80_session.proofs.Lawful.{source_lawful, source_checked}
+use Rattle.s80_session.proofs.Stepping.{replied_source, passed_top, passed_refused, source_lasts, unreplied}
 use Rattle.s80_session.proofs.session.Session.keep_method.Goals as goal
+use Rattle.s80_session.proofs.session.Session.keep_method.Goals.{After-keep}
+
+pub keep-requires-clause-checked : goal.keep-requires-clause-checked
+keep-requires-clause-checked g c =
+    let short : length c.args.source ≤ 65535 = omega (arith, c.if-length-gt-LONGEST.false, ap length c.bytes-length.ensures) in
+    source_checked (changes.Method c.in_ok-method-in-Open.method) c.in-Open.head c.args.source c.in_ok-check.check c.in_ok-method-in-Open.ensures short c.in_ok-check.ensures
 
 pub returns-in_err-check-clause-any_moment : goal.returns-in_err-check-clause-any_moment
 returns-in_err-check-clause-any_moment g c = λ work put text short at.
@@ -18,19 +28,32 @@ pub returns-in_err-method-in-Open-clause-any_moment : goal.returns-in_err-method
 returns-in_err-method-in-Open-clause-any_moment g c = λ work put text short at.
     work_still g.O.Disk.moment g.O.Disk.left_since c.args.outside.now c.args.outside.now work put (Chunk (items.Method c.args.source)) (nothing_happens g.O.Disk.moment g.O.Disk.left_since _ (shown g.O.Disk.tells g.O.Disk.reads g.O.Source.left g.O.Sink.taken g.O.Sink.told c.args.outside.now) _ c.args.outside.now work put (λ told image left. let x = g.met.O.Disk.only_now c.args.outside.now told image left in (x.0, x.1 ∙ ap (λ b. b.told) (g.met.O.Outside.beside_is c.args.outside.now))) at)
 
-pub returns-in_ok-method-in-Open-clause-replied : goal.returns-in_ok-method-in-Open-clause-replied
-returns-in_ok-method-in-Open-clause-replied g c = λ work put text short at.
-    let is = c.in_ok-method-in-Open.ensures in
-    let P : Change → Type 0 = λ x. IsLawfulFor work.changes x in
-    let lawful = subst P (sym is) (source_lawful work.changes c.in-Open.head c.args.source c.in_ok-check.check text short c.in_ok-check.ensures) in
-    replied_source c.keep.result (g.O.Disk.may_leave c.keep.new.outside) _ _ work put c.args.source c.in_ok-check.check c.in-Open.head (changes.Method c.in_ok-method-in-Open.method) is (sym at.section ∙ c.in-Open.is) c.in_ok-check.ensures (c.keep.ensures.kept work put lawful at)
+-- what the paths behind the keeping share
+module _ (g : _) (c : After-keep g) (work : Work) (put : List ℕ) (text : IsChunkText c.args.source) (short : length c.args.source ≤ longest) (at : IsAt (g.O.Disk.may_leave c.args.outside.now) (shown g.O.Disk.tells g.O.Disk.reads g.O.Source.left g.O.Sink.taken g.O.Sink.told c.args.outside.now) c.args.self.now work put) where
+  lawful : IsLawfulFor work.changes (changes.Method c.in_ok-method-in-Open.method)
+  lawful =
+      let P : Change → Type 0 = λ x. IsLawfulFor work.changes x in
+      subst P (sym c.in_ok-method-in-Open.ensures) (source_lawful work.changes c.in-Open.head c.args.source c.in_ok-check.check text short c.in_ok-check.ensures)
 
-pub returns-in_ok-method-in-Open-clause-any_moment : goal.returns-in_ok-method-in-Open-clause-any_moment
-returns-in_ok-method-in-Open-clause-any_moment g c = λ work put text short at.
-    let is = c.in_ok-method-in-Open.ensures in
-    let P : Change → Type 0 = λ x. IsLawfulFor work.changes x in
-    let lawful = subst P (sym is) (source_lawful work.changes c.in-Open.head c.args.source c.in_ok-check.check text short c.in_ok-check.ensures) in
-    source_lasts g.O.Disk.moment g.O.Disk.left_since c.args.outside.now c.keep.new.outside work put c.args.source c.in_ok-check.check c.in-Open.head (changes.Method c.in_ok-method-in-Open.method) is (sym at.section ∙ c.in-Open.is) c.in_ok-check.ensures (c.keep.ensures.any_moment work put lawful at)
+  run : LeavesOnly g.O.Disk.moment g.O.Disk.left_since c.args.outside.now c.keep.new.outside (WorkLeaves work put (Chunk (items.Method c.args.source)))
+  run = source_lasts g.O.Disk.moment g.O.Disk.left_since c.args.outside.now c.keep.new.outside work put c.args.source c.in_ok-check.check c.in-Open.head (changes.Method c.in_ok-method-in-Open.method) c.in_ok-method-in-Open.ensures (sym at.section ∙ c.in-Open.is) c.in_ok-check.ensures (c.keep.ensures.any_moment work put lawful at)
+
+pub returns-in_err-refusal-in-Open-clause-replied : goal.returns-in_err-refusal-in-Open-clause-replied
+returns-in_err-refusal-in-Open-clause-replied g c = λ work put text short at.
+    let after = (goal.at.returns-in_err-refusal-in-Open-clause-replied g c).After-keep in
+    let p = err_from_is_err_and c.from_residual-in_err-refusal-in-Open.result c.from_residual-in_err-refusal-in-Open.ensures.1 in
+    rw (p.1, p.2) (unreplied c.in_err-refusal-in-Open.field-0.0 (g.O.Disk.may_leave c.keep.new.outside) (shown g.O.Disk.tells g.O.Disk.reads g.O.Source.left g.O.Sink.taken g.O.Sink.told c.keep.new.outside) c.keep.new.self work put (Chunk (items.Method c.args.source)) (c.in_err-refusal-in-Open.ensures.kept work put (lawful g after work put text short at) at))
+
+pub returns-in_err-refusal-in-Open-clause-any_moment : goal.returns-in_err-refusal-in-Open-clause-any_moment
+returns-in_err-refusal-in-Open-clause-any_moment g c = run g (goal.at.returns-in_err-refusal-in-Open-clause-any_moment g c).After-keep
+
+pub returns-in_ok-refusal-in-Open-clause-replied : goal.returns-in_ok-refusal-in-Open-clause-replied
+returns-in_ok-refusal-in-Open-clause-replied g c = λ work put text short at.
+    let after = (goal.at.returns-in_ok-refusal-in-Open-clause-replied g c).After-keep in
+    replied_source (g.O.Disk.may_leave c.keep.new.outside) (shown g.O.Disk.tells g.O.Disk.reads g.O.Source.left g.O.Sink.taken g.O.Sink.told c.keep.new.outside) c.keep.new.self work put c.args.source c.in_ok-check.check c.in-Open.head (changes.Method c.in_ok-method-in-Open.method) c.in_ok-refusal-in-Open.refusal c.reply_to_keeping.result c.in_ok-method-in-Open.ensures (sym at.section ∙ c.in-Open.is) c.in_ok-check.ensures c.reply_to_keeping.ensures (c.in_ok-refusal-in-Open.ensures.kept work put (lawful g after work put text short at) at)
+
+pub returns-in_ok-refusal-in-Open-clause-any_moment : goal.returns-in_ok-refusal-in-Open-clause-any_moment
+returns-in_ok-refusal-in-Open-clause-any_moment g c = run g (goal.at.returns-in_ok-refusal-in-Open-clause-any_moment g c).After-keep
 
 pub returns-in-Top-clause-replied : goal.returns-in-Top-clause-replied
 returns-in-Top-clause-replied g c = λ work put text short at.

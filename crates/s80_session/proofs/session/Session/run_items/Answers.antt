@@ -1,8 +1,9 @@
-use Rattle.std.proofs.Common.{ap, [], refl, sym, ◌∙◌, ◌++◌}
+use Rattle.std.proofs.Common.{inl, ap, [], refl, sym, ◌∙◌, ◌++◌}
 use Rattle.std.proofs.lemmas.List.{append-nil}
 use Rattle.std.proofs.lemmas.Result.{err_from_is_err_and}
 use Rattle.s80_model.specs.Replies.{work_after_all, replies}
 use Rattle.s80_session.specs.Run.{shown}
+use Rattle.s80_session.specs.Session.{last_run_of, troubled_of}
 use Rattle.s80_session.proofs.Finishing.{ends_clean, ends_unended, unended_whole}
 use Rattle.s80_session.proofs.Lasting.{keeps_on, answers_last, start_keeps, nothing_happens, unended_lasts}
 use Rattle.s80_session.proofs.Taking.{breaks, broke_at_start, starts_working}
@@ -11,13 +12,13 @@ use Rattle.s80_session.proofs.session.Session.run_items.Goals as goal
 pub returns-in_err-reader-clause-ran : goal.returns-in_err-reader-clause-ran
 returns-in_err-reader-clause-ran g c = λ work input before left_is calm at.
     let p = err_from_is_err_and c.from_residual.result c.from_residual.ensures.1 in
-    rw (p.1, p.2) (broke_at_start (g.O.Disk.may_leave c.args.outside.now) _ _ work input before at)
+    rw (p.1, p.2) (inl (broke_at_start (g.O.Disk.may_leave c.args.outside.now) _ _ work input before at))
 
 pub returns-in_err-answer_items-clause-ran : goal.returns-in_err-answer_items-clause-ran
 returns-in_err-answer_items-clause-ran g c = λ work input before left_is calm at.
     let p = err_from_is_err_and c.from_residual-in_err-answer_items.result c.from_residual-in_err-answer_items.ensures.1 in
     let t = c.in_ok-take_all.ensures.took work input before left_is (starts_working (g.O.Disk.may_leave c.args.outside.now) _ _ _ work before c.in_ok-reader.ensures.read calm at) in
-    rw (p.1, p.2) (breaks (Unit {0}) _ (g.O.Disk.may_leave c.answer_items.new.outside) _ _ c.answer_items.new.reader.ended _ work before input [] input (c.in_err-answer_items.ensures.answered work before input t.given t.working) (sym (append-nil input)) (λ e. refl))
+    rw (p.1, p.2) (breaks (Unit {0}) _ (g.O.Disk.may_leave c.answer_items.new.outside) _ _ c.answer_items.new.reader.ended (troubled_of c.answer_items.new.self) (last_run_of c.answer_items.new.self) work before input [] input (c.in_err-answer_items.ensures.answered work before input t.given t.working) (sym (append-nil input)) (λ e. refl))
 
 pub returns-in-Clean-clause-ran : goal.returns-in-Clean-clause-ran
 returns-in-Clean-clause-ran g c = λ work input before left_is calm at.
@@ -31,7 +32,7 @@ returns-clause-ran g c = λ work input before left_is calm at.
     let a = c.in_ok-answer_items.ensures.answered work before input t.given t.working in
     let list = work_after_all work a.1.asks in
     let put = before ++ replies work a.1.asks in
-    ends_unended c.rest.result c.step.result (g.O.Disk.may_leave c.step.new.outside) _ _ _ work input before a.0 a.1.asks c.in-Unended.field-0 c.in-Unended.is (c.rest.ensures input a.0 a.1.read) a.1.asked a.1.refused (c.step.ensures.stepped list put tt a.1.at) (c.step.ensures.left ∙ c.answer_items.ensures.left ∙ t.left) t.within
+    ends_unended c.rest.result c.step.result (g.O.Disk.may_leave c.step.new.outside) _ _ _ work input before a.0 a.1.asks c.in-Unended.field-0 c.in-Unended.is (c.rest.ensures input a.0 a.1.read) a.1.asked a.1.troubled (c.step.ensures.stepped list put tt a.1.at) (c.step.ensures.left ∙ c.answer_items.ensures.left ∙ t.left) t.within
 
 pub returns-in_err-reader-clause-any_moment : goal.returns-in_err-reader-clause-any_moment
 returns-in_err-reader-clause-any_moment g c = λ work input before left_is calm at.

@@ -1,10 +1,13 @@
-use Rattle.std.proofs.Common.{refl, sym, ap, ◌∙◌}
+use Rattle.std.proofs.Common.{inl, true, sym, ap, ◌∙◌, ◌||◌}
 use Rattle.std.proofs.lemmas.Result.{err_from_is_err_and}
-use Rattle.s80_model.specs.Replies.{reply_text, work_after, reply_to, is_refused}
+use Rattle.s80_model.specs.Replies.{reply_text, work_after, reply_to, is_trouble}
+use Rattle.s80_session.specs.declared.session.Session.{Session}
 use Rattle.s80_session.specs.Run.{shown}
+use Rattle.s80_session.specs.Session.{troubled_of}
+use Rattle.s80_session.specs.Working.{staying}
 use Rattle.s80_session.proofs.Keeping.{keeps_leaves}
 use Rattle.s80_session.proofs.Lasting.{step_lasts, work_lasts}
-use Rattle.s80_session.proofs.Stepping.{worked_err, refused_is_at, entered, answered, silent, still_troubled, now_troubled}
+use Rattle.s80_session.proofs.Stepping.{worked_err, refused_is_at, at_calm, entered, answered, silent, still_troubled, now_troubled, troubled_so}
 use Rattle.s80_session.proofs.session.Session.step.Goals as goal
 
 pub returns-in_err-reply-clause-stepped : goal.returns-in_err-reply-clause-stepped
@@ -21,7 +24,7 @@ returns-in_err-line-in-Refused-clause-stepped g c = λ work put readable at.
     let p = err_from_is_err_and c.from_residual-in_err-line-in-Refused.result c.from_residual-in_err-line-in-Refused.ensures.1 in
     let w = c.in_ok-reply.ensures.worked work put readable at in
     let r = w.2.0 in
-    rw (p.1, p.2) (refused_is_at (g.O.Disk.may_leave c.work.new.outside) _ _ work put w.0 c.in-Refused.refusal (sym r ∙ c.in-Refused.is) w.3)
+    rw (p.1, p.2) (inl (refused_is_at (g.O.Disk.may_leave c.work.new.outside) _ _ work put w.0 c.in-Refused.refusal (sym r ∙ c.in-Refused.is) w.3))
 
 pub returns-in_err-line-in-Refused-clause-any_moment : goal.returns-in_err-line-in-Refused-clause-any_moment
 returns-in_err-line-in-Refused-clause-any_moment g c = λ work put readable at.
@@ -32,8 +35,8 @@ returns-in-Silent-clause-stepped g c = λ work put readable at.
     let w = c.in_ok-reply.ensures.worked work put readable at in
     let r = w.2.0 in
     let is = sym r ∙ c.in-Silent.is in
-    let is_at = entered (g.O.Disk.may_leave c.work.new.outside) (shown g.O.Disk.tells g.O.Disk.reads g.O.Source.left g.O.Sink.taken g.O.Sink.told c.work.new.outside) c.work.new.self _ work put w.0 c.in_ok-reply.field-0 w.2 c.enter.ensures.section c.enter.ensures.rest.0 w.3 in
-    (w.0, w.1, still_troubled _ _ (reply_to work w.0) (ap is_refused is) (c.enter.ensures.rest.1 ∙ c.work.ensures.troubled), silent (g.O.Disk.may_leave c.work.new.outside) _ _ (work_after work w.0) put (reply_to work w.0) is is_at)
+    let is_at = entered (g.O.Disk.may_leave c.work.new.outside) (shown g.O.Disk.tells g.O.Disk.reads g.O.Source.left g.O.Sink.taken g.O.Sink.told c.work.new.outside) c.work.new.self _ work put w.0 c.in_ok-reply.field-0 w.2 c.enter.ensures.section c.enter.ensures.rest w.3 in
+    (w.0, w.1, still_troubled _ _ (reply_to work w.0) (ap is_trouble is) (ap troubled_of c.enter.ensures.rest ∙ c.work.ensures.troubled), silent (g.O.Disk.may_leave c.work.new.outside) _ _ (work_after work w.0) put (reply_to work w.0) is is_at)
 
 pub returns-in-Silent-clause-any_moment : goal.returns-in-Silent-clause-any_moment
 returns-in-Silent-clause-any_moment g c = λ work put readable at.
@@ -43,8 +46,8 @@ pub returns-in-Accepted-clause-stepped : goal.returns-in-Accepted-clause-stepped
 returns-in-Accepted-clause-stepped g c = λ work put readable at.
     let w = c.in_ok-reply.ensures.worked work put readable at in
     let r = w.2.0 in
-    let is_at = entered (g.O.Disk.may_leave c.work.new.outside) (shown g.O.Disk.tells g.O.Disk.reads g.O.Source.left g.O.Sink.taken g.O.Sink.told c.work.new.outside) c.work.new.self _ work put w.0 c.in_ok-reply.field-0 w.2 c.enter-in-Accepted.ensures.section c.enter-in-Accepted.ensures.rest.0 w.3 in
-    answered c.answer.result (g.O.Disk.may_leave c.work.new.outside) (g.O.Disk.may_leave c.answer.new.outside) (shown g.O.Disk.tells g.O.Disk.reads g.O.Source.left g.O.Sink.taken g.O.Sink.told c.work.new.outside) (shown g.O.Disk.tells g.O.Disk.reads g.O.Source.left g.O.Sink.taken g.O.Sink.told c.answer.new.outside) _ _ work put _ c.args.item w.0 w.1 is_at (ap reply_text (sym c.in-Accepted.is ∙ r)) (still_troubled _ _ (reply_to work w.0) (ap is_refused (sym r ∙ c.in-Accepted.is)) (c.enter-in-Accepted.ensures.rest.1 ∙ c.work.ensures.troubled)) (c.answer.ensures.put put w.3.taken w.3.told) c.answer.ensures.images c.answer.ensures.shown
+    let is_at = entered (g.O.Disk.may_leave c.work.new.outside) (shown g.O.Disk.tells g.O.Disk.reads g.O.Source.left g.O.Sink.taken g.O.Sink.told c.work.new.outside) c.work.new.self _ work put w.0 c.in_ok-reply.field-0 w.2 c.enter-in-Accepted.ensures.section c.enter-in-Accepted.ensures.rest w.3 in
+    answered c.answer.result (g.O.Disk.may_leave c.work.new.outside) (g.O.Disk.may_leave c.answer.new.outside) (shown g.O.Disk.tells g.O.Disk.reads g.O.Source.left g.O.Sink.taken g.O.Sink.told c.work.new.outside) (shown g.O.Disk.tells g.O.Disk.reads g.O.Source.left g.O.Sink.taken g.O.Sink.told c.answer.new.outside) _ _ work put _ c.args.item w.0 w.1 is_at (ap reply_text (sym c.in-Accepted.is ∙ r)) (still_troubled _ _ (reply_to work w.0) (ap is_trouble (sym r ∙ c.in-Accepted.is)) (ap troubled_of c.enter-in-Accepted.ensures.rest ∙ c.work.ensures.troubled)) (c.answer.ensures.put put w.3.taken w.3.told) c.answer.ensures.images c.answer.ensures.shown
 
 pub returns-in-Accepted-clause-any_moment : goal.returns-in-Accepted-clause-any_moment
 returns-in-Accepted-clause-any_moment g c = λ work put readable at.
@@ -56,8 +59,9 @@ pub returns-in_ok-line-in-Refused-clause-stepped : goal.returns-in_ok-line-in-Re
 returns-in_ok-line-in-Refused-clause-stepped g c = λ work put readable at.
     let w = c.in_ok-reply.ensures.worked work put readable at in
     let r = w.2.0 in
-    let is_at = entered (g.O.Disk.may_leave c.work.new.outside) (shown g.O.Disk.tells g.O.Disk.reads g.O.Source.left g.O.Sink.taken g.O.Sink.told c.work.new.outside) c.work.new.self _ work put w.0 c.in_ok-reply.field-0 w.2 c.enter-in-Refused.ensures.section c.enter-in-Refused.ensures.rest.0 w.3 in
-    answered c.answer-in-Refused.result (g.O.Disk.may_leave c.work.new.outside) (g.O.Disk.may_leave c.answer-in-Refused.new.outside) (shown g.O.Disk.tells g.O.Disk.reads g.O.Source.left g.O.Sink.taken g.O.Sink.told c.work.new.outside) (shown g.O.Disk.tells g.O.Disk.reads g.O.Source.left g.O.Sink.taken g.O.Sink.told c.answer-in-Refused.new.outside) _ _ work put _ c.args.item w.0 w.1 is_at (c.bytes.ensures ∙ c.in_ok-line-in-Refused.ensures ∙ ap reply_text (sym c.in-Refused.is ∙ r)) (now_troubled _ _ (reply_to work w.0) (ap is_refused (sym r ∙ c.in-Refused.is)) c.enter-in-Refused.ensures.rest.1) (c.answer-in-Refused.ensures.put put w.3.taken w.3.told) c.answer-in-Refused.ensures.images c.answer-in-Refused.ensures.shown
+    let mid : Session = record c.work.new.self { troubled = true } in
+    let is_at = entered (g.O.Disk.may_leave c.work.new.outside) (shown g.O.Disk.tells g.O.Disk.reads g.O.Source.left g.O.Sink.taken g.O.Sink.told c.work.new.outside) mid _ work put w.0 c.in_ok-reply.field-0 w.2 c.enter-in-Refused.ensures.section c.enter-in-Refused.ensures.rest (at_calm (g.O.Disk.may_leave c.work.new.outside) (shown g.O.Disk.tells g.O.Disk.reads g.O.Source.left g.O.Sink.taken g.O.Sink.told c.work.new.outside) c.work.new.self (staying work w.0) put true w.3) in
+    answered c.answer-in-Refused.result (g.O.Disk.may_leave c.work.new.outside) (g.O.Disk.may_leave c.answer-in-Refused.new.outside) (shown g.O.Disk.tells g.O.Disk.reads g.O.Source.left g.O.Sink.taken g.O.Sink.told c.work.new.outside) (shown g.O.Disk.tells g.O.Disk.reads g.O.Source.left g.O.Sink.taken g.O.Sink.told c.answer-in-Refused.new.outside) _ _ work put _ c.args.item w.0 w.1 is_at (c.bytes.ensures ∙ c.in_ok-line-in-Refused.ensures ∙ ap reply_text (sym c.in-Refused.is ∙ r)) (now_troubled _ _ (reply_to work w.0) (ap is_trouble (sym r ∙ c.in-Refused.is)) (ap troubled_of c.enter-in-Refused.ensures.rest)) (c.answer-in-Refused.ensures.put put w.3.taken w.3.told) c.answer-in-Refused.ensures.images c.answer-in-Refused.ensures.shown
 
 pub returns-in_ok-line-in-Refused-clause-any_moment : goal.returns-in_ok-line-in-Refused-clause-any_moment
 returns-in_ok-line-in-Refused-clause-any_moment g c = λ work put readable at.
@@ -65,12 +69,28 @@ returns-in_ok-line-in-Refused-clause-any_moment g c = λ work put readable at.
     let r = w.2.0 in
     step_lasts g.O.Disk.moment g.O.Disk.left_since _ _ _ work put _ c.args.item w.0 w.1 (c.bytes.ensures ∙ c.in_ok-line-in-Refused.ensures ∙ ap reply_text (sym c.in-Refused.is ∙ r)) (c.work.ensures.any_moment work put readable at) (c.answer-in-Refused.ensures.any_moment (work_after work w.0).changes put (keeps_leaves _ _ _ _ _ w.3.keeps) w.3.told)
 
+pub returns-in-Evaluated-clause-stepped : goal.returns-in-Evaluated-clause-stepped
+returns-in-Evaluated-clause-stepped g c = λ work put readable at.
+    let w = c.in_ok-reply.ensures.worked work put readable at in
+    let r = w.2.0 in
+    let stopped = c.in-Evaluated.stopped in
+    let troubled = c.work.new.self.troubled || stopped in
+    let mid : Session = record c.work.new.self { troubled = troubled } in
+    let is_at = entered (g.O.Disk.may_leave c.work.new.outside) (shown g.O.Disk.tells g.O.Disk.reads g.O.Source.left g.O.Sink.taken g.O.Sink.told c.work.new.outside) mid _ work put w.0 c.in_ok-reply.field-0 w.2 c.enter-in-Evaluated.ensures.section c.enter-in-Evaluated.ensures.rest (at_calm (g.O.Disk.may_leave c.work.new.outside) (shown g.O.Disk.tells g.O.Disk.reads g.O.Source.left g.O.Sink.taken g.O.Sink.told c.work.new.outside) c.work.new.self (staying work w.0) put troubled w.3) in
+    answered c.answer-in-Evaluated.result (g.O.Disk.may_leave c.work.new.outside) (g.O.Disk.may_leave c.answer-in-Evaluated.new.outside) (shown g.O.Disk.tells g.O.Disk.reads g.O.Source.left g.O.Sink.taken g.O.Sink.told c.work.new.outside) (shown g.O.Disk.tells g.O.Disk.reads g.O.Source.left g.O.Sink.taken g.O.Sink.told c.answer-in-Evaluated.new.outside) _ _ work put _ c.args.item w.0 w.1 is_at (c.bytes-in-Evaluated.ensures ∙ ap reply_text (sym c.in-Evaluated.is ∙ r)) (troubled_so _ _ stopped (reply_to work w.0) (ap is_trouble (sym r ∙ c.in-Evaluated.is)) (ap troubled_of c.enter-in-Evaluated.ensures.rest ∙ ap (λ b. b || stopped) c.work.ensures.troubled)) (c.answer-in-Evaluated.ensures.put put w.3.taken w.3.told) c.answer-in-Evaluated.ensures.images c.answer-in-Evaluated.ensures.shown
+
+pub returns-in-Evaluated-clause-any_moment : goal.returns-in-Evaluated-clause-any_moment
+returns-in-Evaluated-clause-any_moment g c = λ work put readable at.
+    let w = c.in_ok-reply.ensures.worked work put readable at in
+    let r = w.2.0 in
+    step_lasts g.O.Disk.moment g.O.Disk.left_since _ _ _ work put _ c.args.item w.0 w.1 (c.bytes-in-Evaluated.ensures ∙ ap reply_text (sym c.in-Evaluated.is ∙ r)) (c.work.ensures.any_moment work put readable at) (c.answer-in-Evaluated.ensures.any_moment (work_after work w.0).changes put (keeps_leaves _ _ _ _ _ w.3.keeps) w.3.told)
+
 pub returns-in-Told-clause-stepped : goal.returns-in-Told-clause-stepped
 returns-in-Told-clause-stepped g c = λ work put readable at.
     let w = c.in_ok-reply.ensures.worked work put readable at in
     let r = w.2.0 in
-    let is_at = entered (g.O.Disk.may_leave c.work.new.outside) (shown g.O.Disk.tells g.O.Disk.reads g.O.Source.left g.O.Sink.taken g.O.Sink.told c.work.new.outside) c.work.new.self _ work put w.0 c.in_ok-reply.field-0 w.2 c.enter-in-Told.ensures.section c.enter-in-Told.ensures.rest.0 w.3 in
-    answered c.answer-in-Told.result (g.O.Disk.may_leave c.work.new.outside) (g.O.Disk.may_leave c.answer-in-Told.new.outside) (shown g.O.Disk.tells g.O.Disk.reads g.O.Source.left g.O.Sink.taken g.O.Sink.told c.work.new.outside) (shown g.O.Disk.tells g.O.Disk.reads g.O.Source.left g.O.Sink.taken g.O.Sink.told c.answer-in-Told.new.outside) _ _ work put _ c.args.item w.0 w.1 is_at (c.bytes-in-Told.ensures ∙ ap reply_text (sym c.in-Told.is ∙ r)) (still_troubled _ _ (reply_to work w.0) (ap is_refused (sym r ∙ c.in-Told.is)) (c.enter-in-Told.ensures.rest.1 ∙ c.work.ensures.troubled)) (c.answer-in-Told.ensures.put put w.3.taken w.3.told) c.answer-in-Told.ensures.images c.answer-in-Told.ensures.shown
+    let is_at = entered (g.O.Disk.may_leave c.work.new.outside) (shown g.O.Disk.tells g.O.Disk.reads g.O.Source.left g.O.Sink.taken g.O.Sink.told c.work.new.outside) c.work.new.self _ work put w.0 c.in_ok-reply.field-0 w.2 c.enter-in-Told.ensures.section c.enter-in-Told.ensures.rest w.3 in
+    answered c.answer-in-Told.result (g.O.Disk.may_leave c.work.new.outside) (g.O.Disk.may_leave c.answer-in-Told.new.outside) (shown g.O.Disk.tells g.O.Disk.reads g.O.Source.left g.O.Sink.taken g.O.Sink.told c.work.new.outside) (shown g.O.Disk.tells g.O.Disk.reads g.O.Source.left g.O.Sink.taken g.O.Sink.told c.answer-in-Told.new.outside) _ _ work put _ c.args.item w.0 w.1 is_at (c.bytes-in-Told.ensures ∙ ap reply_text (sym c.in-Told.is ∙ r)) (still_troubled _ _ (reply_to work w.0) (ap is_trouble (sym r ∙ c.in-Told.is)) (ap troubled_of c.enter-in-Told.ensures.rest ∙ c.work.ensures.troubled)) (c.answer-in-Told.ensures.put put w.3.taken w.3.told) c.answer-in-Told.ensures.images c.answer-in-Told.ensures.shown
 
 pub returns-in-Told-clause-any_moment : goal.returns-in-Told-clause-any_moment
 returns-in-Told-clause-any_moment g c = λ work put readable at.

@@ -1,6 +1,8 @@
-use Rattle.std.proofs.Common.{◌≡◌, ◌++◌, ◌∷◌, [], ℕ, List, Option, Some, None, Result, Ok, Err, length, refl, ap, sym, subst, ◌∙◌, arith}
+use Rattle.std.specs.Prelude.{IfErr}
+use Rattle.std.proofs.Common.{◌≡◌, inl, ◌++◌, ◌∷◌, [], ℕ, List, Option, Some, None, Result, Ok, Err, length, refl, ap, sym, subst, ◌∙◌, arith}
 use Rattle.std.proofs.lemmas.Result.{err_from_is_err_and}
 use Rattle.std.specs.FinMap as map
+use Rattle.s80_change.specs.declared.refusal.Refusal.{Refusal}
 use Rattle.s80_class.specs.Classes.{Classes}
 use Rattle.s80_class.specs.Table.{IsNumberOf}
 use Rattle.s80_disk.specs.Moments.{LeavesOnly}
@@ -8,6 +10,7 @@ use Rattle.s80_keeper.specs.declared.keep.KeepFault.{KeepFault}
 use Rattle.s80_keeper.specs.Keeper.{KeeperState}
 use Rattle.s80_keeper.specs.Source.{IsThis, after_reading}
 use Rattle.s80_model.specs.declared.item.Query.TheVariants.{Source}
+use Rattle.s80_model.specs.declared.item.SessionItem.{SessionItem}
 use Rattle.s80_model.specs.declared.item.SessionItem.TheVariants.{Query}
 use Rattle.s80_model.specs.declared.reply.Reply.{Reply}
 use Rattle.s80_model.specs.declared.reply.Reply.TheVariants as replies
@@ -17,12 +20,12 @@ use Rattle.s80_state.specs.List.{state_of}
 use Rattle.s80_state.specs.System.{SystemState}
 use Rattle.s80_session.specs.declared.end.SessionEnd.{SessionEnd}
 use Rattle.s80_session.specs.declared.session.Session.{Session}
-use Rattle.s80_session.specs.Ending.{Faults, NoFewer, SourceCounts, faults}
+use Rattle.s80_session.specs.Ending.{EndsForReasonOrDamage, Faults, NoFewer, faults}
 use Rattle.s80_session.specs.Run.{HasKept, shown}
-use Rattle.s80_session.specs.Working.{IsAt, Replied}
+use Rattle.s80_session.specs.Working.{IsAt, Replied, Unreplied}
 use Rattle.s80_session.proofs.Keeping.{keeps_knows}
 use Rattle.s80_session.proofs.Lasting.{nothing_happens, quiet_last}
-use Rattle.s80_session.proofs.Reading.{at_read, fault_replied, read_counts}
+use Rattle.s80_session.proofs.Reading.{at_read, fault_unread, read_reason, unread_ends}
 use Rattle.s80_session.proofs.Stepping.{replied_told}
 use Rattle.s80_session.proofs.Telling.{source_is_told}
 use Rattle.s80_session.proofs.session.Session.tell_source.Goals as goal
@@ -84,24 +87,37 @@ pub returns-in_err-append-in-Ok-Some-clause-replied : goal.returns-in_err-append
 returns-in_err-append-in-Ok-Some-clause-replied g c = λ work put at.
     let after = (goal.at.returns-in_err-append-in-Ok-Some-clause-replied g c).After-read_source in
     let p = err_from_is_err_and c.from_residual-in_err-append-in-Ok-Some.result c.from_residual-in_err-append-in-Ok-Some.ensures.1 in
-    rw (p.1, p.2) (still g after work put at (Some c.in-Ok-Some.source) (c.in-Ok-Some.is ∙ ap Ok c.in-Ok-Some.field-0-is))
+    rw (p.1, p.2) (inl (still g after work put at (Some c.in-Ok-Some.source) (c.in-Ok-Some.is ∙ ap Ok c.in-Ok-Some.field-0-is)))
 
 pub returns-in-Ok-None-clause-replied : goal.returns-in-Ok-None-clause-replied
 returns-in-Ok-None-clause-replied g c = λ work put at.
     let after = (goal.at.returns-in-Ok-None-clause-replied g c).After-read_source in
     is_told g after work put at None _ (c.in-Ok-None.is ∙ ap Ok c.in-Ok-None.field-0-is) refl
 
+-- no fault is answered
 pub returns-clause-replied : goal.returns-clause-replied
 returns-clause-replied g c = λ work put at.
     let after = (goal.at.returns-clause-replied g c).After-read_source in
+    let Q : Result (Option (List ℕ)) KeepFault → Type 0 = λ r. IsThis (source_in (state_of work.changes) c.in-Some.name c.in-Some.side c.args.selector) r in
+    absurd (unread_ends c.in-Err.fault (source_in (state_of work.changes) c.in-Some.name c.in-Some.side c.args.selector) c.in_ok-refusal_at_fault-in-Err.field-0 (subst Q c.in-Err.is (this g after work put at)) (sym c.in_ok-refusal_at_fault-in-Err.ensures))
+
+pub returns-in_err-refusal_at_fault-in-Err-clause-replied : goal.returns-in_err-refusal_at_fault-in-Err-clause-replied
+returns-in_err-refusal_at_fault-in-Err-clause-replied g c = λ work put at.
+    let after = (goal.at.returns-in_err-refusal_at_fault-in-Err-clause-replied g c).After-read_source in
     let new = c.read_source.new.outside in
     let now : Session = record c.args.self.now { keeper = c.read_source.new.keeper } in
-    let P : Result Reply SessionEnd → Type 0 = λ r. Replied r (g.O.Disk.may_leave new) (shown g.O.Disk.tells g.O.Disk.reads g.O.Source.left g.O.Sink.taken g.O.Sink.told new) now work put (Query (Source c.args.spec c.args.selector)) in
+    let item : SessionItem = Query (Source c.args.spec c.args.selector) in
+    let P : Result Refusal SessionEnd → Type 0 = λ r. IfErr r (λ end. Unreplied end (g.O.Disk.may_leave new) (shown g.O.Disk.tells g.O.Disk.reads g.O.Source.left g.O.Sink.taken g.O.Sink.told new) now work put item) in
     let Q : Result (Option (List ℕ)) KeepFault → Type 0 = λ r. IsThis (source_in (state_of work.changes) c.in-Some.name c.in-Some.side c.args.selector) r in
-    subst P (sym c.reply_to_fault.ensures) (fault_replied c.in-Err.fault (source_in (state_of work.changes) c.in-Some.name c.in-Some.side c.args.selector) (g.O.Disk.may_leave c.args.outside.now) (g.O.Disk.may_leave new) (shown g.O.Disk.tells g.O.Disk.reads g.O.Source.left g.O.Sink.taken g.O.Sink.told c.args.outside.now) (shown g.O.Disk.tells g.O.Disk.reads g.O.Source.left g.O.Sink.taken g.O.Sink.told new) c.args.self.now now work put (Query (Source c.args.spec c.args.selector)) (subst Q c.in-Err.is (this g after work put at)) (c.read_source.ensures.after ∙ ap (λ r. after_reading r c.args.self.now.keeper) c.in-Err.is) refl c.read_source.ensures.images c.read_source.ensures.same c.read_source.ensures.shown at)
+    let ends = subst P (sym c.in_err-refusal_at_fault-in-Err.ensures) (fault_unread c.in-Err.fault (source_in (state_of work.changes) c.in-Some.name c.in-Some.side c.args.selector) (g.O.Disk.may_leave c.args.outside.now) (g.O.Disk.may_leave new) (shown g.O.Disk.tells g.O.Disk.reads g.O.Source.left g.O.Sink.taken g.O.Sink.told c.args.outside.now) (shown g.O.Disk.tells g.O.Disk.reads g.O.Source.left g.O.Sink.taken g.O.Sink.told new) c.args.self.now now work put item (subst Q c.in-Err.is (this g after work put at)) (c.read_source.ensures.after ∙ ap (λ r. after_reading r c.args.self.now.keeper) c.in-Err.is) refl c.read_source.ensures.images c.read_source.ensures.same c.read_source.ensures.shown at) in
+    let p = err_from_is_err_and c.from_residual-in_err-refusal_at_fault-in-Err.result c.from_residual-in_err-refusal_at_fault-in-Err.ensures.1 in
+    rw (p.1, p.2) ends
 
-pub returns-clause-counts : goal.returns-clause-counts
-returns-clause-counts g c =
+pub returns-in_err-refusal_at_fault-in-Err-clause-any_moment : goal.returns-in_err-refusal_at_fault-in-Err-clause-any_moment
+returns-in_err-refusal_at_fault-in-Err-clause-any_moment g c = run g (goal.at.returns-in_err-refusal_at_fault-in-Err-clause-any_moment g c).After-read_source
+
+pub returns-in_err-refusal_at_fault-in-Err-clause-counts : goal.returns-in_err-refusal_at_fault-in-Err-clause-counts
+returns-in_err-refusal_at_fault-in-Err-clause-counts g c =
     let counts = c.read_source.ensures.faults in
     let old = faults g.O.Source.read_faults g.O.Sink.write_faults g.O.Disk.disk_faults c.args.outside.now in
     let new = faults g.O.Source.read_faults g.O.Sink.write_faults g.O.Disk.disk_faults c.read_source.new.outside in
@@ -110,5 +126,7 @@ returns-clause-counts g c =
       write = let e = ap (λ (f : Faults). f.write) counts in omega (arith, e);
       disk = c.read_source.ensures.later;
     } in
-    let P : Result Reply SessionEnd → Type 0 = λ r. SourceCounts old new r in
-    subst P (sym c.reply_to_fault.ensures) (read_counts c.read_source.result c.args.self.now.keeper c.in-Err.fault old new c.in-Err.is later c.read_source.ensures.cause c.read_source.ensures.closed c.requires.faultless)
+    let P : Result Refusal SessionEnd → Type 0 = λ r. IfErr r (λ end. EndsForReasonOrDamage {T = Reply} old new (Err end)) in
+    let reason = subst P (sym c.in_err-refusal_at_fault-in-Err.ensures) (read_reason Reply c.read_source.result c.args.self.now.keeper c.in-Err.fault old new c.in-Err.is c.read_source.ensures.cause c.read_source.ensures.closed c.requires.faultless) in
+    let p = err_from_is_err_and c.from_residual-in_err-refusal_at_fault-in-Err.result c.from_residual-in_err-refusal_at_fault-in-Err.ensures.1 in
+    rw (p.1, p.2) (record { later = later; reason = reason })

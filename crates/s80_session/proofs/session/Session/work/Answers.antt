@@ -27,14 +27,16 @@ returns-in_err-tell-in-Query-clause-any_moment g c = λ work put readable at.
 pub returns-in_ok-keep_text-in-Chunk-Plain-clause-worked : goal.returns-in_ok-keep_text-in-Chunk-Plain-clause-worked
 returns-in_ok-keep_text-in-Chunk-Plain-clause-worked g c = λ work put readable at.
     let is = c.in-Chunk-Plain.is ∙ ap Chunk c.in-Chunk-Plain.field-0-is in
+    let sound = subst IsReadable is readable in
     let P : SessionItem → Type 0 = λ i. Worked (Ok c.staying.result) (g.O.Disk.may_leave c.keep_text.new.outside) (shown g.O.Disk.tells g.O.Disk.reads g.O.Source.left g.O.Sink.taken g.O.Sink.told c.keep_text.new.outside) c.keep_text.new.self work put i in
-    subst P (sym is) (worked_plain (g.O.Disk.may_leave c.keep_text.new.outside) (shown g.O.Disk.tells g.O.Disk.reads g.O.Source.left g.O.Sink.taken g.O.Sink.told c.keep_text.new.outside) _ work put c.in-Chunk-Plain.text _ c.staying.result c.staying.ensures (c.in_ok-keep_text-in-Chunk-Plain.ensures.replied work put (subst IsReadable is readable) at))
+    subst P (sym is) (worked_plain (g.O.Disk.may_leave c.keep_text.new.outside) (shown g.O.Disk.tells g.O.Disk.reads g.O.Source.left g.O.Sink.taken g.O.Sink.told c.keep_text.new.outside) _ work put c.in-Chunk-Plain.text _ c.staying.result c.staying.ensures (c.in_ok-keep_text-in-Chunk-Plain.ensures.replied work put sound.0 sound.1 at))
 
 pub returns-in_ok-keep_text-in-Chunk-Plain-clause-any_moment : goal.returns-in_ok-keep_text-in-Chunk-Plain-clause-any_moment
 returns-in_ok-keep_text-in-Chunk-Plain-clause-any_moment g c = λ work put readable at.
     let is = c.in-Chunk-Plain.is ∙ ap Chunk c.in-Chunk-Plain.field-0-is in
+    let sound = subst IsReadable is readable in
     let P : SessionItem → Type 0 = λ i. LeavesOnly g.O.Disk.moment g.O.Disk.left_since c.args.outside.now c.keep_text.new.outside (WorkLeaves work put i) in
-    subst P (sym is) (c.keep_text.ensures.any_moment work put (subst IsReadable is readable) at)
+    subst P (sym is) (c.keep_text.ensures.any_moment work put sound.0 sound.1 at)
 
 pub returns-in_ok-head_answer-in-Chunk-Head-clause-worked : goal.returns-in_ok-head_answer-in-Chunk-Head-clause-worked
 returns-in_ok-head_answer-in-Chunk-Head-clause-worked g c = λ work put readable at.
@@ -65,7 +67,7 @@ pub returns-in-Chunk-SectionEnd-clause-worked : goal.returns-in-Chunk-SectionEnd
 returns-in-Chunk-SectionEnd-clause-worked g c = λ work put readable at.
     let is = c.in-Chunk-SectionEnd.is ∙ ap Chunk c.in-Chunk-SectionEnd.field-0-is in
     let P : SessionItem → Type 0 = λ i. Worked (Ok (record { reply = Silent; section = Some Top })) (g.O.Disk.may_leave c.args.outside.now) (shown g.O.Disk.tells g.O.Disk.reads g.O.Source.left g.O.Sink.taken g.O.Sink.told c.args.outside.now) c.args.self.now work put i in
-    subst P (sym is) (worked_so (g.O.Disk.may_leave c.args.outside.now) (shown g.O.Disk.tells g.O.Disk.reads g.O.Source.left g.O.Sink.taken g.O.Sink.told c.args.outside.now) _ work put (Chunk items.SectionEnd) closes (record { reply = Silent; section = Some Top }) refl (refl, refl) refl at)
+    subst P (sym is) (worked_so (g.O.Disk.may_leave c.args.outside.now) (shown g.O.Disk.tells g.O.Disk.reads g.O.Source.left g.O.Sink.taken g.O.Sink.told c.args.outside.now) _ work put (Chunk items.SectionEnd) closes (record { reply = Silent; section = Some Top }) (refl, tt) (refl, refl) refl at)
 
 pub returns-in-Chunk-SectionEnd-clause-any_moment : goal.returns-in-Chunk-SectionEnd-clause-any_moment
 returns-in-Chunk-SectionEnd-clause-any_moment g c = λ work put readable at.
@@ -85,7 +87,7 @@ pub returns-in-Unended-clause-worked : goal.returns-in-Unended-clause-worked
 returns-in-Unended-clause-worked g c = λ work put readable at.
     let is = c.staying-in-Unended.ensures in
     let P : SessionItem → Type 0 = λ i. Worked (Ok c.staying-in-Unended.result) (g.O.Disk.may_leave c.args.outside.now) (shown g.O.Disk.tells g.O.Disk.reads g.O.Source.left g.O.Sink.taken g.O.Sink.told c.args.outside.now) c.args.self.now work put i in
-    subst P (sym c.in-Unended.is) (worked_so (g.O.Disk.may_leave c.args.outside.now) (shown g.O.Disk.tells g.O.Disk.reads g.O.Source.left g.O.Sink.taken g.O.Sink.told c.args.outside.now) _ work put Unended (refuses refusals.Unended) c.staying-in-Unended.result refl (ap (λ (a : Answer). a.reply) is, ap (λ (a : Answer). section_or a.section work.section) is) refl at)
+    subst P (sym c.in-Unended.is) (worked_so (g.O.Disk.may_leave c.args.outside.now) (shown g.O.Disk.tells g.O.Disk.reads g.O.Source.left g.O.Sink.taken g.O.Sink.told c.args.outside.now) _ work put Unended (refuses refusals.Unended) c.staying-in-Unended.result (refl, tt) (ap (λ (a : Answer). a.reply) is, ap (λ (a : Answer). section_or a.section work.section) is) refl at)
 
 pub returns-in-Unended-clause-any_moment : goal.returns-in-Unended-clause-any_moment
 returns-in-Unended-clause-any_moment g c = λ work put readable at.

@@ -1,9 +1,9 @@
-use Rattle.std.proofs.Common.{inl, sym, ◌∙◌, subst}
+use Rattle.std.proofs.Common.{inl, refl, sym, ◌∙◌, subst}
 use Rattle.s80_tree.specs.Tree.{doit_of}
 use Rattle.s80_change.specs.declared.form.Recognised.{Recognised}
 use Rattle.s80_change.specs.Form.{Recognises}
-use Rattle.s80_session.proofs.Asking.{doit_asked}
-use Rattle.s80_session.proofs.plain.change_of.Goals as goal
+use Rattle.s80_session.proofs.Asking.{doit_fits}
+use Rattle.s80_session.proofs.plain.plain_of.Goals as goal
 
 pub returns-in-Err : goal.returns-in-Err
 returns-in-Err c = inl (c.in_ok-syntax_refusal-in-Err.ensures.doit c.args.text c.in-Err.ensures.fault)
@@ -11,4 +11,5 @@ returns-in-Err c = inl (c.in_ok-syntax_refusal-in-Err.ensures.doit c.args.text c
 pub returns-in-Evaluate : goal.returns-in-Evaluate
 returns-in-Evaluate c =
     let P : Recognised → Type 0 = λ r. Recognises (doit_of c.in-Ok.tree) r in
-    doit_asked c.args.text (doit_of c.in-Ok.tree) c.in-Ok.ensures.tree (sym c.in_ok-refusal.ensures ∙ c.in_default.is) (subst P c.in-Evaluate.is c.in_ok-recognised.ensures)
+    let is = doit_fits c.args.text (doit_of c.in-Ok.tree) c.in-Ok.ensures.tree (sym c.in_ok-refusal.ensures ∙ c.in_default.is) (subst P c.in-Evaluate.is c.in_ok-recognised.ensures) in
+    (refl, is.0, is.1)
