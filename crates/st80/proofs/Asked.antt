@@ -3,18 +3,19 @@ use Rattle.std.proofs.Common.{◌≡◌, ℕ, List, [], ◌∷◌, Option, Some,
 use Rattle.std.specs.Prelude.{codes, drop, if◌then◌else◌}
 use Rattle.std.specs.Str.{bytes_eq}
 use Rattle.s80_model.specs.declared.item.Query.TheVariants.{Recover, Classes, Browse, Source}
-use Rattle.st80.specs.Command.{Command, Run, Tell, command_word, arguments_of}
+use Rattle.st80.specs.Command.{Command, Run, Do, Tell, command_word, arguments_of}
 use Rattle.st80.specs.Words.{AreOf, Asks}
 
 -- the command of which these are the words, if they are those of one
 abbrev command_from : List (List ℕ) → Option Command
 command_from [] = None
 command_from (word ∷ []) = if bytes_eq word (codes "run") then Some Run else (if bytes_eq word (codes "recover") then Some (Tell Recover) else Some (Tell Classes))
-command_from (word ∷ name ∷ []) = Some (Tell (Browse name))
+command_from (word ∷ name ∷ []) = if bytes_eq word (codes "do") then Some (Do name) else Some (Tell (Browse name))
 command_from (word ∷ spec ∷ selector ∷ rest) = Some (Tell (Source spec selector))
 
 from_words : (command : Command) → command_from (command_word command ∷ arguments_of command) ≡ Some command
 from_words Run = refl
+from_words (Do text) = refl
 from_words (Tell Recover) = refl
 from_words (Tell Classes) = refl
 from_words (Tell (Browse name)) = refl

@@ -1,5 +1,5 @@
 -- The beginning of a command: the folder is chosen, and a session starts.
-use Rattle.std.proofs.Common.{◌≡◌, ◌≢◌, inl, inr, ⊎_elim, ℕ, List, [], length, refl, sym, ap, subst, ◌∙◌, Err, Some, Bool, true, false, take, arith}
+use Rattle.std.proofs.Common.{◌≡◌, ◌≢◌, inl, inr, ⊎_elim, ℕ, List, [], length, refl, sym, ap, subst, ◌∙◌, Err, Option, Some, None, Bool, true, false, take, arith}
 use Rattle.std.specs.Prelude.{◌<◌, ◌==◌, if◌then◌else◌}
 use Rattle.std.proofs.lemmas.List.{append-nil}
 use Rattle.s80_chunk.specs.Chunks.Reads.{stop}
@@ -21,7 +21,7 @@ use Rattle.s80_keeper.specs.Start.{IsDamage}
 use Rattle.s80_session.specs.declared.end.SessionEnd.{SessionEnd}
 use Rattle.s80_session.specs.declared.end.SessionEnd.TheVariants as ends
 use Rattle.s80_session.specs.Putting.{IsAsBefore}
-use Rattle.s80_model.specs.Replies.{begun}
+use Rattle.s80_model.specs.declared.item.SessionItem.{SessionItem}
 use Rattle.s80_session.specs.declared.session.Session.{Session}
 use Rattle.s80_session.specs.Session.{keeper_of}
 use Rattle.s80_session.specs.Run.{Shown, HasKept}
@@ -29,9 +29,9 @@ use Rattle.s80_session.specs.Working.{IsAt, Starts, IsSessionStart}
 use Rattle.s80_session.proofs.Keeping.{keeps_stands}
 use Rattle.s80_session.proofs.Lasting.{keeps_at_start}
 use Rattle.st80.specs.declared.status.Status.TheVariants as status
-use Rattle.st80.specs.Command.{Command, Run, Tell}
+use Rattle.st80.specs.Command.{default_budget}
 use Rattle.st80.specs.Ending.{IsDiskEnd, status_after}
-use Rattle.st80.specs.Leaves.{StartsWith, Leaves, CommandKeeps, TellsDamage}
+use Rattle.st80.specs.Leaves.{StartsWith, LeavesFor, KeepsFor, TellsDamage, beginning}
 
 -- every crash of a disk that stands for a list leaves files that do
 pub stands_leaves : (tells : Bool) (reads : Image) (may_leave : Image → Type 0) (changes : List Change) → StandsFor tells reads may_leave changes → (c : Image) → may_leave c → FilesStandFor c changes
@@ -76,54 +76,54 @@ module _ (old now : Shown) (same : now ≡ old) (was may_leave : Image → Type 
   }
 
 -- the disk fails before the first item
-pub lost_at_start : (command : Command) (end : SessionEnd) (may_leave : Image → Type 0) (now : Shown) (changes : List Change) (input before : List ℕ) → IsDiskEnd end → now.left ≡ Some input → now.taken ≡ Some before → Leaves command (status_after (Err end)) may_leave now changes input before
-lost_at_start Run (ends.Disk failed) may_leave now changes input before is left taken = record {
+pub lost_at_start : (item : Option SessionItem) (end : SessionEnd) (may_leave : Image → Type 0) (now : Shown) (changes : List Change) (input before : List ℕ) → IsDiskEnd end → now.left ≡ Some input → now.taken ≡ Some before → LeavesFor item (status_after (Err end)) may_leave now changes input before
+lost_at_start None (ends.Disk failed) may_leave now changes input before is left taken = record {
   asks = [];
   first = ([], inl ([], input, stop refl refl, refl), tt);
   taken = taken ∙ ap Some (sym (append-nil before));
 }
-lost_at_start (Tell query) (ends.Disk failed) may_leave now changes input before is left taken = (taken, left)
-lost_at_start command ends.Memory may_leave now changes input before is left taken = absurd is
-lost_at_start command (ends.Read failed) may_leave now changes input before is left taken = absurd is
-lost_at_start command (ends.Write failed) may_leave now changes input before is left taken = absurd is
-lost_at_start command (ends.Damaged damage) may_leave now changes input before is left taken = absurd is
-lost_at_start command ends.TooLong may_leave now changes input before is left taken = absurd is
+lost_at_start (Some item) (ends.Disk failed) may_leave now changes input before is left taken = (taken, left)
+lost_at_start item ends.Memory may_leave now changes input before is left taken = absurd is
+lost_at_start item (ends.Read failed) may_leave now changes input before is left taken = absurd is
+lost_at_start item (ends.Write failed) may_leave now changes input before is left taken = absurd is
+lost_at_start item (ends.Damaged damage) may_leave now changes input before is left taken = absurd is
+lost_at_start item ends.TooLong may_leave now changes input before is left taken = absurd is
 
 -- the session doesn't start
-pub no_session : (command : Command) (end : SessionEnd) (may_leave : Image → Type 0) (now : Shown) (changes : List Change) (input before : List ℕ) → Starts (Err end) may_leave now changes before → now.left ≡ Some input → now.taken ≡ Some before → Leaves command (status_after (Err end)) may_leave now changes input before
-no_session Run ends.Memory may_leave now changes input before h left taken = record {
+pub no_session : (item : Option SessionItem) (end : SessionEnd) (may_leave : Image → Type 0) (now : Shown) (changes : List Change) (input before : List ℕ) → Starts (Err end) may_leave now default_budget changes before → now.left ≡ Some input → now.taken ≡ Some before → LeavesFor item (status_after (Err end)) may_leave now changes input before
+no_session None ends.Memory may_leave now changes input before h left taken = inl (record {
   asks = [];
   first = ([], inl ([], input, stop refl refl, refl), tt);
   answered = record { stands = h; taken = taken ∙ ap Some (sym (append-nil before)) };
-}
-no_session (Tell query) ends.Memory may_leave now changes input before h left taken = (record { stands = h; taken = taken ∙ ap Some (sym (append-nil before)) }, left)
-no_session command (ends.Disk failed) may_leave now changes input before h left taken = lost_at_start command (ends.Disk failed) may_leave now changes input before tt left taken
-no_session command (ends.Read failed) may_leave now changes input before h left taken = absurd h
-no_session command (ends.Write failed) may_leave now changes input before h left taken = absurd h
-no_session command (ends.Damaged damage) may_leave now changes input before h left taken = absurd h
-no_session command ends.TooLong may_leave now changes input before h left taken = absurd h
+})
+no_session (Some item) ends.Memory may_leave now changes input before h left taken = (inl (record { stands = h; taken = taken ∙ ap Some (sym (append-nil before)) }), left)
+no_session item (ends.Disk failed) may_leave now changes input before h left taken = lost_at_start item (ends.Disk failed) may_leave now changes input before tt left taken
+no_session item (ends.Read failed) may_leave now changes input before h left taken = absurd h
+no_session item (ends.Write failed) may_leave now changes input before h left taken = absurd h
+no_session item (ends.Damaged damage) may_leave now changes input before h left taken = absurd h
+no_session item ends.TooLong may_leave now changes input before h left taken = absurd h
 
 -- memory is wanting before the first item
-pub no_memory : (command : Command) (may_leave : Image → Type 0) (now : Shown) (session : Session) (changes : List Change) (input before : List ℕ) → IsAt may_leave now session (begun changes) before → now.left ≡ Some input → Leaves command (status_after (Err ends.Memory)) may_leave now changes input before
-no_memory command may_leave now session changes input before at left =
-    no_session command ends.Memory may_leave now changes input before (keeps_stands now.tells now.files may_leave (keeper_of session) changes at.keeps) left at.taken
+pub no_memory : (item : Option SessionItem) (may_leave : Image → Type 0) (now : Shown) (session : Session) (changes : List Change) (input before : List ℕ) → IsAt may_leave now session (beginning changes) before → now.left ≡ Some input → LeavesFor item (status_after (Err ends.Memory)) may_leave now changes input before
+no_memory item may_leave now session changes input before at left =
+    no_session item ends.Memory may_leave now changes input before (keeps_stands now.tells now.files may_leave (keeper_of session) changes at.keeps) left at.taken
 
 -- what is kept before the first item
-pub kept_at_start : (command : Command) (changes : List Change) (input before : List ℕ) (told : ℕ) (c : Image) → HasKept changes (length before) told c → CommandKeeps command changes input before told c
-kept_at_start Run changes input before told c h = keeps_at_start (begun changes) input before told c h
-kept_at_start (Tell query) changes input before told c h = inl h
+pub kept_at_start : (item : Option SessionItem) (changes : List Change) (input before : List ℕ) (told : ℕ) (c : Image) → HasKept changes (length before) told c → KeepsFor item changes input before told c
+kept_at_start None changes input before told c h = keeps_at_start (beginning changes) input before told c h
+kept_at_start (Some item) changes input before told c h = inl h
 
-module _ {D : Type 0} (moment : D → ℕ) (left_since : D → ℕ → ℕ → Image → Type 0) (command : Command) (changes : List Change) (input before : List ℕ) where
+module _ {D : Type 0} (moment : D → ℕ) (left_since : D → ℕ → ℕ → Image → Type 0) (item : Option SessionItem) (changes : List Change) (input before : List ℕ) where
   abbrev P : ℕ → Image → Type 0
-  P = CommandKeeps command changes input before
+  P = KeepsFor item changes input before
 
   -- the folder is chosen
   pub chosen : (tells : Bool) (reads : Image) (may_leave : Image → Type 0) (told : ℕ) (old new : D) → StandsFor tells reads may_leave changes → told ≡ length before → LeavesOnly moment left_since old new (IsAsBefore may_leave told 0) → LeavesOnly moment left_since old new P
-  chosen tells reads may_leave told old new stands is run = weaker moment left_since old new (IsAsBefore may_leave told 0) P run (λ n c h. kept_at_start command changes input before n c (record { no_more = omega (arith, h.no_more, is); files = stands_leaves tells reads may_leave changes stands c h.was }))
+  chosen tells reads may_leave told old new stands is run = weaker moment left_since old new (IsAsBefore may_leave told 0) P run (λ n c h. kept_at_start item changes input before n c (record { no_more = omega (arith, h.no_more, is); files = stands_leaves tells reads may_leave changes stands c h.was }))
 
   -- a session starts
   pub session_begins : (told : ℕ) (old new : D) → told ≡ length before → LeavesOnly moment left_since old new (HasKept changes told) → LeavesOnly moment left_since old new P
-  session_begins told old new is run = weaker moment left_since old new (HasKept changes told) P run (λ n c h. kept_at_start command changes input before n c (record { no_more = omega (arith, h.no_more, is); files = h.files }))
+  session_begins told old new is run = weaker moment left_since old new (HasKept changes told) P run (λ n c h. kept_at_start item changes input before n c (record { no_more = omega (arith, h.no_more, is); files = h.files }))
 
   pub goes_on : (old mid new : D) → LeavesOnly moment left_since old mid P → LeavesOnly moment left_since mid new P → LeavesOnly moment left_since old new P
   goes_on old mid new first second = joined moment left_since old mid new P P first second (λ n c h. h)

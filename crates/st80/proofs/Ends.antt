@@ -1,78 +1,66 @@
 -- The status of work that ended so.
-use Rattle.std.proofs.Common.{◌≡◌, ◌≢◌, inl, inr, ℕ, List, [], ◌∷◌, ◌++◌, refl, sym, ap, subst, ◌∙◌, Result, Ok, Err, Some, Bool, true, false, arith}
+use Rattle.std.proofs.Common.{◌≡◌, ◌≢◌, inl, inr, ℕ, List, [], ◌∷◌, ◌++◌, refl, sym, ap, subst, ◌∙◌, Result, Ok, Err, Option, Some, Bool, true, false, arith}
 use Rattle.std.proofs.lemmas.List.{append-nil}
 use Rattle.std.specs.Prelude.{◌||◌, ◌≤◌, length}
 use Rattle.s80_block.specs.declared.change.Change.{Change}
 use Rattle.s80_base.specs.Causes.{Rose}
 use Rattle.s80_disk.specs.Image.{Image}
-use Rattle.s80_disk.specs.Moments.{LeavesOnly}
-use Rattle.s80_disk.proofs.Run.{weaker}
 use Rattle.s80_session.specs.declared.end.SessionEnd.{SessionEnd}
 use Rattle.s80_session.specs.declared.end.SessionEnd.TheVariants as ends
-use Rattle.s80_model.specs.declared.item.Query.{Query as SessionQuery}
-use Rattle.s80_model.specs.declared.item.SessionItem.TheVariants.{Query}
-use Rattle.s80_model.specs.Asked.{Ask, tells}
+use Rattle.s80_machine.specs.Came.{RanValue}
+use Rattle.s80_model.specs.declared.item.SessionItem.{SessionItem}
+use Rattle.s80_model.specs.declared.item.SessionItem.TheVariants.{Chunk, Unended, Query}
+use Rattle.s80_model.specs.Asked.{Ask, evaluates}
 use Rattle.s80_session.specs.Ending.{Faults, NoFewer, HasReason, EndsForReason, EndsForReasonOrDamage, StartsForReason, Counts, CountsFor, MeetsNoDamage, SourceCounts}
 use Rattle.s80_model.specs.declared.item.Query.TheVariants as queries
-use Rattle.s80_model.specs.Replies.{begun, work_after, reply_text, is_refused}
+use Rattle.s80_model.specs.Replies.{work_after, reply_text, is_trouble}
 use Rattle.s80_session.specs.Session.{keeper_of, troubled_of}
-use Rattle.s80_session.specs.Run.{Shown, Answered, Ends}
-use Rattle.s80_session.specs.Working.{IsAt, Stepped, StepLeaves}
+use Rattle.s80_session.specs.Run.{Shown, Ends}
+use Rattle.s80_session.specs.Working.{IsAt, Stepped}
 use Rattle.s80_session.specs.declared.session.Session.{Session}
 use Rattle.s80_session.proofs.Keeping.{keeps_stands}
 use Rattle.st80.specs.declared.status.Status.TheVariants as status
 use Rattle.st80.specs.Ending.{IsDiskEnd, StatusHasReason, status_after}
-use Rattle.st80.specs.Leaves.{RunLeaves, ItemLeaves, AskLeaves, TellsDamage, first_reply, list_after}
+use Rattle.st80.specs.Leaves.{AsksFirst, IsAnswered, ItemLeaves, RunLeaves, TellsDamage, beginning, first_reply, list_after}
 
 -- a run that came to its end
-pub run_done : {T : Type 0} (done : T) (may_leave : Image → Type 0) (now : Shown) (troubled : Bool) (changes : List Change) (input before : List ℕ) → Ends (Ok done) may_leave now troubled (begun changes) input before → RunLeaves (status_after (Ok troubled)) may_leave now changes input before
-run_done done may_leave now true changes input before h = h
-run_done done may_leave now false changes input before h = h
+pub run_done : {T : Type 0} (done : T) (may_leave : Image → Type 0) (now : Shown) (troubled : Bool) (ran : Option RanValue) (changes : List Change) (input before : List ℕ) → Ends (Ok done) may_leave now troubled ran (beginning changes) input before → RunLeaves (status_after (Ok troubled)) may_leave now changes input before
+run_done done may_leave now true ran changes input before h = (ran, h)
+run_done done may_leave now false ran changes input before h = (ran, h)
 
 -- a run that broke off
-pub run_ended : (T : Type 0) (end : SessionEnd) (may_leave : Image → Type 0) (now : Shown) (troubled : Bool) (changes : List Change) (input before : List ℕ) → Ends {T = T} (Err end) may_leave now troubled (begun changes) input before → RunLeaves (status_after (Err end)) may_leave now changes input before
-run_ended T ends.Memory may_leave now troubled changes input before h = h
-run_ended T (ends.Read failed) may_leave now troubled changes input before h = h
-run_ended T (ends.Write failed) may_leave now troubled changes input before h = h
-run_ended T (ends.Disk failed) may_leave now troubled changes input before h = h
-run_ended T (ends.Damaged damage) may_leave now troubled changes input before h = absurd h
-run_ended T ends.TooLong may_leave now troubled changes input before h = h
+pub run_ended : (T : Type 0) (end : SessionEnd) (may_leave : Image → Type 0) (now : Shown) (troubled : Bool) (ran : Option RanValue) (changes : List Change) (input before : List ℕ) → Ends {T = T} (Err end) may_leave now troubled ran (beginning changes) input before → RunLeaves (status_after (Err end)) may_leave now changes input before
+run_ended T ends.Memory may_leave now troubled ran changes input before h = h
+run_ended T (ends.Read failed) may_leave now troubled ran changes input before h = h
+run_ended T (ends.Write failed) may_leave now troubled ran changes input before h = h
+run_ended T (ends.Disk failed) may_leave now troubled ran changes input before h = h
+run_ended T (ends.Damaged damage) may_leave now troubled ran changes input before h = absurd h
+run_ended T ends.TooLong may_leave now troubled ran changes input before h = h
 
-answered_ask : (may_leave : Image → Type 0) (now : Shown) (session : Session) (changes : List Change) (ask : Ask) (before : List ℕ) → IsAt may_leave now session (work_after (begun changes) ask) (before ++ reply_text (first_reply changes ask)) → Answered may_leave now (begun changes) before (ask ∷ [])
+answered_ask : (may_leave : Image → Type 0) (now : Shown) (session : Session) (changes : List Change) (ask : Ask) (before : List ℕ) → IsAt may_leave now session (work_after (beginning changes) ask) (before ++ reply_text (first_reply changes ask)) → IsAnswered may_leave now changes ask before
 answered_ask may_leave now session changes ask before h = record {
   stands = keeps_stands now.tells now.files may_leave (keeper_of session) (list_after changes ask) h.keeps;
   taken = h.taken ∙ ap (λ (l : List ℕ). Some (before ++ l)) (sym (append-nil (reply_text (first_reply changes ask))));
 }
 
 -- what an item asked was worked and answered
-ask_done : (may_leave : Image → Type 0) (now : Shown) (session : Session) (was troubled : Bool) (changes : List Change) (ask : Ask) (before : List ℕ) → troubled ≡ (was || is_refused (first_reply changes ask)) → IsAt may_leave now session (work_after (begun changes) ask) (before ++ reply_text (first_reply changes ask)) → was ≡ false → ItemLeaves (status_after (Ok troubled)) may_leave now changes ask before
-ask_done may_leave now session was true changes ask before is h calm = (answered_ask may_leave now session changes ask before h, let P : Bool → Type 0 = λ b. true ≡ (b || is_refused (first_reply changes ask)) in sym (subst P calm is))
-ask_done may_leave now session was false changes ask before is h calm = (answered_ask may_leave now session changes ask before h, let P : Bool → Type 0 = λ b. false ≡ (b || is_refused (first_reply changes ask)) in sym (subst P calm is))
+ask_done : (may_leave : Image → Type 0) (now : Shown) (session : Session) (was troubled : Bool) (changes : List Change) (item : SessionItem) (ask : Ask) (before : List ℕ) → AsksFirst changes item ask → troubled ≡ (was || is_trouble (first_reply changes ask)) → IsAt may_leave now session (work_after (beginning changes) ask) (before ++ reply_text (first_reply changes ask)) → was ≡ false → ItemLeaves (status_after (Ok troubled)) may_leave now changes item before
+ask_done may_leave now session was true changes item ask before asked is h calm = (ask, asked, answered_ask may_leave now session changes ask before h, let P : Bool → Type 0 = λ b. true ≡ (b || is_trouble (first_reply changes ask)) in sym (subst P calm is))
+ask_done may_leave now session was false changes item ask before asked is h calm = (ask, asked, answered_ask may_leave now session changes ask before h, let P : Bool → Type 0 = λ b. false ≡ (b || is_trouble (first_reply changes ask)) in sym (subst P calm is))
 
-pub query_done : (may_leave : Image → Type 0) (now : Shown) (session : Session) (was : Bool) (changes : List Change) (query : SessionQuery) (before : List ℕ) → Stepped {T = Unit {0}} (Ok tt) may_leave now session was (begun changes) before (Query query) → was ≡ false → ItemLeaves (status_after (Ok (troubled_of session))) may_leave now changes (tells query) before
-query_done may_leave now session was changes query before h calm =
-    let P : Ask → Type 0 = λ a. ItemLeaves (status_after (Ok (troubled_of session))) may_leave now changes a before in
-    subst P h.1 (ask_done may_leave now session was (troubled_of session) changes h.0 before h.2 h.3 calm)
+pub item_done : (may_leave : Image → Type 0) (now : Shown) (session : Session) (was : Bool) (changes : List Change) (item : SessionItem) (before : List ℕ) → Stepped {T = Unit {0}} (Ok tt) may_leave now session was (beginning changes) before item → was ≡ false → ItemLeaves (status_after (Ok (troubled_of session))) may_leave now changes item before
+item_done may_leave now session was changes item before h calm = ask_done may_leave now session was (troubled_of session) changes item h.0 before h.1 h.2 h.3 calm
 
--- a query that broke off
-pub query_ended : (T : Type 0) (end : SessionEnd) (may_leave : Image → Type 0) (now : Shown) (session : Session) (was : Bool) (changes : List Change) (query : SessionQuery) (before : List ℕ) → Stepped {T = T} (Err end) may_leave now session was (begun changes) before (Query query) → ItemLeaves (status_after (Err end)) may_leave now changes (tells query) before
-query_ended T ends.Memory may_leave now session was changes query before h = record { stands = keeps_stands now.tells now.files may_leave (keeper_of session) changes h.keeps; taken = h.taken ∙ ap Some (sym (append-nil before)) }
-query_ended T (ends.Disk failed) may_leave now session was changes query before h = h
-query_ended T (ends.Write failed) may_leave now session was changes query before h =
-    let P : Ask → Type 0 = λ a. ItemLeaves status.WriteFault may_leave now changes a before in
-    subst P h.1 (h.2, keeps_stands now.tells now.files may_leave (keeper_of session) (list_after changes h.0) h.3.keeps, h.3.taken)
-query_ended T (ends.Read failed) may_leave now session was changes query before h = absurd h
-query_ended T (ends.Damaged damage) may_leave now session was changes query before h = absurd h
-query_ended T ends.TooLong may_leave now session was changes query before h = absurd h
-
--- what a crash leaves while a query is answered
-query_leaves : (changes : List Change) (query : SessionQuery) (before : List ℕ) (told : ℕ) (c : Image) → StepLeaves (begun changes) before (Query query) told c → AskLeaves changes before (tells query) told c
-query_leaves changes query before told c (inl h) = inl h
-query_leaves changes query before told c (inr (ask, is, h)) =
-    let P : Ask → Type 0 = λ a. AskLeaves changes before a told c in subst P is (inr h)
-
-pub query_lasts : {D : Type 0} (moment : D → ℕ) (left_since : D → ℕ → ℕ → Image → Type 0) (old new : D) (changes : List Change) (query : SessionQuery) (before : List ℕ) → LeavesOnly moment left_since old new (StepLeaves (begun changes) before (Query query)) → LeavesOnly moment left_since old new (AskLeaves changes before (tells query))
-query_lasts moment left_since old new changes query before run = weaker moment left_since old new (StepLeaves (begun changes) before (Query query)) (AskLeaves changes before (tells query)) run (λ told c h. query_leaves changes query before told c h)
+-- an item that broke off
+pub item_ended : (T : Type 0) (end : SessionEnd) (may_leave : Image → Type 0) (now : Shown) (session : Session) (was : Bool) (changes : List Change) (item : SessionItem) (before : List ℕ) → Stepped {T = T} (Err end) may_leave now session was (beginning changes) before item → ItemLeaves (status_after (Err end)) may_leave now changes item before
+item_ended T ends.Memory may_leave now session was changes item before (inl h) = inl (record { stands = keeps_stands now.tells now.files may_leave (keeper_of session) changes h.keeps; taken = h.taken ∙ ap Some (sym (append-nil before)) })
+item_ended T ends.Memory may_leave now session was changes item before (inr (text, ran, told, asked, h)) =
+    inr (text, ran, told, asked, keeps_stands now.tells now.files may_leave (keeper_of session) (list_after changes (evaluates text ran told)) h.keeps, h.taken)
+item_ended T (ends.Disk failed) may_leave now session was changes item before h = h
+item_ended T (ends.Write failed) may_leave now session was changes item before (ask, asked, count, h) = (ask, asked, count, keeps_stands now.tells now.files may_leave (keeper_of session) (list_after changes ask) h.keeps, h.taken)
+item_ended T (ends.Read failed) may_leave now session was changes item before h = absurd h
+item_ended T (ends.Damaged damage) may_leave now session was changes item before h = absurd h
+item_ended T ends.TooLong may_leave now session was changes item before h = absurd h
 
 -- ---- reasons
 
@@ -106,15 +94,20 @@ no_damage T (Err (ends.Disk failed)) before now h = tt
 no_damage T (Err (ends.Damaged damage)) before now h = h.reason
 no_damage T (Err ends.TooLong) before now h = tt
 
--- so are a query's
-pub query_counts : (T : Type 0) (query : SessionQuery) (r : Result T SessionEnd) (before now : Faults) → CountsFor (Query query) before now r → SourceCounts before now r
-query_counts T (queries.Source spec selector) r before now h = h
-query_counts T queries.Recover r before now h = run_counts T r before now h
-query_counts T queries.Classes r before now h = run_counts T r before now h
-query_counts T (queries.Browse name) r before now h = run_counts T r before now h
+-- so are an item's
+pub item_counts : (T : Type 0) (item : SessionItem) (r : Result T SessionEnd) (before now : Faults) → CountsFor item before now r → SourceCounts before now r
+item_counts T (Query (queries.Source spec selector)) r before now h = h
+item_counts T (Query queries.Recover) r before now h = run_counts T r before now h
+item_counts T (Query queries.Classes) r before now h = run_counts T r before now h
+item_counts T (Query (queries.Browse name)) r before now h = run_counts T r before now h
+item_counts T (Chunk item) r before now h = run_counts T r before now h
+item_counts T Unended r before now h = run_counts T r before now h
 
-pub query_counts_err : (T U : Type 0) (end : SessionEnd) (before now : Faults) → SourceCounts {T = T} before now (Err end) → SourceCounts {T = U} before now (Err end)
-query_counts_err T U end before now h = record { later = h.later; reason = any_value T U end before now h.reason }
+pub item_counts_ok : (T U : Type 0) (done : T) (value : U) (before now : Faults) → SourceCounts before now (Ok done) → SourceCounts before now (Ok value)
+item_counts_ok T U done value before now h = record { later = h.later; reason = tt }
+
+pub item_counts_err : (T U : Type 0) (end : SessionEnd) (before now : Faults) → SourceCounts {T = T} before now (Err end) → SourceCounts {T = U} before now (Err end)
+item_counts_err T U end before now h = record { later = h.later; reason = any_value T U end before now h.reason }
 
 pub no_damage_err : (T U : Type 0) (end : SessionEnd) → MeetsNoDamage {T = T} (Err end) → MeetsNoDamage {T = U} (Err end)
 no_damage_err T U ends.Memory h = tt

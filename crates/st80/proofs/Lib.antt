@@ -1,4 +1,6 @@
 mod Asked
+mod Separators
+mod Again
 mod Fronts
 mod Beginning
 mod Ends

@@ -1,16 +1,23 @@
 -- What the program can be asked to do.
-use Rattle.std.specs.Prelude.{ℕ, List, [], ◌∷◌, Option, Some, None, codes}
-use Rattle.s80_model.specs.declared.item.Query.{Query}
+use Rattle.std.specs.Prelude.{◌≢◌, ℕ, List, [], ◌∷◌, drop, Option, Some, None, codes}
+use Rattle.std.specs.List.{prefix_len}
+use Rattle.s80_chunk.specs.Chunks.{is_separator, item_of}
+use Rattle.s80_chunk.specs.declared.item.Role.TheVariants.{Plain}
+use Rattle.s80_model.specs.declared.item.Query.{Query as SessionQuery}
 use Rattle.s80_model.specs.declared.item.Query.TheVariants.{Recover, Classes, Browse, Source}
+use Rattle.s80_model.specs.declared.item.SessionItem.{SessionItem}
+use Rattle.s80_model.specs.declared.item.SessionItem.TheVariants.{Chunk, Query}
 
--- to work the items of the input, or to answer a query
+-- to work the items of the input, or one item: the chunk of a text, or a query
 pub data Command : Type 0 where
   Run : Command
-  Tell : Query → Command
+  Do : List ℕ → Command
+  Tell : SessionQuery → Command
 
 -- the word that names a command, and the words behind it
 abbrev pub command_word : Command → List ℕ
 command_word Run = codes "run"
+command_word (Do text) = codes "do"
 command_word (Tell Recover) = codes "recover"
 command_word (Tell Classes) = codes "classes"
 command_word (Tell (Browse name)) = codes "browse"
@@ -18,12 +25,28 @@ command_word (Tell (Source spec selector)) = codes "source"
 
 abbrev pub arguments_of : Command → List (List ℕ)
 arguments_of Run = []
+arguments_of (Do text) = text ∷ []
 arguments_of (Tell Recover) = []
 arguments_of (Tell Classes) = []
 arguments_of (Tell (Browse name)) = name ∷ []
 arguments_of (Tell (Source spec selector)) = spec ∷ selector ∷ []
 
--- the command that asks this, or else is a run
-abbrev pub command_with : Option Query → Command
-command_with None = Run
-command_with (Some query) = Tell query
+-- what stands behind the separators at a text's beginning
+abbrev pub behind_separators : List ℕ → List ℕ
+behind_separators text = drop (prefix_len is_separator text) text
+
+-- there is something to do
+abbrev pub IsUseful : Command → Type 0
+IsUseful Run = Unit {0}
+IsUseful (Do text) = behind_separators text ≢ []
+IsUseful (Tell query) = Unit {0}
+
+-- the one item that a command works, if it is no run: a text is a plain chunk
+abbrev pub item_for : Command → Option SessionItem
+item_for Run = None
+item_for (Do text) = Some (Chunk (item_of Plain (behind_separators text)))
+item_for (Tell query) = Some (Query query)
+
+-- how many ticks a doIt may take
+abbrev pub default_budget : ℕ
+default_budget = 1000000

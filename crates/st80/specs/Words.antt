@@ -1,6 +1,6 @@
 -- The words of the command line.
 use Rattle.std.specs.Prelude.{◌≡◌, ◌≢◌, ℕ, List, [], ◌∷◌, All, IsUtf8}
-use Rattle.st80.specs.Command.{Command, command_word, arguments_of}
+use Rattle.st80.specs.Command.{Command, IsUseful, command_word, arguments_of}
 
 -- a word that begins as an option does: with `-`, and longer than that
 abbrev pub IsOption : List ℕ → Type 0
@@ -22,6 +22,7 @@ pub record IsFolder (word : List ℕ) : Type 0 where
 pub record AreOf (words : List (List ℕ)) (command : Command) : Type 0 where
   pub words_are : words ≡ command_word command ∷ arguments_of command
   pub plain : All IsPlain (arguments_of command)
+  pub useful : IsUseful command
 
 -- the words ask for a command in this folder: the program's name, the folder, the command and its arguments
 pub record Asks (words : List (List ℕ)) (folder : List ℕ) (command : Command) : Type 0 where

@@ -1,37 +1,42 @@
 // What the program does with its words.
-ghost use Rattle.std.specs.Prelude.{◌≡◌, ◌≢◌, ◌++◌, ℕ, List, IsTrue, false, Some, IfOk, IfErr};
+ghost use Rattle.std.specs.Prelude.{◌≡◌, ◌≢◌, ◌++◌, ℕ, List, [], length, IsTrue, false, Some, IfOk, IfErr, IfSome};
 ghost use Rattle.s80_block.specs.declared.change.Change.{Change};
+ghost use Rattle.s80_chunk.specs.Chunks.{item_of};
 ghost use Rattle.s80_disk.specs.declared.disk.FileId.{FileId};
 ghost use Rattle.s80_disk.specs.Moments.{LeavesOnly};
 ghost use Rattle.s80_keeper.specs.declared.start.Damage.{Damage};
 ghost use Rattle.s80_keeper.specs.Standing.{StandsFor};
 ghost use Rattle.s80_keeper.specs.Start.{IsDamage};
 ghost use Rattle.s80_keeper.specs.Keeper.{Knows};
-ghost use Rattle.s80_model.specs.Asked.{Ask, tells};
-ghost use Rattle.s80_model.specs.Replies.{begun, replies};
+ghost use Rattle.s80_model.specs.Asked.{Ask};
 ghost use Rattle.s80_session.specs.Ending.{faults, Counts, MeetsNoDamage, SourceCounts};
 ghost use Rattle.s80_session.specs.Putting.{IsAsBefore};
 ghost use Rattle.s80_session.specs.Run.{shown, Keeps};
 ghost use Rattle.s80_session.specs.Session.{keeper_of, troubled_of, IsFaultless};
-ghost use Rattle.s80_session.specs.Working.{IsAt};
+ghost use Rattle.s80_session.specs.Working.{IsAt, IsReadable, StepLeaves};
 ghost use Rattle.st80.specs.Ending.{IsDiskEnd, NoFault, StatusHasReason, status_after, IsWhole};
-ghost use Rattle.st80.specs.Leaves.{StartsWith, Leaves, RunLeaves, ItemLeaves, AskLeaves, CommandKeeps, AllAsks, IsWithin, TellsDamage};
-ghost use Rattle.st80.specs.Command.{Command, command_with};
+ghost use Rattle.st80.specs.Leaves.{StartsWith, Leaves, RunLeaves, ItemLeaves, CommandKeeps, AllAsks, IsWithin, PutsFront, TellsDamage, beginning};
+ghost use Rattle.st80.specs.Command.{Command, IsUseful, behind_separators, item_for};
 ghost use Rattle.st80.specs.Words.{Asks};
 ghost use Rattle.st80.specs.Task.{command_of};
 
 use crate::outside::attach;
 use crate::status::Status;
-use crate::words::{Task, request_of};
+use crate::words::{Task, behind_separators, request_of};
 use s80_base::{OutOfMemory, Text};
+use s80_chunk::{Item, LONGEST, Role};
 use s80_disk::Outside;
 use s80_model::{Query, SessionItem};
 use s80_session::{Session, SessionEnd};
 use std::alloc::Global;
 
+/// How many ticks a doIt may take.
+const DEFAULT_BUDGET: u64 = 1_000_000;
+
 /// Does what the words ask for: the program's name, a folder and a command. `run` keeps each chunk of the input that is a definition of a
-/// class, a method or a doIt in the folder, on the disk, and then answers it by a line of the output; `classes` names all classes,
-/// `browse NAME` shows one, `source SPEC SELECTOR` shows a method, and `recover` says how much there is.
+/// class, a method or a doIt in the folder, on the disk, and then answers it: a doIt with what it wrote and what it comes to, and else by a
+/// line. `do TEXT` does so with one text; `classes` names all classes, `browse NAME` shows one, `source SPEC SELECTOR` shows a method, and
+/// `recover` says how much there is.
 pub fn st80<O: Outside>(alloc: Global, words: &[Text], outside: &mut O) -> Status
     // Bad usage is answered exactly where the words ask for nothing, and then the outside isn't called.
     ensures usage { result ≡ Status.Usage
@@ -57,12 +62,13 @@ pub fn st80<O: Outside>(alloc: Global, words: &[Text], outside: &mut O) -> Statu
         → StandsFor (O.tells outside.old) (O.reads outside.old) (O.may_leave outside.old) changes
         → LeavesOnly O.moment O.left_since outside.old outside.new (CommandKeeps command changes input before) }
 
-    // However it ends, what it wrote is a front of the replies to all that the command asks.
+    // However it ends, what it wrote is a front of the replies to all that the command asks. What a doIt asks has its run in it, so where
+    // all can be asked there may be several ways.
     ensures front { (folder : List ℕ) (command : Command) (changes : List Change) (input before : List ℕ) (asks : List Ask)
         → Asks words.now folder command
         → StartsWith (O.may_leave outside.old) (shown O.tells O.reads O.left O.taken O.told outside.old) changes input before
-        → AllAsks command input asks
-        → (put more : List ℕ) × (O.taken outside.new ≡ Some (before ++ put)) × (replies (begun changes) asks ≡ put ++ more) }
+        → AllAsks command changes input asks
+        → (again : List Ask) × AllAsks command changes input again × PutsFront (O.taken outside.new) changes before again }
 
     // With no fault and an input within the limit it comes to the end, or memory is wanting.
     ensures complete { (folder : List ℕ) (command : Command) (changes : List Change) (input before : List ℕ)
@@ -88,13 +94,14 @@ pub fn st80<O: Outside>(alloc: Global, words: &[Text], outside: &mut O) -> Statu
     }
 }
 
-/// Does a task in a folder. Says whether some item was refused.
+/// Does a task in a folder. Says whether some item was refused or stopped.
 fn work<O: Outside>(
     alloc: Global,
     folder: &Text,
     task: Task<'_>,
     outside: &mut O,
 ) -> Result<bool, SessionEnd>
+    requires { IsUseful (command_of task) }
     ensures worked { (changes : List Change) (input before : List ℕ)
         → StartsWith (O.may_leave outside.old) (shown O.tells O.reads O.left O.taken O.told outside.old) changes input before
         → Leaves (command_of task.entry) (status_after result) (O.may_leave outside.new)
@@ -114,7 +121,7 @@ fn work<O: Outside>(
     ensures useful { status_after result ≢ Status.Usage }
 {
     open_folder(outside, folder)?;
-    let mut session = Session::start(alloc, outside)?;
+    let mut session = Session::start(alloc, outside, DEFAULT_BUDGET)?;
     do_task(&mut session, alloc, task, outside)
 }
 
@@ -141,44 +148,62 @@ fn do_task<O: Outside>(
     outside: &mut O,
 ) -> Result<bool, SessionEnd>
     requires faultless { IsFaultless session.old }
+    requires useful { IsUseful (command_of task) }
     ensures worked { (changes : List Change) (input before : List ℕ) → O.left outside.old ≡ Some input
         → troubled_of session.old ≡ false
         → IsAt (O.may_leave outside.old)
-        (shown O.tells O.reads O.left O.taken O.told outside.old) session.old (begun changes) before
+        (shown O.tells O.reads O.left O.taken O.told outside.old) session.old (beginning changes) before
         → Leaves (command_of task.entry) (status_after result) (O.may_leave outside.new)
         (shown O.tells O.reads O.left O.taken O.told outside.new) changes input before }
     ensures any_moment { (changes : List Change) (input before : List ℕ) → O.left outside.old ≡ Some input
         → troubled_of session.old ≡ false
         → IsAt (O.may_leave outside.old)
-        (shown O.tells O.reads O.left O.taken O.told outside.old) session.old (begun changes) before
+        (shown O.tells O.reads O.left O.taken O.told outside.old) session.old (beginning changes) before
         → LeavesOnly O.moment O.left_since outside.old outside.new (CommandKeeps (command_of task.entry) changes input before) }
     ensures sound { IsTrue (O.tells outside.old) → (changes : List Change) → Knows (O.reads outside.old) (keeper_of session.old) changes → MeetsNoDamage result }
     ensures counts { SourceCounts (faults O.read_faults O.write_faults O.disk_faults outside.old)
         (faults O.read_faults O.write_faults O.disk_faults outside.new) result }
 {
-    match query_of(alloc, task)? {
+    match item_for(alloc, task)? {
         None => run_input(session, alloc, outside),
-        Some(query) => answer_query(session, alloc, query, outside),
+        Some(item) => answer_item(session, alloc, item, outside),
     }
 }
 
-/// What a task asks, if it is no run.
-fn query_of(alloc: Global, task: Task<'_>) -> Result<Option<Query>, OutOfMemory>
-    ensures { IfOk result (λ query. command_of task.entry ≡ command_with query) }
+/// The one item that a task works, if it is no run.
+fn item_for(alloc: Global, task: Task<'_>) -> Result<Option<SessionItem>, OutOfMemory>
+    requires { IsUseful (command_of task) }
+    ensures item { IfOk result (λ item. item ≡ item_for (command_of task.entry)) }
+    ensures readable { IfOk result (λ item. IfSome item IsReadable) }
 {
-    match task {
-        Task::Run => Ok(None),
-        Task::Recover => Ok(Some(Query::Recover)),
-        Task::Classes => Ok(Some(Query::Classes)),
-        Task::Browse(name) => Ok(Some(Query::Browse(name.copy(alloc)?))),
-        Task::Source(spec, selector) => Ok(Some(Query::Source(
-            spec.copy(alloc)?,
-            selector.copy(alloc)?,
-        ))),
-    }
+    let query = match task {
+        Task::Run => return Ok(None),
+        Task::Do(text) => return Ok(Some(SessionItem::Chunk(chunk_of(alloc, text)?))),
+        Task::Recover => Query::Recover,
+        Task::Classes => Query::Classes,
+        Task::Browse(name) => Query::Browse(name.copy(alloc)?),
+        Task::Source(spec, selector) => Query::Source(spec.copy(alloc)?, selector.copy(alloc)?),
+    };
+    Ok(Some(SessionItem::Query(query)))
 }
 
-/// Works the input to its end. Says whether some item was refused.
+/// The plain chunk of what stands behind a text's separators.
+fn chunk_of(alloc: Global, text: &Text) -> Result<Item, OutOfMemory>
+    requires { behind_separators text.now ≢ [] }
+    ensures item { IfOk result (λ item. item ≡ item_of Role.Plain (behind_separators text.now)) }
+    ensures readable { IfOk result (λ item. IsReadable (SessionItem.Chunk item)) }
+{
+    let bytes = behind_separators(text);
+    if bytes.len() > LONGEST {
+        return Ok(Item::TooLong {
+            role: Role::Plain,
+            length: bytes.len() as u64,
+        });
+    }
+    Ok(Item::Plain(Text::from_bytes(alloc, bytes)?))
+}
+
+/// Works the input to its end. Says whether some item was refused or stopped.
 fn run_input<O: Outside>(
     session: &mut Session,
     alloc: Global,
@@ -188,14 +213,14 @@ fn run_input<O: Outside>(
     ensures worked { (changes : List Change) (input before : List ℕ) → O.left outside.old ≡ Some input
         → troubled_of session.old ≡ false
         → IsAt (O.may_leave outside.old)
-        (shown O.tells O.reads O.left O.taken O.told outside.old) session.old (begun changes) before
+        (shown O.tells O.reads O.left O.taken O.told outside.old) session.old (beginning changes) before
         → RunLeaves (status_after result) (O.may_leave outside.new)
         (shown O.tells O.reads O.left O.taken O.told outside.new) changes input before }
     ensures any_moment { (changes : List Change) (input before : List ℕ) → O.left outside.old ≡ Some input
         → troubled_of session.old ≡ false
         → IsAt (O.may_leave outside.old)
-        (shown O.tells O.reads O.left O.taken O.told outside.old) session.old (begun changes) before
-        → LeavesOnly O.moment O.left_since outside.old outside.new (Keeps (begun changes) input before) }
+        (shown O.tells O.reads O.left O.taken O.told outside.old) session.old (beginning changes) before
+        → LeavesOnly O.moment O.left_since outside.old outside.new (Keeps (beginning changes) input before) }
     ensures counts { Counts (faults O.read_faults O.write_faults O.disk_faults outside.old)
         (faults O.read_faults O.write_faults O.disk_faults outside.new) result }
 {
@@ -203,29 +228,30 @@ fn run_input<O: Outside>(
     Ok(session.troubled())
 }
 
-/// Answers one query. Says whether it was refused.
-fn answer_query<O: Outside>(
+/// Works and answers one item. Says whether it was refused or stopped.
+fn answer_item<O: Outside>(
     session: &mut Session,
     alloc: Global,
-    query: Query,
+    item: SessionItem,
     outside: &mut O,
 ) -> Result<bool, SessionEnd>
     requires faultless { IsFaultless session.old }
+    requires readable { IsReadable item }
     ensures worked { (changes : List Change) (before : List ℕ) → troubled_of session.old ≡ false
         → IsAt (O.may_leave outside.old)
-        (shown O.tells O.reads O.left O.taken O.told outside.old) session.old (begun changes) before
+        (shown O.tells O.reads O.left O.taken O.told outside.old) session.old (beginning changes) before
         → ItemLeaves (status_after result) (O.may_leave outside.new)
-        (shown O.tells O.reads O.left O.taken O.told outside.new) changes (tells query) before }
+        (shown O.tells O.reads O.left O.taken O.told outside.new) changes item before }
     ensures any_moment { (changes : List Change) (before : List ℕ)
         → IsAt (O.may_leave outside.old)
-        (shown O.tells O.reads O.left O.taken O.told outside.old) session.old (begun changes) before
-        → LeavesOnly O.moment O.left_since outside.old outside.new (AskLeaves changes before (tells query)) }
+        (shown O.tells O.reads O.left O.taken O.told outside.old) session.old (beginning changes) before
+        → LeavesOnly O.moment O.left_since outside.old outside.new (StepLeaves (beginning changes) before item) }
     ensures left { O.left outside.new ≡ O.left outside.old }
     ensures sound { IsTrue (O.tells outside.old) → (changes : List Change) → Knows (O.reads outside.old) (keeper_of session.old) changes → MeetsNoDamage result }
     ensures counts { SourceCounts (faults O.read_faults O.write_faults O.disk_faults outside.old)
         (faults O.read_faults O.write_faults O.disk_faults outside.new) result }
 {
-    session.step(alloc, SessionItem::Query(query), outside)?;
+    session.step(alloc, item, outside)?;
     Ok(session.troubled())
 }
 

@@ -11,6 +11,7 @@ use std::test::Fail;
 mod browsing;
 mod crashes;
 mod damages;
+mod evaluating;
 mod methods;
 mod noting;
 mod recovering;
@@ -89,14 +90,20 @@ fn run_on(alloc: Global, input: &[u8], piece: usize) -> Result<Ran, Fail>
 const ACCOUNT: &[u8] = b"'From Smalltalk-80 of 1 April 1983'!\r\
 Object subclass: #Account\r\tinstanceVariableNames: 'balance '\r\tclassVariableNames: ''\r\
 \tpoolDictionaries: ''\r\tcategory: 'Bank'!\r\r\
-!Account methodsFor: 'accessing'!\rbalance\r\t^balance!\rdeposit: amount\r\tbalance _ amount! !\r\
+!Account methodsFor: 'accessing'!\rbalance\r\t^balance!\rdeposit: amount\r\
+\tbalance _ (balance isNil ifTrue: [0] ifFalse: [balance]) + amount! !\r\
 Account new deposit: 100; deposit: 50; balance!\r";
 
 #[test]
 fn chunks_are_kept_and_answered(rt: HostRuntime) -> Result<(), Fail> {
     let rows: [(&[u8], &[u8], Status, &[u8]); 9] = [
-        (b"3 + 4!", b"ok\n", Status::Done, b"3 + 4!\n"),
-        (b"'It''s!!'!", b"ok\n", Status::Done, b"'It''s!!'!\n"),
+        (b"3 + 4!", b"=> 7\n", Status::Done, b"3 + 4!\n"),
+        (
+            b"'It''s!!'!",
+            b"=> 'It''s!'\n",
+            Status::Done,
+            b"'It''s!!'!\n",
+        ),
         (
             b"!Object foo!\nx! !",
             b"refused 13 no section Object foo\n",
@@ -105,24 +112,24 @@ fn chunks_are_kept_and_answered(rt: HostRuntime) -> Result<(), Fail> {
         ),
         (
             b"1! 3 +",
-            b"ok\nrefused 1 unended\n",
+            b"=> 1\nrefused 1 unended\n",
             Status::DoneWithRefusals,
             b"1!\n",
         ),
         (
             b"1! 3 + ! 2!",
-            b"ok\nrefused 2 unexpected at 4\nok\n",
+            b"=> 1\nrefused 2 unexpected at 4\n=> 2\n",
             Status::DoneWithRefusals,
             b"1!\n2!\n",
         ),
         (b"", b"", Status::Done, b""),
         (b" \t\r\n\x0c", b"", Status::Done, b""),
-        (b"! !\n7!", b"ok\n", Status::Done, b"7!\n"),
+        (b"! !\n7!", b"=> 7\n", Status::Done, b"7!\n"),
         (
             ACCOUNT,
-            b"ok\nok\nok\nok\nok\n",
+            b"=> 'From Smalltalk-80 of 1 April 1983'\nok\nok\nok\n=> 150\n",
             Status::Done,
-            b"'From Smalltalk-80 of 1 April 1983'!\nObject subclass: #Account\n\tinstanceVariableNames: 'balance'\n\tclassVariableNames: ''\n\tpoolDictionaries: ''\n\tcategory: 'Bank'!\n!Account methodsFor: 'accessing'!\nbalance\r\t^balance! !\n!Account methodsFor: 'accessing'!\ndeposit: amount\r\tbalance _ amount! !\nAccount new deposit: 100; deposit: 50; balance!\n",
+            b"'From Smalltalk-80 of 1 April 1983'!\nObject subclass: #Account\n\tinstanceVariableNames: 'balance'\n\tclassVariableNames: ''\n\tpoolDictionaries: ''\n\tcategory: 'Bank'!\n!Account methodsFor: 'accessing'!\nbalance\r\t^balance! !\n!Account methodsFor: 'accessing'!\ndeposit: amount\r\tbalance _ (balance isNil ifTrue: [0] ifFalse: [balance]) + amount! !\nAccount new deposit: 100; deposit: 50; balance!\n",
         ),
     ];
     for (input, written, status, log) in rows {
@@ -149,7 +156,7 @@ fn long_chunk(alloc: Global, lead: &[u8], size: usize) -> Result<Vec<u8>, OutOfM
 fn texts_above_65535_bytes_are_refused(rt: HostRuntime) -> Result<(), Fail> {
     let alloc = rt.alloc();
     let longest = run_on(alloc, &long_chunk(alloc, b"", 65_535)?, 4096)?;
-    assert_eq!(rt; longest.written.as_slice(), b"ok\n".as_slice());
+    assert_eq!(rt; longest.written.as_slice(), b"=> nil\n".as_slice());
     assert_eq!(rt; longest.log.len(), 65_537);
     let rows: [(&[u8], &[u8]); 3] = [
         (b"", b"refused 3 too large chunk 65536\n"),
@@ -167,7 +174,7 @@ fn texts_above_65535_bytes_are_refused(rt: HostRuntime) -> Result<(), Fail> {
 
 #[test]
 fn a_failing_take_ends_with_a_read_fault(rt: HostRuntime) -> Result<(), Fail> {
-    let rows: [(u64, &[u8]); 3] = [(1, b""), (2, b"ok\n"), (3, b"ok\nok\n")];
+    let rows: [(u64, &[u8]); 3] = [(1, b""), (2, b"=> 1\n"), (3, b"=> 1\n=> 2\n")];
     for (number, written) in rows {
         let disk = new_disk(rt.alloc(), FaultPlan::Never)?;
         let source = MemSource::make(rt.alloc(), b"1! 2!\n", 3, &[number])?;
@@ -180,7 +187,7 @@ fn a_failing_take_ends_with_a_read_fault(rt: HostRuntime) -> Result<(), Fail> {
 
 #[test]
 fn a_failing_put_ends_with_a_write_fault(rt: HostRuntime) -> Result<(), Fail> {
-    let rows: [(u64, &[u8], &[u8]); 2] = [(1, b"", b"1!\n"), (2, b"ok\n", b"1!\n2!\n")];
+    let rows: [(u64, &[u8], &[u8]); 2] = [(1, b"", b"1!\n"), (2, b"=> 1\n", b"1!\n2!\n")];
     for (number, written, log) in rows {
         let disk = new_disk(rt.alloc(), FaultPlan::Never)?;
         let source = MemSource::make(rt.alloc(), b"1! 2!\n", 4096, &[])?;
@@ -196,7 +203,7 @@ fn a_failing_put_ends_with_a_write_fault(rt: HostRuntime) -> Result<(), Fail> {
 #[test]
 fn a_failing_disk_call_ends_with_a_disk_fault(rt: HostRuntime) -> Result<(), Fail> {
     for number in 1..=29 {
-        let written: &[u8] = if number <= 20 { b"" } else { b"ok\n" };
+        let written: &[u8] = if number <= 20 { b"" } else { b"=> 1\n" };
         for plan in [FaultPlan::One(number), FaultPlan::From(number)] {
             let disk = new_disk(rt.alloc(), plan)?;
             let source = MemSource::make(rt.alloc(), b"1! 2!\n", 4096, &[])?;
@@ -229,12 +236,18 @@ fn an_input_of_more_than_a_gibibyte_is_too_long(rt: HostRuntime) -> Result<(), F
 // Each call on this outside would fail.
 #[test]
 fn bad_usage_calls_nothing(rt: HostRuntime) -> Result<(), Fail> {
-    let rows: [&[&[u8]]; 18] = [
+    let rows: [&[&[u8]]; 24] = [
         &[],
         &[b"st80"],
         &[b"st80", b"F"],
         &[b"st80", b"F", b"zork"],
         &[b"st80", b"F", b"run", b"x"],
+        &[b"st80", b"F", b"do"],
+        &[b"st80", b"F", b"do", b""],
+        &[b"st80", b"F", b"do", b" \t\r\n\x0c"],
+        &[b"st80", b"F", b"do", b"-3"],
+        &[b"st80", b"F", b"do", b"\xff"],
+        &[b"st80", b"F", b"do", b"3", b"4"],
         &[b"st80", b"F", b"recover", b"x"],
         &[b"st80", b"F", b"classes", b"x"],
         &[b"st80", b"F", b"browse"],

@@ -1,6 +1,7 @@
 // The words of the command line.
 ghost use Rattle.std.specs.Prelude.{◌≡◌, ◌↔◌, ◌∷◌, [], ℕ, List, IsTrue, IsUtf8, IfSome, IfNone};
-ghost use Rattle.st80.specs.Command.{Command};
+ghost use Rattle.s80_chunk.specs.Chunks.{is_separator};
+ghost use Rattle.st80.specs.Command.{Command, behind_separators};
 ghost use Rattle.st80.specs.Words.{IsOption, IsPlain, IsFolder, AreOf, Asks};
 ghost use Rattle.st80.specs.Task.{command_of};
 
@@ -11,6 +12,8 @@ use s80_base::Text;
 pub(crate) enum Task<'w> {
     /// Works the chunks of the input.
     Run,
+    /// Works this text as a chunk.
+    Do(&'w Text),
     /// Says how much there is in the folder.
     Recover,
     /// Names all classes.
@@ -76,11 +79,31 @@ fn task_on<'w>(word: &Text, name: &'w Text) -> Option<Task<'w>>
     ensures found { IfSome result (λ task. AreOf (word.now ∷ name.now ∷ []) (command_of task)) }
     ensures none { IfNone result ((command : Command) → AreOf (word.now ∷ name.now ∷ []) command → ⊥) }
 {
-    if word.bytes() == b"browse".as_slice() && is_plain(name) {
-        Some(Task::Browse(name))
-    } else {
-        None
+    if !is_plain(name) {
+        return None;
     }
+    if word.bytes() == b"browse".as_slice() {
+        return Some(Task::Browse(name));
+    }
+    if word.bytes() == b"do".as_slice() && !behind_separators(name).is_empty() {
+        return Some(Task::Do(name));
+    }
+    None
+}
+
+fn is_separator(byte: u8) -> bool
+    ensures { result ≡ is_separator byte }
+{
+    matches!(byte, b' ' | b'\t' | b'\n' | b'\x0c' | b'\r')
+}
+
+/// What stands behind the separators at a text's beginning.
+pub(crate) fn behind_separators(text: &Text) -> &[u8]
+    ensures { result.now ≡ behind_separators text.now }
+{
+    let bytes = text.bytes();
+    let count = bytes.iter().take_while(|b| is_separator(**b)).count();
+    &bytes[count..]
 }
 
 /// The task that a word asks for with two words behind it.

@@ -69,7 +69,7 @@ fn no_answered_change_is_lost(rt: HostRuntime) -> Result<(), Fail> {
                 return Err(Fail::new("no count is found"));
             };
             assert!(rt;
-                put <= 3 * usize::from(count) && usize::from(count) <= put / 3 + 1,
+                put <= 5 * usize::from(count) && usize::from(count) <= put / 5 + 1,
                 "call {number}, choice {choice}: {count}"
             );
         }

@@ -27,12 +27,12 @@ fn chunks_of_sections_are_answered(rt: HostRuntime) -> Result<(), Fail> {
         // a head is refused once, and its section is passed over
         (
             b"!Nobody methodsFor: 'x'!\na ^1! !\n7!",
-            b"refused 4 unknown class Nobody\nok\n",
+            b"refused 4 unknown class Nobody\n=> 7\n",
             Status::DoneWithRefusals,
         ),
         (
             b"!Object foo!\nx! !\n7!",
-            b"refused 13 no section Object foo\nok\n",
+            b"refused 13 no section Object foo\n=> 7\n",
             Status::DoneWithRefusals,
         ),
         (
@@ -211,10 +211,13 @@ fn literals(alloc: Global, lead: &[u8], count: u32) -> Result<Vec<u8>, Fail> {
 
 #[test]
 fn texts_that_ask_too_much_of_a_machine_are_refused(rt: HostRuntime) -> Result<(), Fail> {
-    let leads: [&[u8]; 2] = [b"", b"!Object methodsFor: 'x'!m "];
-    for lead in leads {
+    let leads: [(&[u8], &[u8]); 2] = [
+        (b"", b"=> '59'\n"),
+        (b"!Object methodsFor: 'x'!m ", b"ok\n"),
+    ];
+    for (lead, written) in leads {
         let most = run_on(rt.alloc(), &literals(rt.alloc(), lead, 60)?, 4096)?;
-        assert_eq!(rt; most.written.as_slice(), b"ok\n".as_slice());
+        assert_eq!(rt; most.written.as_slice(), written);
         let more = run_on(rt.alloc(), &literals(rt.alloc(), lead, 61)?, 4096)?;
         assert_eq!(rt;
             more.written.as_slice(),

@@ -2,7 +2,7 @@ use Rattle.std.proofs.Common.{List, ℕ, sym, subst, ◌∙◌}
 use Rattle.s80_block.specs.declared.change.Change.{Change}
 use Rattle.s80_disk.specs.Moments.{LeavesOnly}
 use Rattle.s80_session.specs.Run.{shown}
-use Rattle.st80.specs.Command.{Command}
+use Rattle.st80.specs.Command.{Command, item_for}
 use Rattle.st80.specs.Ending.{status_after}
 use Rattle.st80.specs.Leaves.{StartsWith, Leaves, CommandKeeps}
 use Rattle.st80.specs.Task.{command_of}
@@ -29,7 +29,7 @@ returns-in-Some-clause-any_moment g c = λ folder command changes input before a
 
 pub returns-in-Some-clause-front : goal.returns-in-Some-clause-front
 returns-in-Some-clause-front g c = λ folder command changes input before asks asked start all.
-    front_of command (status_after c.work.result) (g.O.Disk.may_leave c.work.new.outside) (shown g.O.Disk.tells g.O.Disk.reads g.O.Source.left g.O.Sink.taken g.O.Sink.told c.work.new.outside) changes input before asks (done g (goal.at.returns-in-Some-clause-front g c).After-work folder command changes input before asked start) all
+    front_of (item_for command) (status_after c.work.result) (g.O.Disk.may_leave c.work.new.outside) (shown g.O.Disk.tells g.O.Disk.reads g.O.Source.left g.O.Sink.taken g.O.Sink.told c.work.new.outside) changes input before asks (done g (goal.at.returns-in-Some-clause-front g c).After-work folder command changes input before asked start) all
 
 pub returns-in-Some-clause-complete : goal.returns-in-Some-clause-complete
 returns-in-Some-clause-complete g c = λ folder command changes input before asked start within none.

@@ -8,7 +8,8 @@ use Rattle.s80_keeper.specs.Standing.{StandsFor}
 use Rattle.s80_keeper.specs.Start.{IsDamage}
 use Rattle.s80_keeper.proofs.Damages.{no_list}
 use Rattle.s80_session.specs.Run.{Shown, shown}
-use Rattle.st80.specs.Leaves.{StartsWith, CommandKeeps}
+use Rattle.st80.specs.Command.{item_for}
+use Rattle.st80.specs.Leaves.{StartsWith, KeepsFor}
 use Rattle.st80.specs.Task.{command_of}
 use Rattle.st80.proofs.Beginning.{starts_on, stands_on, lost_at_start, no_session, chosen, goes_on, session_begins, damaged_has_log, tells_damage, damage_found, knows_on, shown_but_files, shown_through}
 use Rattle.st80.proofs.Ends.{reason_err, later_reason, starts_reason, undamaged, never_usage, disk_undamaged, disk_tells, no_fewer}
@@ -19,11 +20,11 @@ pub returns-in_err-open_folder-clause-worked : goal.returns-in_err-open_folder-c
 returns-in_err-open_folder-clause-worked g c = λ changes input before start.
     let p = err_from_is_err_and c.from_residual.result c.from_residual.ensures.1 in
     let same = c.open_folder.ensures.shown in
-    rw (p.1, p.2) (lost_at_start (command_of c.args.task) _ (g.O.Disk.may_leave c.open_folder.new.outside) (shown g.O.Disk.tells g.O.Disk.reads g.O.Source.left g.O.Sink.taken g.O.Sink.told c.open_folder.new.outside) changes input before c.in_err-open_folder.ensures.disk (ap (λ (o : Shown). o.left) same ∙ start.left) (ap (λ (o : Shown). o.taken) same ∙ start.taken))
+    rw (p.1, p.2) (lost_at_start (item_for (command_of c.args.task)) _ (g.O.Disk.may_leave c.open_folder.new.outside) (shown g.O.Disk.tells g.O.Disk.reads g.O.Source.left g.O.Sink.taken g.O.Sink.told c.open_folder.new.outside) changes input before c.in_err-open_folder.ensures.disk (ap (λ (o : Shown). o.left) same ∙ start.left) (ap (λ (o : Shown). o.taken) same ∙ start.taken))
 
 -- the folder is chosen
-opened : (g : _) (c : After-open_folder g) (changes : List Change) (input before : List ℕ) → StartsWith (g.O.Disk.may_leave c.args.outside.now) (shown g.O.Disk.tells g.O.Disk.reads g.O.Source.left g.O.Sink.taken g.O.Sink.told c.args.outside.now) changes input before → StandsFor (g.O.Disk.tells c.args.outside.now) (g.O.Disk.reads c.args.outside.now) (g.O.Disk.may_leave c.args.outside.now) changes → LeavesOnly g.O.Disk.moment g.O.Disk.left_since c.args.outside.now c.open_folder.new.outside (CommandKeeps (command_of c.args.task) changes input before)
-opened g c changes input before start stands = chosen g.O.Disk.moment g.O.Disk.left_since (command_of c.args.task) changes input before _ _ _ _ c.args.outside.now c.open_folder.new.outside stands start.told c.open_folder.ensures.any_moment
+opened : (g : _) (c : After-open_folder g) (changes : List Change) (input before : List ℕ) → StartsWith (g.O.Disk.may_leave c.args.outside.now) (shown g.O.Disk.tells g.O.Disk.reads g.O.Source.left g.O.Sink.taken g.O.Sink.told c.args.outside.now) changes input before → StandsFor (g.O.Disk.tells c.args.outside.now) (g.O.Disk.reads c.args.outside.now) (g.O.Disk.may_leave c.args.outside.now) changes → LeavesOnly g.O.Disk.moment g.O.Disk.left_since c.args.outside.now c.open_folder.new.outside (KeepsFor (item_for (command_of c.args.task)) changes input before)
+opened g c changes input before start stands = chosen g.O.Disk.moment g.O.Disk.left_since (item_for (command_of c.args.task)) changes input before _ _ _ _ c.args.outside.now c.open_folder.new.outside stands start.told c.open_folder.ensures.any_moment
 
 pub returns-in_err-open_folder-clause-any_moment : goal.returns-in_err-open_folder-clause-any_moment
 returns-in_err-open_folder-clause-any_moment g c = opened g (goal.at.returns-in_err-open_folder-clause-any_moment g c).After-open_folder
@@ -52,18 +53,18 @@ module _ (g : _) (c : After-start g) where
   starts_mid : (changes : List Change) (input before : List ℕ) → StartsWith (g.O.Disk.may_leave c.args.outside.now) (shown g.O.Disk.tells g.O.Disk.reads g.O.Source.left g.O.Sink.taken g.O.Sink.told c.args.outside.now) changes input before → StartsWith (g.O.Disk.may_leave c.open_folder.new.outside) (shown g.O.Disk.tells g.O.Disk.reads g.O.Source.left g.O.Sink.taken g.O.Sink.told c.open_folder.new.outside) changes input before
   starts_mid changes input before start = starts_on (shown g.O.Disk.tells g.O.Disk.reads g.O.Source.left g.O.Sink.taken g.O.Sink.told c.args.outside.now) (shown g.O.Disk.tells g.O.Disk.reads g.O.Source.left g.O.Sink.taken g.O.Sink.told c.open_folder.new.outside) c.open_folder.ensures.shown (g.O.Disk.may_leave c.args.outside.now) (g.O.Disk.may_leave c.open_folder.new.outside) c.open_folder.ensures.images changes input before start
 
-  started : (changes : List Change) (input before : List ℕ) → StartsWith (g.O.Disk.may_leave c.args.outside.now) (shown g.O.Disk.tells g.O.Disk.reads g.O.Source.left g.O.Sink.taken g.O.Sink.told c.args.outside.now) changes input before → StandsFor (g.O.Disk.tells c.args.outside.now) (g.O.Disk.reads c.args.outside.now) (g.O.Disk.may_leave c.args.outside.now) changes → LeavesOnly g.O.Disk.moment g.O.Disk.left_since c.args.outside.now c.start.new.outside (CommandKeeps (command_of c.args.task) changes input before)
+  started : (changes : List Change) (input before : List ℕ) → StartsWith (g.O.Disk.may_leave c.args.outside.now) (shown g.O.Disk.tells g.O.Disk.reads g.O.Source.left g.O.Sink.taken g.O.Sink.told c.args.outside.now) changes input before → StandsFor (g.O.Disk.tells c.args.outside.now) (g.O.Disk.reads c.args.outside.now) (g.O.Disk.may_leave c.args.outside.now) changes → LeavesOnly g.O.Disk.moment g.O.Disk.left_since c.args.outside.now c.start.new.outside (KeepsFor (item_for (command_of c.args.task)) changes input before)
   started changes input before start stands =
-      goes_on g.O.Disk.moment g.O.Disk.left_since (command_of c.args.task) changes input before c.args.outside.now c.open_folder.new.outside c.start.new.outside
-      (chosen g.O.Disk.moment g.O.Disk.left_since (command_of c.args.task) changes input before _ _ _ _ c.args.outside.now c.open_folder.new.outside stands start.told c.open_folder.ensures.any_moment)
-      (session_begins g.O.Disk.moment g.O.Disk.left_since (command_of c.args.task) changes input before _ c.open_folder.new.outside c.start.new.outside (starts_mid changes input before start).told (c.start.ensures.any_moment changes (stands_on (shown g.O.Disk.tells g.O.Disk.reads g.O.Source.left g.O.Sink.taken g.O.Sink.told c.args.outside.now) (shown g.O.Disk.tells g.O.Disk.reads g.O.Source.left g.O.Sink.taken g.O.Sink.told c.open_folder.new.outside) c.open_folder.ensures.shown (g.O.Disk.may_leave c.args.outside.now) (g.O.Disk.may_leave c.open_folder.new.outside) c.open_folder.ensures.images changes stands)))
+      goes_on g.O.Disk.moment g.O.Disk.left_since (item_for (command_of c.args.task)) changes input before c.args.outside.now c.open_folder.new.outside c.start.new.outside
+      (chosen g.O.Disk.moment g.O.Disk.left_since (item_for (command_of c.args.task)) changes input before _ _ _ _ c.args.outside.now c.open_folder.new.outside stands start.told c.open_folder.ensures.any_moment)
+      (session_begins g.O.Disk.moment g.O.Disk.left_since (item_for (command_of c.args.task)) changes input before _ c.open_folder.new.outside c.start.new.outside (starts_mid changes input before start).told (c.start.ensures.any_moment changes (stands_on (shown g.O.Disk.tells g.O.Disk.reads g.O.Source.left g.O.Sink.taken g.O.Sink.told c.args.outside.now) (shown g.O.Disk.tells g.O.Disk.reads g.O.Source.left g.O.Sink.taken g.O.Sink.told c.open_folder.new.outside) c.open_folder.ensures.shown (g.O.Disk.may_leave c.args.outside.now) (g.O.Disk.may_leave c.open_folder.new.outside) c.open_folder.ensures.images changes stands)))
 
 pub returns-in_err-session-clause-worked : goal.returns-in_err-session-clause-worked
 returns-in_err-session-clause-worked g c = λ changes input before start.
     let p = err_from_is_err_and c.from_residual-in_err-session.result c.from_residual-in_err-session.ensures.1 in
     let at = starts_mid g (goal.at.returns-in_err-session-clause-worked g c).After-start changes input before start in
     let same = c.start.ensures.shown in
-    rw (p.1, p.2) (no_session (command_of c.args.task) _ (g.O.Disk.may_leave c.start.new.outside) (shown g.O.Disk.tells g.O.Disk.reads g.O.Source.left g.O.Sink.taken g.O.Sink.told c.start.new.outside) changes input before (c.in_err-session.ensures.started changes before at.reads at.taken at.told) (ap (λ (o : Shown). o.left) same ∙ at.left) (ap (λ (o : Shown). o.taken) same ∙ at.taken))
+    rw (p.1, p.2) (no_session (item_for (command_of c.args.task)) _ (g.O.Disk.may_leave c.start.new.outside) (shown g.O.Disk.tells g.O.Disk.reads g.O.Source.left g.O.Sink.taken g.O.Sink.told c.start.new.outside) changes input before (c.in_err-session.ensures.started changes before at.reads at.taken at.told) (ap (λ (o : Shown). o.left) same ∙ at.left) (ap (λ (o : Shown). o.taken) same ∙ at.taken))
 
 pub returns-in_err-session-clause-any_moment : goal.returns-in_err-session-clause-any_moment
 returns-in_err-session-clause-any_moment g c = started g (goal.at.returns-in_err-session-clause-any_moment g c).After-start
@@ -103,7 +104,7 @@ returns-clause-any_moment g c = λ changes input before start stands.
     let after = (goal.at.returns-clause-any_moment g c).After-start in
     let at = starts_mid g after changes input before start in
     let same = c.start.ensures.shown in
-    goes_on g.O.Disk.moment g.O.Disk.left_since (command_of c.args.task) changes input before c.args.outside.now c.start.new.outside c.do_task.new.outside (started g after changes input before start stands)
+    goes_on g.O.Disk.moment g.O.Disk.left_since (item_for (command_of c.args.task)) changes input before c.args.outside.now c.start.new.outside c.do_task.new.outside (started g after changes input before start stands)
     (c.do_task.ensures.any_moment changes input before (ap (λ (o : Shown). o.left) same ∙ at.left) c.in_ok-session.ensures.untroubled (c.in_ok-session.ensures.started changes before at.reads at.taken at.told))
 
 pub returns-clause-found : goal.returns-clause-found
