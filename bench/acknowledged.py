@@ -12,14 +12,14 @@ from statistics import median
 from common import PROGRAM, TOP, build, folder
 
 
-def timed(command, chunks):
+def timed(command, chunks, reply_to):
     """Seconds from the first chunk to the last reply: each chunk is sent when the one before it is answered."""
     child = subprocess.Popen(command, stdin=subprocess.PIPE, stdout=subprocess.PIPE, bufsize=0)
     start = time.perf_counter()
     for number in range(chunks):
         child.stdin.write(b"%d + %d!\n" % (number, number))
         reply = child.stdout.readline()
-        assert reply == b"ok\n", reply
+        assert reply == reply_to(number), reply
     seconds = time.perf_counter() - start
     child.stdin.close()
     assert child.wait() == 0
@@ -39,8 +39,8 @@ def main():
             os.mkdir(work)
             least_work = os.path.join(place, f"floor{run}")
             os.mkdir(least_work)
-            least = timed([floor, least_work], chunks)
-            ours = timed([PROGRAM, work, "run"], chunks)
+            least = timed([floor, least_work], chunks, lambda number: b"ok\n")
+            ours = timed([PROGRAM, work, "run"], chunks, lambda number: b"=> %d\n" % (2 * number))
             ratios.append(ours / least)
             print(f"run {run + 1}: {chunks} chunks, floor {least:.3f} s, st80 {ours:.3f} s, ratio {ours / least:.3f}")
     print(f"median ratio {median(ratios):.3f} (at most 1.15 is wanted)")

@@ -1,0 +1,115 @@
+#!/usr/bin/env python3
+"""DoIts evaluated: messages and block calls in a second, beside the same program in python3.
+
+usage: bench/evaluating.py [TURNS]
+
+The shapes: a loop over timesRepeat:, a recursion, calls of a block, and each of them below a deep stack of activations. A third of Python's
+speed is wanted at least. Times are user seconds of whole processes, without those of a process that evaluates nothing.
+"""
+import os
+import resource
+import subprocess
+import sys
+
+from common import PROGRAM, build, folder
+
+CLASS = """Object subclass: #Measured
+	instanceVariableNames: ''
+	classVariableNames: ''
+	poolDictionaries: ''
+	category: 'Measured'!
+!Measured methodsFor: 'measured'!
+fib: n
+	^n < 2 ifTrue: [n] ifFalse: [(self fib: n - 1) + (self fib: n - 2)]!
+below: depth do: aBlock
+	^depth = 0 ifTrue: [aBlock value] ifFalse: [self below: depth - 1 do: aBlock]! !
+"""
+
+PYTHON = """import sys
+sys.setrecursionlimit(20000)
+
+class Measured:
+    def fib(self, n):
+        return n if n < 2 else self.fib(n - 1) + self.fib(n - 2)
+
+    def below(self, depth, block):
+        return block() if depth == 0 else self.below(depth - 1, block)
+
+def times_repeat(count, block):
+    n = 1
+    while n <= count:
+        block()
+        n = n + 1
+
+def loop():
+    n = 0
+    def add():
+        nonlocal n
+        n = n + 1
+    times_repeat(300000, add)
+    return n
+
+def recursion():
+    return Measured().fib(24)
+
+def blocks():
+    block = lambda x: x + 1
+    i = 0
+    while i < 300000:
+        i = block(i)
+    return i
+
+def below(block):
+    return Measured().below(900, block)
+"""
+
+LOOP = "n _ 0. 300000 timesRepeat: [n _ n + 1]. n"
+BLOCKS = "i _ 0. [i < 300000] whileTrue: [i _ b value: i]. i"
+
+# A shape: its doIt, its program in Python, how many messages and block calls it makes, and what it answers.
+SHAPES = {
+    "loop": (f"| n | {LOOP}", "loop()", 300_000, 300_000),
+    "recursion": ("Measured new fib: 24", "recursion()", 150_049, 46_368),
+    "blocks": (f"| b i | b _ [:x | x + 1]. {BLOCKS}", "blocks()", 300_000, 300_000),
+    "loop below 900": (f"| n | Measured new below: 900 do: [{LOOP}]", "below(loop)", 300_900, 300_000),
+    "blocks below 900": (f"| b i | b _ [:x | x + 1]. Measured new below: 900 do: [{BLOCKS}]", "below(blocks)", 300_900, 300_000),
+}
+
+
+def user_seconds(command, data):
+    """User seconds of a program on this input, and what it wrote."""
+    before = resource.getrusage(resource.RUSAGE_CHILDREN).ru_utime
+    found = subprocess.run(command, input=data.encode(), stdout=subprocess.PIPE, check=True)
+    return resource.getrusage(resource.RUSAGE_CHILDREN).ru_utime - before, found.stdout.decode().splitlines()
+
+
+def here(place, name, doit, turns, answer):
+    """User seconds of a doIt, evaluated so often."""
+    work = os.path.join(place, name.replace(" ", "-"))
+    os.mkdir(work)
+    least, replies = user_seconds([PROGRAM, work, "run"], CLASS)
+    assert replies == ["ok"] * 3, replies
+    seconds, replies = user_seconds([PROGRAM, work, "run"], f"{doit}!\n" * turns)
+    assert replies == [f"=> {answer}"] * turns, replies
+    return seconds - least
+
+
+def there(call, turns, answer):
+    """The same in Python."""
+    least, _ = user_seconds(["python3", "-"], PYTHON)
+    seconds, replies = user_seconds(["python3", "-"], PYTHON + f"for _ in range({turns}):\n    print({call})\n")
+    assert replies == [str(answer)] * turns, replies
+    return seconds - least
+
+
+def main():
+    turns = int(sys.argv[1]) if len(sys.argv) > 1 else 5
+    build()
+    with folder() as place:
+        for name, (doit, call, sends, answer) in SHAPES.items():
+            ours, python = here(place, name, doit, turns, answer), there(call, turns, answer)
+            print(f"{name}: {turns * sends / ours / 1e6:.2f} million sends a second, python3 {turns * sends / python / 1e6:.2f}, "
+                  f"{python / ours:.2f} of its speed (at least 0.33 is wanted)", flush=True)
+
+
+main()
