@@ -17,7 +17,7 @@ use Rattle.s80_machine.specs.World.{World, Context, Frame, Key, block, home, is_
 use Rattle.s80_machine.specs.Turn.{State, Turn, Block, Goes, deeper, given, holds_block, pushed_all, stops}
 use Rattle.s80_machine.specs.Step.{at_home, block_started, code_for, started, with_room}
 use Rattle.s80_machine.specs.Seen.{Given, IsActivated, Method}
-use Rattle.s80_machine.specs.Came.{Came, IsGiven, ShowsWorld, made_or_halt}
+use Rattle.s80_machine.specs.Came.{Came, IsGiven, IsMade, ShowsWorld}
 use Rattle.s80_machine.proofs.SoundLists.{all_got}
 use Rattle.s80_machine.proofs.CameParts.{made_on, made_world, not_made, when_false, when_true}
 
@@ -112,7 +112,7 @@ module _ (on : Given) (s : State) (key : Key) (code : Code) (r : Value) (tempora
 
   -- its home isn't made
   pub home_missing : holds_block code ≡ true → (old : Machine) → ShowsWorld on old s.world → (objects : Objects) (made : Result Value ObjectFault) (h : Halt) → Makes old.objects (body.home method r temporaries) objects made
-      → Err h ≡ made_or_halt made → Came on start (record old { objects = objects }) (Err h)
+      → IsMade made (Err h) → Came on start (record old { objects = objects }) (Err h)
   home_missing holds old shows objects made h makes is =
       let new : Machine = record old { objects = objects } in
       when_true on (holds_block code) (in_home (number_in s.world key)) (alone (number_in s.world key)) new (Err h) holds

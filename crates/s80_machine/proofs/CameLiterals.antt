@@ -17,7 +17,7 @@ use Rattle.s80_machine.specs.Lookup.{number}
 use Rattle.s80_machine.specs.Turn.{Turn, goes_on, stops}
 use Rattle.s80_machine.specs.Step.{first_pushed, literal_pushed}
 use Rattle.s80_machine.specs.Seen.{Does, Given, pushed}
-use Rattle.s80_machine.specs.Came.{Came, Shows, ShowsWorld, at_place, made_or_halt}
+use Rattle.s80_machine.specs.Came.{Came, IsMade, Shows, ShowsWorld, at_place}
 use Rattle.s80_machine.proofs.CameStores.{comes_so}
 
 -- ---- a value on top
@@ -57,10 +57,10 @@ module _ (on : Given) (c : Context) (rest : List Context) (w : World) (next k : 
   value_by None is = value_at_first is.0 is.1.0 is.1.1
 
   module _ (m : Machine) (shows : Shows on m (at_place c next rest w)) (strings arrays method : ℕ) (string_is : strings ≡ number on.table (codes "String")) (array_is : arrays ≡ number on.table (codes "Array")) (method_is : method ≡ c.method) where
-    is_made : (made : Result Value ObjectFault) → Ok v ≡ made_or_halt made → made ≡ Ok v
+    is_made : (made : Result Value ObjectFault) → IsMade made (Ok v) → made ≡ Ok v
     is_made (Ok x) is = let same : x ≡ v = cc in ap Ok same
     is_made (Err fault.Memory) is = cc
-    is_made (Err (fault.Full held)) is = cc
+    is_made (Err (fault.Full held)) is = absurd is
     is_made (Err fault.Range) is = cc
     is_made (Err fault.Kind) is = cc
 
@@ -83,7 +83,7 @@ module _ (on : Given) (c : Context) (rest : List Context) (w : World) (next k : 
     }
 
     pub literal_comes : (made : Result Value ObjectFault) (contexts : List Context) (r : Result (Unit {0}) Halt) → PushesLiteral (made_before method k m.objects) m.objects method k strings arrays l objects made
-        → Ok v ≡ made_or_halt made → Does (λ (done : Unit {0}). done) (pushed v) m.contexts contexts r
+        → IsMade made (Ok v) → Does (λ (done : Unit {0}). done) (pushed v) m.contexts contexts r
         → Came on (literal_pushed on.table on.methods on.code on.budget c next rest w k l) (record m { contexts = contexts; objects = objects }) r
     literal_comes made contexts r is value does =
         comes_so on _ _ (record m { contexts = contexts; objects = objects }) r

@@ -28,7 +28,6 @@ use Rattle.s80_prims.specs.Rows.{came_to, world_of}
 use Rattle.s80_verify.specs.Selector.{IsSelectorOf}
 use Rattle.s80_machine.specs.declared.activations.Block.{Block as KeptBlock}
 use Rattle.s80_machine.specs.declared.halt.Halt.{Halt}
-use Rattle.s80_machine.specs.declared.halt.Halt.TheVariants as halt
 use Rattle.s80_machine.specs.declared.lookup.Found.{Found as FoundCode}
 use Rattle.s80_machine.specs.declared.machine.Machine.{Machine}
 use Rattle.s80_machine.specs.World.{World, Key, method, Context, changed, reached, waiting}
@@ -36,13 +35,14 @@ use Rattle.s80_machine.specs.Lookup.{Found, Place}
 use Rattle.s80_machine.specs.Turn.{Turn, Stuck, Block, at_once, block_with, given, goes_on, is_value, special_selectors, unary_in}
 use Rattle.s80_machine.specs.Step.{block_activated, by_effect, by_primitive, found_turn, method_turn, special_turn}
 use Rattle.s80_machine.specs.Sound.{IsSetting}
-use Rattle.s80_machine.specs.Seen.{Does, Given, IsBlock, IsFound, block_of, pushed}
+use Rattle.s80_machine.specs.Seen.{Does, EndsRun, Given, IsBlock, IsFound, block_of, pushed}
 use Rattle.s80_machine.specs.Came.{Came, Shows, ShowsWorld, places, sends}
 use Rattle.s80_machine.specs.Messages.{Takes, activates, finds, performs, refuses, runs, runs_method, runs_primitive, sends_one}
 use Rattle.s80_machine.proofs.SoundClasses.{found_at}
 use Rattle.s80_machine.proofs.SoundEnds.{block_takes}
 use Rattle.s80_machine.proofs.SoundLists.{same_number}
 use Rattle.s80_machine.proofs.SoundOperands.{one_selector}
+use Rattle.s80_machine.proofs.CameParts.{ends_so}
 use Rattle.s80_machine.proofs.CameSends.{alive, itself, pushed_came}
 
 -- ---- a method that was found takes the arguments
@@ -372,10 +372,10 @@ module _ (on : Given) (m : Machine) (c : Context) (rest : List Context) (w : Wor
       let world = stays (subst (λ a. IsStillAs a (world_of objects transcript) (reached w)) fails still) in
       by_applied new result (subst (λ a. Came on (to a) new result) (sym fails) (goes (record { contexts = shows.contexts; world = world })))
 
-  pub primitive_stops : (stop : Stop) (h : Halt) → applied ≡ Stops stop → h ≡ halt.Ended (Stopped stop) → Run after (Err h)
+  pub primitive_stops : (stop : Stop) (h : Halt) → applied ≡ Stops stop → EndsRun (Stopped stop) h → Run after (Err h)
   primitive_stops stop h stops told =
       let world = stays (subst (λ a. IsStillAs a (world_of objects transcript) (reached w)) stops still) in
-      by_applied after (Err h) (subst (λ a. Came on (to a) after (Err h)) (sym stops) (subst (λ h. Came on (to (Stops stop)) after (Err h)) (sym told) (refl, world)))
+      by_applied after (Err h) (subst (λ a. Came on (to a) after (Err h)) (sym stops) (ends_so on (Stopped stop) w after h told world))
 
 -- ---- special messages
 

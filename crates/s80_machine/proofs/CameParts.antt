@@ -6,16 +6,17 @@ use Rattle.s80_object.specs.Objects.{State as Objects, Makes, with_body}
 use Rattle.s80_object.specs.declared.value.ObjectFault.{ObjectFault}
 use Rattle.s80_object.specs.declared.value.ObjectFault.TheVariants as fault
 use Rattle.s80_object.specs.declared.value.Value.{Value}
+use Rattle.s80_prims.specs.declared.stop.End.{End}
 use Rattle.s80_prims.specs.declared.stop.End.TheVariants.{Stopped}
 use Rattle.s80_prims.specs.declared.stop.Stop.TheVariants.{Budget, Deep, ObjectsFull}
 use Rattle.s80_machine.specs.declared.halt.Halt.{Halt}
 use Rattle.s80_machine.specs.declared.halt.Halt.TheVariants as halt
 use Rattle.s80_machine.specs.declared.machine.Machine.{Machine}
 use Rattle.s80_machine.specs.World.{World, Context, one_tick, with_objects}
-use Rattle.s80_machine.specs.Turn.{Turn, deeper, depth_limit, stops, ticked}
+use Rattle.s80_machine.specs.Turn.{Ends, Turn, deeper, depth_limit, stops, ticked}
 use Rattle.s80_machine.specs.Step.{with_room}
-use Rattle.s80_machine.specs.Seen.{Given}
-use Rattle.s80_machine.specs.Came.{Came, ChecksDepth, ShowsWorld, Ticks, made_or_halt}
+use Rattle.s80_machine.specs.Seen.{EndsRun, Given}
+use Rattle.s80_machine.specs.Came.{Came, ChecksDepth, IsMade, ShowsWorld, Ticks}
 
 at_most : (a b : ℕ) → a ≤ b → nat_le a b ≡ true
 at_most a b h = grind (arith, nat_tests)
@@ -27,14 +28,20 @@ below : (a b : ℕ) → a < b → nat_lt a b ≡ true
 below a b h = grind (arith, nat_tests)
 
 -- what was made after all
-pub made_is : (old new : Objects) (b : BodyTree) (made : Result Value ObjectFault) (v : Value) → Makes old b new made → Ok v ≡ made_or_halt made → Makes old b new (Ok v)
+pub made_is : (old new : Objects) (b : BodyTree) (made : Result Value ObjectFault) (v : Value) → Makes old b new made → IsMade made (Ok v) → Makes old b new (Ok v)
 made_is old new b (Ok u) v makes is = let same : u ≡ v = cc is in subst (λ v. Makes old b new (Ok v)) same makes
 made_is old new b (Err fault.Memory) v makes is = absurd (let f : ⊥ = cc is in f)
-made_is old new b (Err (fault.Full held)) v makes is = absurd (let f : ⊥ = cc is in f)
+made_is old new b (Err (fault.Full held)) v makes is = absurd is
 made_is old new b (Err fault.Range) v makes is = absurd makes
 made_is old new b (Err fault.Kind) v makes is = absurd makes
 
 module _ (on : Given) where
+  -- a run that has ended so, or memory was wanting
+  pub ends_so : (end : End) (w : World) (new : Machine) (h : Halt) → EndsRun end h → ShowsWorld on new w → Came on (Ends end w) new (Err h)
+  ends_so end w new halt.Memory is shows = tt
+  ends_so end w new (halt.Ended told) is shows = (is, shows)
+  ends_so end w new halt.Stuck is shows = absurd is
+
   pub when_true : (b : Bool) (x y : Turn) (new : Machine) (result : Result (Unit {0}) Halt) → b ≡ true → Came on x new result → Came on (if b then x else y) new result
   when_true b x y new result is came = subst (λ (b : Bool). Came on (if b then x else y) new result) (sym is) came
 
@@ -111,19 +118,17 @@ module _ (on : Given) where
       variables = shows.variables;
     }
 
-    no_room : (held : ℕ) → Makes old.objects b objects (Err (fault.Full held)) → Came on (with_room w b go) (record old { objects = objects }) (Err (halt.Ended (Stopped (ObjectsFull held))))
-    no_room held makes =
+    no_room : (held : ℕ) (h : Halt) → Makes old.objects b objects (Err (fault.Full held)) → EndsRun (Stopped (ObjectsFull held)) h → Came on (with_room w b go) (record old { objects = objects }) (Err h)
+    no_room held h makes is =
         let words : words_of old.objects.bodies ≡ words_of w.objects.bodies = ap (λ (s : Objects). words_of s.bodies) shows.objects in
         let full : word_limit < words_of w.objects.bodies + cost b = subst (λ n. word_limit < n + cost b) words makes.1.1 in
         when_false (nat_le (words_of w.objects.bodies + cost b) word_limit) (go (with_objects w (with_body w.objects b))) (stops (ObjectsFull (words_of w.objects.bodies)) w)
-        (record old { objects = objects }) (Err (halt.Ended (Stopped (ObjectsFull held)))) (too_many (words_of w.objects.bodies + cost b) word_limit full)
-        (ap (λ n. Stopped (ObjectsFull n)) (makes.1.0 ∙ words), same_world makes.0)
+        (record old { objects = objects }) (Err h) (too_many (words_of w.objects.bodies + cost b) word_limit full)
+        (ends_so (Stopped (ObjectsFull (words_of w.objects.bodies))) w (record old { objects = objects }) h (subst (λ n. EndsRun (Stopped (ObjectsFull n)) h) (makes.1.0 ∙ words) is) (same_world makes.0))
 
-    pub not_made : (made : Result Value ObjectFault) (h : Halt) → Makes old.objects b objects made → Err h ≡ made_or_halt made → Came on (with_room w b go) (record old { objects = objects }) (Err h)
+    pub not_made : (made : Result Value ObjectFault) (h : Halt) → Makes old.objects b objects made → IsMade made (Err h) → Came on (with_room w b go) (record old { objects = objects }) (Err h)
     not_made (Ok v) h makes is = absurd (let f : ⊥ = cc is in f)
     not_made (Err fault.Memory) h makes is = let memory : halt.Memory ≡ h = cc is in subst (λ (h : Halt). Came on (with_room w b go) (record old { objects = objects }) (Err h)) memory tt
-    not_made (Err (fault.Full held)) h makes is =
-        let full : halt.Ended (Stopped (ObjectsFull held)) ≡ h = cc is in
-        subst (λ (h : Halt). Came on (with_room w b go) (record old { objects = objects }) (Err h)) full (no_room held makes)
+    not_made (Err (fault.Full held)) h makes is = no_room held h makes is
     not_made (Err fault.Range) h makes is = absurd makes
     not_made (Err fault.Kind) h makes is = absurd makes

@@ -22,6 +22,7 @@ use Rattle.s80_machine.specs.Step.{code_for}
 use Rattle.s80_machine.specs.Seen.{Does, DoesOne, Given, Method, Numbers, is_method, message_in, message_taken, pushed, with_stack}
 use Rattle.s80_machine.specs.Came.{Came, ChecksDepth, IsGiven, Shows, ShowsWorld, Ticks, TopIsKnown, at_place, left_at}
 use Rattle.s80_machine.specs.Messages.{ReceiverIsKnown}
+use Rattle.s80_machine.proofs.CameParts.{ends_so}
 use Rattle.s80_machine.proofs.SoundLists.{keys_same, numbered_there}
 
 -- activations that are alive, in a world
@@ -65,9 +66,8 @@ same_world on m w contexts shows = record {
 module _ (on : Given) (m : Machine) (w : World) where
   pub tick_stops : ShowsWorld on m w → (budget : ℕ) (go : World → Turn) (new : Machine) (h : Halt) → Ticks budget m new (Err h) → Came on (ticked budget w go) new (Err h)
   tick_stops shows budget go new h is =
-      subst (λ h. Came on (ticked budget w go) new (Err h)) (sym is.1.1)
-      (subst (λ b. Came on (if b then go (one_tick w) else stops (Budget budget) w) new (Err (halt.Ended (Stopped (Budget budget))))) (sym none)
-      (refl, subst (λ m. ShowsWorld on m w) (sym is.1.0) shows))
+      subst (λ b. Came on (if b then go (one_tick w) else stops (Budget budget) w) new (Err h)) (sym none)
+      (ends_so on (Stopped (Budget budget)) w new h is.1.1 (subst (λ m. ShowsWorld on m w) (sym is.1.0) shows))
     where
       past : budget ≤ w.ticks
       past = subst (λ n. budget ≤ n) shows.ticks is.0
@@ -106,8 +106,7 @@ module _ (on : Given) (m : Machine) (w : World) where
 
   pub too_deep : (contexts : List Context) (go : Turn) (h : Halt) → Shows on m (alive contexts w) → ChecksDepth m.contexts (Err h) → Came on (deeper contexts w go) m (Err h)
   too_deep contexts go h shows is =
-      subst (λ h. Came on (deeper contexts w go) m (Err h)) (sym is.1)
-      (subst (λ b. Came on (if b then go else stops Deep w) m (Err (halt.Ended (Stopped Deep)))) (sym none) (refl, shows.world))
+      subst (λ b. Came on (if b then go else stops Deep w) m (Err h)) (sym none) (ends_so on (Stopped Deep) w m h is.1 shows.world)
     where
       many : depth_limit ≤ length contexts
       many = subst (λ l. depth_limit ≤ length l) shows.contexts is.0

@@ -24,6 +24,7 @@ use Rattle.s80_machine.specs.Step.{act, copy_turn, jump, special_turn}
 use Rattle.s80_machine.specs.Seen.{Does, DoesOne, Given, IsEnded, IsUnwound, Method, below_home, popped, popped_from, topped, topped_in, with_stack}
 use Rattle.s80_machine.specs.Came.{Came, Shows, ShowsWorld, Ticks}
 use Rattle.s80_machine.specs.Acts.{Acts, left_by}
+use Rattle.s80_machine.proofs.CameParts.{ends_so}
 
 -- a machine with other activations
 abbrev pub with_contexts : Machine → List Context → Machine
@@ -142,7 +143,7 @@ module _ (on : Given) where
         let most : budget ≤ w.ticks = omega (arith, past, shows.world.ticks) in
         let test : nat_lt w.ticks budget ≡ false = grind (arith, nat_tests) in
         subst (λ b. Came on (if b then go (one_tick w) else stops (Budget budget) w) new (Err fault)) (sym test)
-        (subst (λ f. Came on (stops (Budget budget) w) new (Err f)) (sym is) (refl, subst (λ m. ShowsWorld on m w) (sym same) shows.world))
+        (ends_so on (Stopped (Budget budget)) w new fault is (subst (λ m. ShowsWorld on m w) (sym same) shows.world))
 
   -- ---- returns
 
@@ -178,9 +179,8 @@ module _ (on : Given) where
       where
         by_left : (o : Option (List Context)) → left_by c.frame rest ≡ o → IsUnwound o m.contexts new (Err fault) → Came on (return_from c.frame v rest w) (with_contexts m new) (Err fault)
         by_left None e h =
-            let told : fault ≡ halt.Ended (Stopped CannotReturn) = cc (h.0) in
             subst (λ t. Came on t (with_contexts m new) (Err fault)) (sym (none_left c.frame v rest w e))
-            (subst (λ f. Came on (stops CannotReturn w) (with_contexts m new) (Err f)) (sym told) (refl, same_world m w new shows.world))
+            (ends_so on (Stopped CannotReturn) w (with_contexts m new) fault h.0 (same_world m w new shows.world))
         by_left (Some left) e h = let is = h.0 in cc
 
     pub unwound_goes : (x : Machine) (r : Result (Unit {0}) Halt) → IsUnwound (left_by c.frame rest) m.contexts new (Ok tt)
@@ -188,7 +188,7 @@ module _ (on : Given) where
     unwound_goes x r unwound goes = by_left (left_by c.frame rest) refl unwound
       where
         by_left : (o : Option (List Context)) → left_by c.frame rest ≡ o → IsUnwound o m.contexts new (Ok tt) → Came on (return_from c.frame v rest w) x r
-        by_left None e h = let is = h.0 in cc
+        by_left None e h = absurd h
         by_left (Some left) e h = subst (λ t. Came on t x r) (sym (left_is c.frame v rest w left e)) (goes left (shows_other m (c ∷ rest) new left w h.1 shows))
 
   -- ---- a part that may be there

@@ -23,7 +23,7 @@ use Rattle.s80_machine.specs.Lookup.{Place}
 use Rattle.s80_machine.specs.Turn.{State, Turn, Goes, Ends, Stuck, depth_limit, special_selectors}
 use Rattle.s80_machine.specs.Step.{code_for, places_above, places_for, push, sent, store}
 use Rattle.s80_machine.specs.Sound.{IsSetting}
-use Rattle.s80_machine.specs.Seen.{AreNumbers, Given, Method, value_in, value_of}
+use Rattle.s80_machine.specs.Seen.{AreNumbers, EndsRun, Given, Method, value_in, value_of}
 
 -- ---- what a run is given
 
@@ -77,17 +77,19 @@ pub record IsNew (m : Machine) : Type 0 where
 
 abbrev pub Ticks : ℕ → Machine → Machine → Result (Unit {0}) Halt → Type 0
 Ticks budget old new (Ok done) = (old.ticks < budget) × (new ≡ record old { ticks = old.ticks + 1 })
-Ticks budget old new (Err h) = (budget ≤ old.ticks) × ((new ≡ old) × (h ≡ halt.Ended (Stopped (Budget budget))))
+Ticks budget old new (Err h) = (budget ≤ old.ticks) × ((new ≡ old) × EndsRun (Stopped (Budget budget)) h)
 
 abbrev pub ChecksDepth : List Context → Result (Unit {0}) Halt → Type 0
 ChecksDepth alive (Ok done) = length alive < depth_limit
-ChecksDepth alive (Err h) = (depth_limit ≤ length alive) × (h ≡ halt.Ended (Stopped Deep))
+ChecksDepth alive (Err h) = (depth_limit ≤ length alive) × EndsRun (Stopped Deep) h
 
-abbrev pub made_or_halt : Result Value ObjectFault → Result Value Halt
-made_or_halt (Ok v) = Ok v
-made_or_halt (Err fault.Memory) = Err halt.Memory
-made_or_halt (Err (fault.Full held)) = Err (halt.Ended (Stopped (ObjectsFull held)))
-made_or_halt (Err _) = Err halt.Stuck
+-- an object that isn't made stops the run
+abbrev pub IsMade : Result Value ObjectFault → Result Value Halt → Type 0
+IsMade (Ok v) result = result ≡ Ok v
+IsMade (Err (fault.Full held)) (Err h) = EndsRun (Stopped (ObjectsFull held)) h
+IsMade (Err (fault.Full held)) (Ok v) = ⊥
+IsMade (Err fault.Memory) result = result ≡ Err halt.Memory
+IsMade (Err _) result = result ≡ Err halt.Stuck
 
 -- a machine whose world alone was changed, where a part was there
 abbrev pub Stores : Given → Option World → Machine → Machine → Result (Unit {0}) Halt → Type 0

@@ -14,6 +14,7 @@ use Rattle.s80_object.specs.Literal.{added_once}
 use Rattle.s80_object.specs.declared.value.Value.{Value}
 use Rattle.s80_object.specs.declared.value.Value.TheVariants as value
 use Rattle.s80_prims.specs.Classes.{number_of}
+use Rattle.s80_prims.specs.declared.stop.End.{End}
 use Rattle.s80_prims.specs.declared.stop.End.TheVariants.{Stopped}
 use Rattle.s80_prims.specs.declared.stop.Stop.TheVariants.{CannotReturn}
 use Rattle.s80_machine.specs.declared.context.Frame.{Frame as Kept}
@@ -125,6 +126,14 @@ IsTemporarySet (own old) i v _ result = ⊥
 IsTemporarySet (home h) i v new result = result ≡ Err halt.Stuck
 IsTemporarySet (block b h) i v new result = result ≡ Err halt.Stuck
 
+-- ---- ends of runs
+
+-- a run has ended so; how it ended is kept outside, which wants memory
+abbrev pub EndsRun : End → Halt → Type 0
+EndsRun end halt.Memory = Unit {0}
+EndsRun end (halt.Ended told) = told ≡ end
+EndsRun end halt.Stuck = ⊥
+
 -- ---- ends of activations
 
 -- the active context is ended
@@ -139,7 +148,8 @@ below_home h (c ∷ rest) = if is_home h c then Some rest else below_home h rest
 
 abbrev pub IsUnwound : Option (List Context) → List Context → List Context → Result (Unit {0}) Halt → Type 0
 IsUnwound (Some rest) old new result = (result ≡ Ok tt) × (new ≡ rest)
-IsUnwound None old new result = (result ≡ Err (halt.Ended (Stopped CannotReturn))) × (new ≡ old)
+IsUnwound None old new (Ok done) = ⊥
+IsUnwound None old new (Err h) = EndsRun (Stopped CannotReturn) h × (new ≡ old)
 
 -- ---- classes
 

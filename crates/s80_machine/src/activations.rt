@@ -46,7 +46,7 @@ impl<'a> Machine<'a> {
         let stack = Vec::new(on.alloc);
         if activated.holds_block {
             let home = make_home(&mut self.objects, method, receiver, count, &arguments);
-            let Value::Object(home) = made(home)? else {
+            let Value::Object(home) = made(on.alloc, home)? else {
                 return Err(Halt::Stuck);
             };
             self.begin(Context {
@@ -106,7 +106,7 @@ impl<'a> Machine<'a> {
     {
         self.tick(on.budget)?;
         if self.contexts.is_active(block.object) {
-            return Err(Halt::stop(Stop::BlockActive));
+            return Err(Halt::stop(on.alloc, Stop::BlockActive));
         }
         self.check_depth()?;
         let Value::Object(home) = block.home else {
@@ -148,7 +148,10 @@ impl<'a> Machine<'a> {
         ensures { (on : Given) (c : Context) (rest : List Context) (w : World) → Shows on self.old (record { contexts = c ∷ rest; world = w })
             → Came on (with_room w (block (Object home) start count) (goes_on c c.place (Object (length w.objects.bodies) ∷ c.stack) rest)) self.new result }
     {
-        let block = made(self.objects.make_block(Value::Object(home), start, count))?;
+        let block = made(
+            self.alloc,
+            self.objects.make_block(Value::Object(home), start, count),
+        )?;
         self.contexts.push(block)
     }
 }

@@ -169,11 +169,11 @@ impl Contexts {
     }
 
     /// Ends all contexts down to the activation that has this home, and that one too.
-    pub(crate) fn end_to_home(&mut self, home: u32) -> Result<(), Halt>
+    pub(crate) fn end_to_home(&mut self, alloc: Global, home: u32) -> Result<(), Halt>
         ensures { IsUnwound (below_home home self.old) self.old self.new result }
     {
         let Some(place) = place_of_home(&self.contexts, home) else {
-            return Err(Halt::stop(Stop::CannotReturn));
+            return Err(Halt::stop(alloc, Stop::CannotReturn));
         };
         take_all_off(&mut self.counts, &self.contexts[place..]);
         self.contexts.truncate(place);

@@ -105,7 +105,7 @@ fn ended(halt: Halt) -> Result<End, OutOfMemory>
     ensures { IfOk result (λ end. halt ≡ Ended end) }
 {
     match halt {
-        Halt::Ended(end) => Ok(end),
+        Halt::Ended(ending) => Ok(ending.end()),
         Halt::Memory => Err(OutOfMemory),
         Halt::Stuck => unreachable!(),
     }

@@ -1,6 +1,6 @@
 // A run's state, and what its steps are made of.
 ghost use Rattle.std.specs.Prelude.{◌≡◌};
-ghost use Rattle.s80_machine.specs.Came.{ChecksDepth, IsNew, Ticks, made_or_halt};
+ghost use Rattle.s80_machine.specs.Came.{ChecksDepth, IsMade, IsNew, Ticks};
 
 use crate::contexts::Contexts;
 use crate::halt::Halt;
@@ -17,6 +17,7 @@ const DEPTH_LIMIT: usize = 10_000;
 /// What a run changes.
 #[derive(Debug, Drop)]
 pub(crate) struct Machine<'a> {
+    pub alloc: Global,
     pub contexts: Contexts,
     pub objects: Objects,
     pub transcript: Text,
@@ -31,6 +32,7 @@ impl<'a> Machine<'a> {
         ensures { IsNew result }
     {
         Machine {
+            alloc,
             contexts: Contexts::none(alloc),
             objects: Objects::empty(alloc),
             transcript: Text::empty(alloc),
@@ -45,7 +47,7 @@ impl<'a> Machine<'a> {
         ensures { Ticks budget self.old self.new result }
     {
         if self.ticks >= budget {
-            return Err(Halt::stop(Stop::Budget(budget)));
+            return Err(Halt::stop(self.alloc, Stop::Budget(budget)));
         }
         self.ticks += 1;
         Ok(())
@@ -58,19 +60,19 @@ impl<'a> Machine<'a> {
         if self.contexts.count() < DEPTH_LIMIT {
             Ok(())
         } else {
-            Err(Halt::stop(Stop::Deep))
+            Err(Halt::stop(self.alloc, Stop::Deep))
         }
     }
 }
 
 /// An object that isn't made stops the run.
-pub(crate) fn made(value: Result<Value, ObjectFault>) -> Result<Value, Halt>
-    ensures { result ≡ made_or_halt value }
+pub(crate) fn made(alloc: Global, value: Result<Value, ObjectFault>) -> Result<Value, Halt>
+    ensures { IsMade value result }
 {
     match value {
         Ok(value) => Ok(value),
         Err(ObjectFault::Memory) => Err(Halt::Memory),
-        Err(ObjectFault::Full(words)) => Err(Halt::stop(Stop::ObjectsFull(words))),
+        Err(ObjectFault::Full(words)) => Err(Halt::stop(alloc, Stop::ObjectsFull(words))),
         Err(_) => Err(Halt::Stuck),
     }
 }

@@ -274,7 +274,7 @@ impl<'a> Machine<'a> {
         match applied {
             Applied::Done(value) => self.contexts.push(value),
             Applied::Fails => self.activate_found(on, found, selector, receiver, arguments),
-            Applied::Stops(stop) => Err(Halt::stop(stop)),
+            Applied::Stops(stop) => Err(Halt::stop(on.alloc, stop)),
         }
     }
 
@@ -385,7 +385,7 @@ fn not_understood(on: &Setting<'_>, objects: &Objects, receiver: Value, selector
         return Halt::Stuck;
     };
     match not_understood_by(on, class, side, selector) {
-        Ok(stop) => Halt::stop(stop),
+        Ok(stop) => Halt::stop(on.alloc, stop),
         Err(OutOfMemory) => Halt::Memory,
     }
 }

@@ -23,6 +23,7 @@ use crate::stores::selector_at;
 use s80_code::{Code, Instruction, Storage, decode};
 use s80_object::Value;
 use s80_prims::Stop;
+use std::alloc::Global;
 
 /// The number of the message that begins a real block.
 const BLOCK_COPY: u8 = 24;
@@ -231,7 +232,7 @@ impl<'a> Machine<'a> {
     {
         let value = self.contexts.pop()?;
         let Some(is_true) = as_bool(value) else {
-            return Err(Halt::stop(Stop::NonBoolean));
+            return Err(Halt::stop(self.alloc, Stop::NonBoolean));
         };
         if is_true == wanted {
             self.jump(next, distance)
@@ -269,7 +270,7 @@ impl<'a> Machine<'a> {
         ensures { (on : Given) (c : Context) (rest : List Context) (w : World) → Shows on self.old (record { contexts = c ∷ rest; world = w })
             → Came on (return_from c.frame value rest w) self.new result }
     {
-        end_method(&mut self.contexts)?;
+        end_method(self.alloc, &mut self.contexts)?;
         self.deliver(value)
     }
 
@@ -279,19 +280,19 @@ impl<'a> Machine<'a> {
             → Came on (deliver value rest w) self.new result }
     {
         if self.contexts.count() == 0 {
-            return Err(Halt::answer(value));
+            return Err(Halt::answer(self.alloc, value));
         }
         self.contexts.push(value)
     }
 }
 
 // Ends the active context, and from a block all down to its home.
-fn end_method(contexts: &mut Contexts) -> Result<(), Halt>
+fn end_method(alloc: Global, contexts: &mut Contexts) -> Result<(), Halt>
     ensures { (c : Context) (rest : List Context) → contexts.old ≡ c ∷ rest → IsUnwound (left_by c.frame rest) contexts.old contexts.new result }
 {
     let active = contexts.active().ok_or(Halt::Stuck)?;
     match active.frame {
-        Frame::Block { home, .. } => contexts.end_to_home(home),
+        Frame::Block { home, .. } => contexts.end_to_home(alloc, home),
         _ => contexts.end(),
     }
 }

@@ -66,7 +66,10 @@ impl<'a> Machine<'a> {
         let literal = constant(code, k).ok_or(Halt::Stuck)?;
         let method = self.contexts.active().ok_or(Halt::Stuck)?.method;
         let (string, array) = (on.kernel.string, on.kernel.array);
-        let value = made(self.objects.literal(method, k, string, array, literal))?;
+        let value = made(
+            on.alloc,
+            self.objects.literal(method, k, string, array, literal),
+        )?;
         self.contexts.push(value)
     }
 

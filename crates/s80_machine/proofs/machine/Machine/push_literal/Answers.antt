@@ -17,4 +17,4 @@ returns c = λ d rest w next shows.
     (literal_comes on d rest w next c.args.k (literal_of c.in_ok-literal.literal.now) c.literal.new.self c.in_ok-value.value c.args.self.now shows
     c.args.on.now.kernel.string c.args.on.now.kernel.array c.branch.inside.method
     (sym (ap (λ o. unwrap_or o 0) c.requires.numbers.string)) (sym (ap (λ o. unwrap_or o 0) c.requires.numbers.array)) (ap (λ a. a.method) (c.branch.view_is ∙ is))
-    c.literal.result c.push.new.self c.push.result c.literal.ensures (sym c.in_ok-value.was ∙ c.made.ensures) c.push.ensures)
+    c.literal.result c.push.new.self c.push.result c.literal.ensures c.in_ok-value.ensures c.push.ensures)
