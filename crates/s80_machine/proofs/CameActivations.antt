@@ -3,7 +3,6 @@ use Rattle.std.proofs.Common.{◌≡◌, ◌∙◌, ap, sym, subst, refl, ℕ, z
 use mathlib.Core.List.{reverse_aux}
 use Rattle.std.specs.Option.{MatchOption}
 use Rattle.s80_code.specs.declared.code.Code.{Code}
-use Rattle.s80_object.specs.Body.{BodyTree}
 use Rattle.s80_object.specs.Body as body
 use Rattle.s80_object.specs.Objects.{State as Objects, Makes, body_at, home_parts_of, with_body}
 use Rattle.s80_object.specs.declared.value.ObjectFault.{ObjectFault}

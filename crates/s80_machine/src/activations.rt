@@ -1,5 +1,5 @@
 // Activations of methods and blocks, and how blocks are made.
-ghost use Rattle.std.specs.Prelude.{◌≡◌, ◌≤◌, ◌<◌, ◌+◌, ◌^◌, ◌∷◌, ◌++◌, ◌-◌, IfOk, ℕ, List, Some, length, replicate, slice_get};
+ghost use Rattle.std.specs.Prelude.{◌≡◌, ◌≤◌, ◌<◌, ◌+◌, ◌^◌, ◌∷◌, ◌++◌, ◌-◌, IfOk, List, Some, length, replicate, slice_get};
 ghost use Rattle.s80_code.specs.declared.code.Code.{Code};
 ghost use Rattle.s80_object.specs.Body.{block, home, number_to};
 ghost use Rattle.s80_object.specs.Objects.{IsHome, Makes, body_at};
@@ -12,6 +12,7 @@ ghost use Rattle.s80_machine.specs.Seen.{Given, IsBlock, block_of};
 ghost use Rattle.s80_machine.specs.Acts.{TopCountsFew};
 
 use crate::context::{Context, Frame};
+use crate::contexts::emptied;
 use crate::halt::Halt;
 use crate::machine::{Machine, made};
 use crate::setting::Setting;
@@ -43,7 +44,6 @@ impl<'a> Machine<'a> {
     {
         let activated = self.methods.get(method).ok_or(Halt::Stuck)?;
         let count = activated.code.temporaries;
-        let stack = Vec::new(on.alloc);
         if activated.holds_block {
             let home = make_home(&mut self.objects, method, receiver, count, &arguments);
             let Value::Object(home) = made(on.alloc, home)? else {
@@ -54,10 +54,11 @@ impl<'a> Machine<'a> {
                 receiver,
                 frame: Frame::Home(home),
                 place: 0,
-                stack,
+                stack: emptied(arguments),
             })
         } else {
             let temporaries = with_nils(arguments, count)?;
+            let stack = self.contexts.take_room(on.alloc);
             self.begin(Context {
                 method,
                 receiver,

@@ -1,12 +1,11 @@
 // Activations.
-ghost use Rattle.std.specs.Prelude.{◌≡◌};
+ghost use Rattle.std.specs.Prelude.{◌≡◌, []};
 ghost use Rattle.s80_machine.specs.Counted.{block_in};
 ghost use Rattle.s80_machine.specs.World.{home_in, is_home, is_home_frame};
 ghost use Rattle.s80_machine.specs.Seen.{DoesIn, IsOwnSet, IsTemporarySet, frame_of, message_taken, moved, popped, pushed, temporary_set, topped, two_answered, two_in};
 
 use crate::halt::Halt;
 use s80_object::Value;
-use std::alloc::Global;
 use std::marker::Model;
 
 /// Where an activation has its temporaries.
@@ -140,12 +139,13 @@ impl Context {
         }
     }
 
-    /// Takes so many arguments off the stack, of which the last is on top, and the receiver below them.
+    /// Takes so many arguments off the stack into this room, of which the last is on top, and the receiver below them.
     pub(crate) fn take_message(
         &mut self,
-        alloc: Global,
+        mut arguments: Vec<Value>,
         count: u8,
     ) -> Result<(Value, Vec<Value>), Halt>
+        requires empty { arguments.items ≡ [] }
         ensures does { DoesIn (λ p. (p.0, p.1.items)) (message_taken count self.old) self.new result }
         ensures stays { block_in self.new.frame ≡ block_in self.old.frame }
     {
@@ -153,7 +153,6 @@ impl Context {
             return Err(Halt::Stuck);
         };
         let receiver = self.stack[below];
-        let mut arguments = Vec::new(alloc);
         arguments.extend_from_slice(&self.stack[below + 1..])?;
         self.stack.truncate(below);
         Ok((receiver, arguments))

@@ -5,7 +5,7 @@ ghost use Rattle.s80_machine.specs.Counted.{count_of, one_of};
 ghost use Rattle.s80_machine.specs.Seen.{Does, IsEnded, IsUnwound, below_home, message_taken, moved, popped, pushed, temporary_set, topped, two_answered, two_on_top};
 ghost use Rattle.s80_machine.specs.World.{is_active};
 
-use crate::context::Context;
+use crate::context::{Context, Frame};
 use crate::halt::Halt;
 use s80_base::OutOfMemory;
 use s80_object::Value;
@@ -21,6 +21,8 @@ pub(crate) struct Contexts {
     contexts: Vec<Context>,
     // How many of them are of each block, at the number of its object. A block past the end has none.
     counts: Vec<u32>,
+    // Room that ended activations left, for arguments and stacks. What it holds says nothing.
+    rooms: Vec<Vec<Value>>,
 }
 
 impl Model for Contexts {
@@ -42,6 +44,7 @@ impl Contexts {
         Contexts {
             contexts: Vec::new(alloc),
             counts: Vec::new(alloc),
+            rooms: Vec::new(alloc),
         }
     }
 
@@ -112,7 +115,23 @@ impl Contexts {
         let Some(active) = self.contexts.last_mut() else {
             return Err(Halt::Stuck);
         };
-        active.take_message(alloc, count)
+        active.take_message(take_room(&mut self.rooms, alloc), count)
+    }
+
+    /// Pushes the answer to a message whose arguments were taken, and keeps their room.
+    pub(crate) fn answer(&mut self, arguments: Vec<Value>, value: Value) -> Result<(), Halt>
+        ensures { Does (λ done. done) (pushed value) self.old self.new result }
+    {
+        keep_room(&mut self.rooms, arguments);
+        self.push(value)
+    }
+
+    /// Room for the stack of an activation.
+    pub(crate) fn take_room(&mut self, alloc: Global) -> Vec<Value>
+        ensures empty { result.items ≡ [] }
+        ensures same { self.new ≡ self.old }
+    {
+        take_room(&mut self.rooms, alloc)
     }
 
     /// The two on top of the active context's stack: a receiver, and its argument above it.
@@ -155,13 +174,14 @@ impl Contexts {
         active.set_temporary(i, value)
     }
 
-    /// Ends the active context. Takes no memory.
+    /// Ends the active context, and keeps its room.
     pub(crate) fn end(&mut self) -> Result<(), Halt>
         ensures { IsEnded self.old self.new result }
     {
         match self.contexts.pop() {
             Some(ended) => {
                 take_off(&mut self.counts, &ended);
+                keep_rooms(&mut self.rooms, ended);
                 Ok(())
             }
             None => Err(Halt::Stuck),
@@ -176,7 +196,7 @@ impl Contexts {
             return Err(Halt::stop(alloc, Stop::CannotReturn));
         };
         take_all_off(&mut self.counts, &self.contexts[place..]);
-        self.contexts.truncate(place);
+        end_from(&mut self.contexts, place, &mut self.rooms);
         Ok(())
     }
 
@@ -185,6 +205,48 @@ impl Contexts {
         ensures { result ≡ is_active block self.now }
     {
         count_at(&self.counts, block) > 0
+    }
+}
+
+// Room that is there, or what grows into one.
+fn take_room(rooms: &mut Vec<Vec<Value>>, alloc: Global) -> Vec<Value>
+    ensures { result.items ≡ [] }
+{
+    match rooms.pop() {
+        Some(room) => emptied(room),
+        None => Vec::new(alloc),
+    }
+}
+
+/// The same room with nothing in it.
+pub(crate) fn emptied(mut room: Vec<Value>) -> Vec<Value>
+    ensures { result.items ≡ [] }
+{
+    room.clear();
+    room
+}
+
+// Keeps a room for others. Where memory is wanting, it is let go.
+fn keep_room(rooms: &mut Vec<Vec<Value>>, room: Vec<Value>) {
+    let _ = rooms.push(room);
+}
+
+// Keeps the rooms of an activation. That of its temporaries, which were arguments, is taken first again.
+fn keep_rooms(rooms: &mut Vec<Vec<Value>>, ended: Context) {
+    keep_room(rooms, ended.stack);
+    if let Frame::Own(temporaries) = ended.frame {
+        keep_room(rooms, temporaries);
+    }
+}
+
+// Ends all activations from a place on, and keeps their rooms.
+fn end_from(contexts: &mut Vec<Context>, place: usize, rooms: &mut Vec<Vec<Value>>)
+    ensures { contexts.new.items ≡ take place contexts.old.items }
+{
+    while contexts.len() > place {
+        if let Some(ended) = contexts.pop() {
+            keep_rooms(rooms, ended);
+        }
     }
 }
 

@@ -1,5 +1,4 @@
 // A run's state, and what its steps are made of.
-ghost use Rattle.std.specs.Prelude.{◌≡◌};
 ghost use Rattle.s80_machine.specs.Came.{ChecksDepth, IsMade, IsNew, Ticks};
 
 use crate::contexts::Contexts;

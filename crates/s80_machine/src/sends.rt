@@ -141,7 +141,7 @@ impl<'a> Machine<'a> {
         let count = special_arguments(number);
         let (receiver, arguments) = self.contexts.take_message(on.alloc, count)?;
         if let Some(answer) = at_once(on, &self.objects, number, receiver, &arguments) {
-            return self.contexts.push(answer);
+            return self.contexts.answer(arguments, answer);
         }
         if let Some(block) = self.valued(number, receiver, arguments.len()) {
             return self.activate_block(on, block, arguments);
@@ -272,7 +272,7 @@ impl<'a> Machine<'a> {
             &mut self.transcript,
         )?;
         match applied {
-            Applied::Done(value) => self.contexts.push(value),
+            Applied::Done(value) => self.contexts.answer(arguments, value),
             Applied::Fails => self.activate_found(on, found, selector, receiver, arguments),
             Applied::Stops(stop) => Err(Halt::stop(on.alloc, stop)),
         }

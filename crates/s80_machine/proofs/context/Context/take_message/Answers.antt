@@ -21,7 +21,7 @@ returns-clause-does c =
     let xs = c.self.inside.stack.items in
     let all : c.in-Some.below + (c.args.count + 1) ≡ length c.self.inside.stack.items = omega (arith, c.in-Some.ensures.0, c.in-Some.ensures.1, c.len.ensures, c.from.ensures, c.self.inside.stack.ok.0) in
     let copied : c.extend_from_slice.new.self.items ≡ drop (c.in-Some.below + 1) c.self.inside.stack.items =
-    c.in_ok-extend_from_slice.ensures.items ∙ ap (λ ys. ys ++ take (length c.deref.result.now - (c.in-Some.below + 1)) (drop (c.in-Some.below + 1) c.deref.result.now)) c.new-arguments.ensures.items
+    c.in_ok-extend_from_slice.ensures.items ∙ ap (λ ys. ys ++ take (length c.deref.result.now - (c.in-Some.below + 1)) (drop (c.in-Some.below + 1) c.deref.result.now)) c.requires.empty
     ∙ take_rest c.deref.result.now (c.in-Some.below + 1) ∙ ap (drop (c.in-Some.below + 1)) c.deref.ensures.value in
     message_off (λ p. (p.0, p.1.items)) _ c.args.self.now c.self.view_is xs refl c.args.count c.in-Some.below c.index-receiver.result.now all c.index-receiver.ensures
     c.truncate.new.self.items (c.index-receiver.result.now, c.extend_from_slice.new.self) c.truncate.ensures.items (ap (λ ys. (c.index-receiver.result.now, ys)) copied)

@@ -12,6 +12,6 @@ take_all_off-requires c = λ b.
 pub invariant_of-self : goal.invariant_of-self
 invariant_of-self c =
     let ended = take_rest c.deref-2.result.now c.in-Some.place ∙ ap (drop c.in-Some.place) c.deref-2.ensures.value in
-    subst (λ counts. AreCounted counts c.truncate.new.self.items) (sym (with_items_is c.self.inside.counts c.take_all_off.new.counts (omega (arith, c.take_all_off.auto.counts, c.deref_mut.ensures.len))))
-    (left_counted c.self.inside.counts.items c.self.inside.contexts.items c.self.invariant c.in-Some.place _ c.truncate.new.self.items c.take_all_off.new.counts ended c.truncate.ensures.items
+    subst (λ counts. AreCounted counts c.end_from.new.contexts.items) (sym (with_items_is c.self.inside.counts c.take_all_off.new.counts (omega (arith, c.take_all_off.auto.counts, c.deref_mut.ensures.len))))
+    (left_counted c.self.inside.counts.items c.self.inside.contexts.items c.self.invariant c.in-Some.place _ c.end_from.new.contexts.items c.take_all_off.new.counts ended c.end_from.ensures
     (λ b. c.take_all_off.ensures b ∙ ap (λ counts. get_or counts b 0) c.deref_mut.ensures.value))

@@ -3,7 +3,7 @@ use Rattle.std.proofs.lemmas.Result.{err_from_is_err_and}
 use Rattle.s80_object.specs.Body as body
 use Rattle.s80_machine.specs.Came.{given_of}
 use Rattle.s80_machine.proofs.CameActivations.{begun_alone, begun_in_home, home_missing, home_shown, method_found, same_home, temporaries_of, with_home}
-use Rattle.s80_machine.proofs.CameParts.{made_is}
+use Rattle.s80_machine.proofs.CameParts.{aside, made_is}
 use Rattle.s80_machine.proofs.machine.Machine.activate_method.Goals as goal
 
 pub returns-in_err-home : goal.returns-in_err-home
@@ -53,7 +53,7 @@ returns-in-Object c = λ s key code shows at number is few.
     let makes = same_home old.objects objects method r made c.deref.result.now arguments a.code.now code c.deref.ensures.value there.0 c.make_home-home.ensures few in
     let home = made_is old.objects objects (body.home method r temporaries) made v makes c.in_ok-home.ensures in
     let holds = sym there.1 ∙ c.if-activated.true in
-    begun_in_home on s key code r temporaries method number holds old shows.world objects v home c.in-Object.home c.in-Object.is c.new-stack.result.items c.new-stack.ensures.items c.begin.new.self c.begin.result
+    begun_in_home on s key code r temporaries method number holds old shows.world objects v home c.in-Object.home c.in-Object.is c.emptied.result.items c.emptied.ensures c.begin.new.self c.begin.result
     (c.begin.ensures on (record { contexts = s.contexts; world = with_home on s key code r temporaries method number holds old shows.world objects v home })
     (record { contexts = shows.contexts; world = home_shown on s key code r temporaries method number holds old shows.world objects v home }))
 
@@ -64,5 +64,6 @@ returns-in_ok-temporaries c = λ s key code shows at number is few.
     let items = c.in_ok-temporaries.temporaries.items in
     let there = method_found on c.args.self.now s.world shows.world c.args.method key code at is c.get.result c.get.ensures c.in_ok-activated.activated c.in_ok-activated.ensures.ok_part in
     let same = subst (λ code. length arguments ≤ code.temporaries → items ≡ temporaries_of code arguments) there.0 c.in_ok-temporaries.ensures few in
-    begun_alone on s key code c.args.receiver (temporaries_of code arguments) c.args.method number (sym there.1 ∙ c.if-activated.false) items c.new-stack.result.items same c.new-stack.ensures.items
-    c.begin-else-activated.new.self c.begin-else-activated.result (c.begin-else-activated.ensures on s shows)
+    begun_alone on s key code c.args.receiver (temporaries_of code arguments) c.args.method number (sym there.1 ∙ c.if-activated.false) items c.take_room-stack.result.items same c.take_room-stack.ensures.empty
+    c.begin-else-activated.new.self c.begin-else-activated.result
+    (c.begin-else-activated.ensures on s (record { contexts = c.take_room-stack.ensures.same ∙ shows.contexts; world = aside on c.args.self.now s.world c.take_room-stack.new.self shows.world }))

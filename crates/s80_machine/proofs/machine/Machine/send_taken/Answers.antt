@@ -52,14 +52,14 @@ returns-in-Some c = λ top rest w next shows.
     let n = c.args.number in
     let r = c.in_ok-receiver.receiver in
     let values = c.in_ok-receiver.arguments.items in
-    let end = record m { contexts = c.push.new.self } in
-    taken (λ p. (p.0, p.1.items)) c.special_arguments-count.result (get_or special_arguments n 0) c.special_arguments-count.ensures on m end top rest w next c.take_message.new.self (r, c.in_ok-receiver.arguments) c.push.result
+    let end = record m { contexts = c.answer.new.self } in
+    taken (λ p. (p.0, p.1.items)) c.special_arguments-count.result (get_or special_arguments n 0) c.special_arguments-count.ensures on m end top rest w next c.take_message.new.self (r, c.in_ok-receiver.arguments) c.answer.result
     (special_turn on.table on.methods on.code on.budget n top next rest w) shows
     c.in_ok-receiver.ensures
     (λ stack shows.
-    special_answers on n top next rest w r values stack end c.push.result c.in-Some.answer
+    special_answers on n top next rest w r values stack end c.answer.result c.in-Some.answer
     (c.in-Some.ensures ∙ ap (λ s. at_once on.table s n r c.deref.result.now) shows.world.objects ∙ ap (at_once on.table w.objects n r) c.deref.ensures.value)
-    (pushed_came on (record m { contexts = c.take_message.new.self }) (waiting top next stack) rest w c.in-Some.answer c.push.new.self c.push.result shows c.push.ensures))
+    (pushed_came on (record m { contexts = c.take_message.new.self }) (waiting top next stack) rest w c.in-Some.answer c.answer.new.self c.answer.result shows c.answer.ensures))
 
 pub returns-in-Some-valued : goal.returns-in-Some-valued
 returns-in-Some-valued c = λ top rest w next shows.
