@@ -95,15 +95,16 @@ module _ (on : Given) (m : Machine) where
     pub some_method : (number : ℕ) → number ≡ c.method → slice_get m.methods number ≡ None → ⊥
     some_method number is none = let e = method_there number is in let gone = ap (option_map (λ (x : Method). x.key)) none in cc
 
-    pub its_code : (number : ℕ) (x : Activated) → number ≡ c.method → IsActivated (slice_get m.methods number) x → x.code.now ≡ of
-    its_code number x is activated = by_method (slice_get m.methods number) refl activated
-      where
-        by_method : (o : Option Method) → slice_get m.methods number ≡ o → IsActivated o x → x.code.now ≡ of
-        by_method None e h = absurd h
-        by_method (Some y) e h =
-            let key : y.key ≡ a.stands.method.key = value (sym (ap (option_map (λ (x : Method). x.key)) e) ∙ method_there number is) in
-            let given : code_for on.methods on.code y.key ≡ Some y.code = all_got (IsGiven on) m.methods number y a.shows.world.given e in
-            h.0 ∙ value (sym given ∙ ap (code_for on.methods on.code) key ∙ a.stands.method.code_is)
+    -- the method of a number, which was activated
+    its_method : (o : Option Method) (x : Activated) → IsActivated o x → (y : Method) × (o ≡ Some y) × (x.code.now ≡ y.code)
+    its_method None x h = absurd h
+    its_method (Some y) x h = (y, refl, h.0)
+
+    its_code : (number : ℕ) (y : Method) → number ≡ c.method → slice_get m.methods number ≡ Some y → y.code ≡ of
+    its_code number y is there =
+        let key : y.key ≡ a.stands.method.key = value (sym (ap (option_map (λ (x : Method). x.key)) there) ∙ method_there number is) in
+        let given : code_for on.methods on.code y.key ≡ Some y.code = all_got (IsGiven on) m.methods number y a.shows.world.given there in
+        value (sym given ∙ ap (code_for on.methods on.code) key ∙ a.stands.method.code_is)
 
     pub has_method : (next : ℕ) (contexts : List Context) → contexts ≡ record c { place = next } ∷ a.rest → TopHasMethod (with_contexts m contexts)
     has_method next contexts is = λ d rest e.
@@ -117,17 +118,32 @@ module _ (on : Given) (m : Machine) where
         some (Some x) h = refl
 
     -- the active context and its method, as they were read
-    pub record IsRead (place : ℕ) (code : Code) : Type 0 where
+    pub record IsRead (number place : ℕ) (code : Code) : Type 0 where
       pub place_is : place ≡ c.place
       pub code_is : code ≡ of
+      pub method : Method
+      pub there : slice_get m.methods number ≡ Some method
+      pub same_code : code ≡ method.code
 
     pub reads : (x view : Context) (o : Option Activated) (k : Activated) → slice_get m.contexts 0 ≡ Some x → view ≡ x
-        → MatchOption o (slice_get m.methods view.method ≡ None) (IsActivated (slice_get m.methods view.method)) → o ≡ Some k → IsRead view.place k.code.now
+        → MatchOption o (slice_get m.methods view.method ≡ None) (IsActivated (slice_get m.methods view.method)) → o ≡ Some k → IsRead view.method view.place k.code.now
     reads x view o k top seen found is =
         let same : view ≡ c = seen ∙ value (sym top ∙ first) in
         let activated : IsActivated (slice_get m.methods view.method) k =
         subst (λ p. MatchOption p (slice_get m.methods view.method ≡ None) (IsActivated (slice_get m.methods view.method))) is found in
-        record { place_is = ap (λ (y : Context). y.place) same; code_is = its_code view.method k (ap (λ (y : Context). y.method) same) activated }
+        let y = its_method (slice_get m.methods view.method) k activated in
+        record {
+          place_is = ap (λ (y : Context). y.place) same;
+          code_is = y.2 ∙ its_code view.method y.0 (ap (λ (y : Context). y.method) same) y.1;
+          method = y.0;
+          there = y.1;
+          same_code = y.2;
+        }
+
+    -- what is listed at its place is what stands there
+    pub listed : (number place : ℕ) (code : Code) → IsRead number place code → (entry : Option (Instruction × ℕ))
+        → ((y : Method) → slice_get m.methods number ≡ Some y → entry ≡ decoded (drop place y.code.bytes)) → decoded (drop place code.bytes) ≡ entry
+    listed number place code read entry is = ap (λ (k : Code). decoded (drop place k.bytes)) read.same_code ∙ sym (is read.method read.there)
 
     -- it goes on at a place
     pub moved_to : (next : ℕ) (new : List Context) → Does (λ done. done) (moved next) m.contexts new (Ok tt) → new ≡ record c { place = next } ∷ a.rest
@@ -142,9 +158,6 @@ module _ (on : Given) (m : Machine) where
 
     abbrev here : Fits of c.place (stack_kind c.frame) (length c.stack + 0)
     here = fits_there of a.stands.method.suits.depths c.place (stack_kind c.frame) (length c.stack + 0) a.stands.reached
-
-    pub short : (code : Code) → code ≡ of → length code.bytes ≤ 1023
-    short code is = subst (λ (k : Code). length k.bytes ≤ 1023) (sym is) a.stands.method.suits.depths.short
 
     fetched : (code : Code) (place : ℕ) → code ≡ of → place ≡ c.place → decoded (drop place code.bytes) ≡ Some (here.instruction, here.stands.width)
     fetched code place same at = ap (λ (k : Code). decoded (drop place k.bytes)) same ∙ ap (λ p. decoded (drop p of.bytes)) at ∙ here.stands.is_decoded

@@ -8,6 +8,8 @@ use Rattle.s80_base.specs.declared.names.Side.{Side}
 use Rattle.s80_base.specs.declared.names.Side.TheVariants.{Instance, Class}
 use Rattle.s80_class.specs.Table.{Table}
 use Rattle.s80_code.specs.declared.code.Code.{Code}
+use Rattle.s80_code.specs.declared.instruction.Instruction.{Instruction}
+use Rattle.s80_code.specs.Table.{decoded}
 use Rattle.s80_dict.specs.Table.{MethodsValue}
 use Rattle.s80_dict.specs.declared.dict.MethodEntry.{MethodEntry}
 use Rattle.s80_object.specs.Literal.{added_once}
@@ -247,6 +249,15 @@ pub record AreActivated (keys : List (List ℕ)) (activated : List Activated) : 
   pub few : length keys ≤ 2 ^ 32
   pub bytes : All (λ k. key_bytes (key_in k) ≡ k) keys
   pub kept : (i : ℕ) (k : List ℕ) (a : Activated) → slice_get keys i ≡ Some k → slice_get activated i ≡ Some a → IsKept (key_in k) a
+
+-- what stands at each place of a code
+abbrev pub listing : List ℕ → List (Option (Instruction × ℕ))
+listing [] = []
+listing (b ∷ more) = decoded (b ∷ more) ∷ listing more
+
+-- each method has the listing of its code
+abbrev pub AreListed : List Activated → List (List (Option (Instruction × ℕ))) → Type 0
+AreListed activated listings = listings ≡ map (λ a. listing a.code.now.bytes) activated
 
 -- the method of this number
 abbrev pub IsActivated : Option Method → Activated → Type 0

@@ -1,8 +1,9 @@
 // The methods that were activated.
-ghost use Rattle.std.specs.Prelude.{◌≡◌, ◌<◌, ◌^◌, [], IfOk, OnOk, None, MatchOption, length, slice_get};
+ghost use Rattle.std.specs.Prelude.{◌≡◌, ◌<◌, ◌^◌, [], IfOk, OnOk, None, Some, MatchOption, drop, length, slice_get};
+ghost use Rattle.s80_code.specs.Table.{decoded};
 ghost use Rattle.s80_machine.specs.World.{doit, method};
 ghost use Rattle.s80_machine.specs.Turn.{begins_block, holds_block};
-ghost use Rattle.s80_machine.specs.Seen.{IsActivated, Numbers, key_bytes, key_in, place_in, side_byte};
+ghost use Rattle.s80_machine.specs.Seen.{IsActivated, Method, Numbers, key_bytes, key_in, listing, place_in, side_byte};
 
 use indexmap::IndexSet;
 use s80_base::{OutOfMemory, Side, Text};
@@ -27,13 +28,15 @@ pub(crate) struct Methods<'a> {
     // Of a doIt empty; else its class and side in five bytes, and the selector.
     keys: IndexSet<Vec<u8>>,
     activated: Vec<Activated<'a>>,
+    // Of each of them, what stands at each place of its code.
+    listings: Vec<Vec<Option<(Instruction, u32)>>>,
     // Room for the key that is looked up. What it holds says nothing.
     room: Vec<u8>,
 }
 
 impl<'a> Model for Methods<'a> {
     ghost use Rattle.std.specs.Prelude.{List, map as list_map};
-    ghost use Rattle.s80_machine.specs.Seen.{AreActivated, Method, methods_of};
+    ghost use Rattle.s80_machine.specs.Seen.{AreActivated, AreListed, Method, methods_of};
     ghost use Rattle.s80_base.specs.contracts.literal.Literal as literal;
     ghost use Rattle.std.specs.Coded.{codes};
 
@@ -43,7 +46,8 @@ impl<'a> Model for Methods<'a> {
 
     ghost view = { λ m. methods_of (list_map (λ k. k.items) m.keys.keys) m.activated.items };
 
-    ghost invariant = { λ m. AreActivated (list_map (λ k. k.items) m.keys.keys) m.activated.items };
+    ghost invariant = { λ m. AreActivated (list_map (λ k. k.items) m.keys.keys) m.activated.items
+        × AreListed m.activated.items (list_map (λ l. l.items) m.listings.items) };
 }
 
 impl<'a> Methods<'a> {
@@ -53,6 +57,7 @@ impl<'a> Methods<'a> {
         Methods {
             keys: IndexSet::new(alloc),
             activated: Vec::new(alloc),
+            listings: Vec::new(alloc),
             room: Vec::new(alloc),
         }
     }
@@ -61,6 +66,13 @@ impl<'a> Methods<'a> {
         ensures { MatchOption result (slice_get self.now number ≡ None) (IsActivated (slice_get self.now number)) }
     {
         self.activated.get(number as usize).copied()
+    }
+
+    /// The instruction at a place of a method's code, and its width.
+    pub(crate) fn instruction(&self, number: u32, place: u32) -> Option<(Instruction, u32)>
+        ensures { (m : Method) → slice_get self.now number ≡ Some m → result ≡ decoded (drop place m.code.bytes) }
+    {
+        *self.listings.get(number as usize)?.get(place as usize)?
     }
 
     /// The number of the doIt, which is added where it isn't there.
@@ -112,8 +124,11 @@ impl<'a> Methods<'a> {
         };
         let code = code.code();
         let kept = key.to_vec(alloc)?;
+        let listing = listing_of(alloc, code)?;
         self.activated.reserve(1)?;
+        self.listings.reserve(1)?;
         self.keys.insert(kept)?;
+        self.listings.push_reserved(listing);
         self.activated.push_reserved(Activated {
             place,
             code,
@@ -121,6 +136,18 @@ impl<'a> Methods<'a> {
         });
         Ok(number)
     }
+}
+
+// What stands at each place of a code.
+fn listing_of(alloc: Global, code: &Code) -> Result<Vec<Option<(Instruction, u32)>>, OutOfMemory>
+    requires { length code.now.bytes < 2 ^ 32 }
+    ensures { IfOk result (λ items. items.items ≡ listing code.now.bytes) }
+{
+    let mut listing = Vec::new(alloc);
+    for at in 0..code.bytes.bytes().len() {
+        listing.push(decode(code, at as u32))?;
+    }
+    Ok(listing)
 }
 
 // Writes where a method stands, as bytes, in the place of what was there.

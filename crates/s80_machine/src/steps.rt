@@ -20,7 +20,7 @@ use crate::halt::Halt;
 use crate::machine::Machine;
 use crate::setting::Setting;
 use crate::stores::selector_at;
-use s80_code::{Code, Instruction, Storage, decode};
+use s80_code::{Code, Instruction, Storage};
 use s80_object::Value;
 use s80_prims::Stop;
 use std::alloc::Global;
@@ -39,7 +39,7 @@ impl<'a> Machine<'a> {
         let active = self.contexts.active().ok_or(Halt::Stuck)?;
         let (method, place) = (active.method, active.place);
         let code = self.methods.get(method).ok_or(Halt::Stuck)?.code;
-        let (instruction, width) = decode(code, place).ok_or(Halt::Stuck)?;
+        let (instruction, width) = self.methods.instruction(method, place).ok_or(Halt::Stuck)?;
         let next = place.checked_add(width).ok_or(Halt::Stuck)?;
         self.contexts.move_to(next)?;
         self.act(on, code, instruction, next)
