@@ -80,6 +80,7 @@ module _ (on : Given) (c : Context) (rest : List Context) (w : World) (next k : 
       keys = shows.world.keys;
       given = shows.world.given;
       variables = shows.world.variables;
+      sites = shows.world.sites;
     }
 
     pub literal_comes : (made : Result Value ObjectFault) (contexts : List Context) (r : Result (Unit {0}) Halt) → PushesLiteral (made_before method k m.objects) m.objects method k strings arrays l objects made

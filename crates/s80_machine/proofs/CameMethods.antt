@@ -55,6 +55,14 @@ module _ (on : Given) (setting : IsSetting on.table on.methods on.code) (selecto
   anywhere [] = All-nil Anywhere
   anywhere (p ∷ places) = All-cons Anywhere p places tt (anywhere places)
 
+  pub takes_found : (at : List Place) (f : Found (MethodEntry Code)) (arguments : List Value) → IsSelectorOf (length arguments) selector → finds on selector at ≡ Some f
+      → Takes on (method f.class f.side selector) f.entry.code arguments
+  takes_found at f arguments takes found =
+      let there = found_at on.methods selector Anywhere at f (anywhere at) found in
+      let suits = setting.methods_suit f.class f.side selector f.entry there.entry in
+      let same : f.entry.code.arguments ≡ length arguments = one_selector selector f.entry.code.arguments (length arguments) suits.selector_is takes in
+      record { code_is = ap (option_map (λ (e : MethodEntry Code). e.code)) there.entry; few = omega (arith, same, suits.suits.depths.header.arguments) }
+
   pub found_takes : (at : List Place) (g : FoundCode) (arguments : List Value) → IsSelectorOf (length arguments) selector → IsFound (finds on selector at) (Some g)
       → Takes on (method g.class g.side selector) g.code.now arguments
   found_takes at g arguments takes found = go (finds on selector at) refl found
@@ -62,11 +70,7 @@ module _ (on : Given) (setting : IsSetting on.table on.methods on.code) (selecto
       go : (o : Option (Found (MethodEntry Code))) → finds on selector at ≡ o → IsFound o (Some g) → Takes on (method g.class g.side selector) g.code.now arguments
       go None e is = absurd is
       go (Some f) e is =
-          let there = found_at on.methods selector Anywhere at f (anywhere at) e in
-          let suits = setting.methods_suit f.class f.side selector f.entry there.entry in
-          let same : f.entry.code.arguments ≡ length arguments = one_selector selector f.entry.code.arguments (length arguments) suits.selector_is takes in
-          let few : length arguments ≤ f.entry.code.temporaries = omega (arith, same, suits.suits.depths.header.arguments) in
-          let here : Takes on (method f.class f.side selector) f.entry.code arguments = record { code_is = ap (option_map (λ (e : MethodEntry Code). e.code)) there.entry; few = few } in
+          let here = takes_found at f arguments takes e in
           subst (λ code. Takes on (method g.class g.side selector) code arguments) (sym is.2)
           (subst (λ side. Takes on (method g.class side selector) f.entry.code arguments) (sym is.1) (subst (λ class. Takes on (method class f.side selector) f.entry.code arguments) (sym is.0) here))
 
@@ -88,7 +92,7 @@ module _ (on : Given) (sent : World → Option Turn) (at : List Place) (selector
       go (Some f) is = absurd is
 
   -- what the code has found
-  found_code : (g : FoundCode) → IsFound (finds on selector at) (Some g) → Came on (of_method (method g.class g.side selector) g.code.now) new result → Came on (runs on sent at selector r arguments below w) new result
+  pub found_code : (g : FoundCode) → IsFound (finds on selector at) (Some g) → Came on (of_method (method g.class g.side selector) g.code.now) new result → Came on (runs on sent at selector r arguments below w) new result
   found_code g is h = go (finds on selector at) is
     where
       go : (o : Option (Found (MethodEntry Code))) → IsFound o (Some g) → Came on (of_found o) new result
@@ -354,6 +358,7 @@ module _ (on : Given) (m : Machine) (c : Context) (rest : List Context) (w : Wor
     keys = shows.world.keys;
     given = shows.world.given;
     variables = shows.world.variables;
+    sites = shows.world.sites;
   }
 
   pub primitive_answers : (v : Value) → applied ≡ Done v → (new : List Context) (result : Result (Unit {0}) Halt) → Does itself (pushed v) m.contexts new result → Run (record after { contexts = new }) result
@@ -363,7 +368,7 @@ module _ (on : Given) (m : Machine) (c : Context) (rest : List Context) (w : Wor
       (pushed_came on after c rest (changed w (world_of objects transcript)) v new result
       (record {
         contexts = shows.contexts;
-        world = record { objects = refl; transcript = refl; ticks = shows.world.ticks; keys = shows.world.keys; given = shows.world.given; variables = shows.world.variables };
+        world = record { objects = refl; transcript = refl; ticks = shows.world.ticks; keys = shows.world.keys; given = shows.world.given; variables = shows.world.variables; sites = shows.world.sites };
       })
       pushes))
 

@@ -57,6 +57,7 @@ module _ (on : Given) where
     keys = shows.keys;
     given = shows.given;
     variables = shows.variables;
+    sites = shows.sites;
   }
 
   -- ---- ticks
@@ -71,6 +72,7 @@ module _ (on : Given) where
           keys = shows.keys;
           given = shows.given;
           variables = shows.variables;
+          sites = shows.sites;
         })
 
     pub ticked_contexts : m.contexts ≡ old.contexts
@@ -97,6 +99,7 @@ module _ (on : Given) where
       keys = shows.keys;
       given = shows.given;
       variables = shows.variables;
+      sites = shows.sites;
     }
 
     pub made_on : (go : World → Turn) (new : Machine) (result : Result (Unit {0}) Halt) → Came on (go (with_objects w (with_body w.objects b))) new result → Came on (with_room w b go) new result
@@ -116,6 +119,7 @@ module _ (on : Given) where
       keys = shows.keys;
       given = shows.given;
       variables = shows.variables;
+      sites = shows.sites;
     }
 
     no_room : (held : ℕ) (h : Halt) → Makes old.objects b objects (Err (fault.Full held)) → EndsRun (Stopped (ObjectsFull held)) h → Came on (with_room w b go) (record old { objects = objects }) (Err h)

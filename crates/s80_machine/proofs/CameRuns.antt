@@ -1,5 +1,5 @@
 -- A machine on its way: it shows a sound state that the run comes by.
-use Rattle.std.proofs.Common.{◌≡◌, ◌∙◌, ap, sym, subst, refl, ℕ, suc, ◌+◌, ◌*◌, ◌-◌, ◌<◌, ◌≢◌, List, [], ◌∷◌, slice_get, Some, Result, Ok, Err, unwrap_or, map, All, arith}
+use Rattle.std.proofs.Common.{◌≡◌, ◌∙◌, ap, sym, subst, refl, ℕ, suc, ◌+◌, ◌*◌, ◌-◌, ◌<◌, ◌≢◌, List, [], ◌∷◌, slice_get, None, Some, Result, Ok, Err, unwrap_or, map, All, arith}
 use Rattle.std.specs.Result.{IfOk}
 use Rattle.std.proofs.lemmas.Result.{IfOk-weaker}
 use Rattle.std.proofs.lemmas.List.Elements.{All-cons, All-nil}
@@ -13,7 +13,9 @@ use Rattle.s80_prims.specs.declared.stop.Outcome.{Outcome}
 use Rattle.s80_machine.specs.declared.halt.Halt.{Halt}
 use Rattle.s80_machine.specs.declared.halt.Halt.TheVariants as halt
 use Rattle.s80_machine.specs.declared.machine.Machine.{Machine}
-use Rattle.s80_machine.specs.World.{World, doit, first_value, first_world, number_in, numbered}
+use Rattle.s80_machine.specs.World.{World, Key, doit, first_value, first_world, number_in, numbered}
+use Rattle.s80_machine.specs.declared.sites.Site.{Site}
+use Rattle.s80_machine.specs.Sites.{IsSite, site_in}
 use Rattle.s80_machine.specs.Turn.{State, Turn, Goes, Ends, Stuck}
 use Rattle.s80_machine.specs.Step.{turn}
 use Rattle.s80_machine.specs.Run.{ComesTo, RunsTo, outcome_of, start}
@@ -133,6 +135,9 @@ module _ (on : Given) where
       → ((s : State) → start on.table on.methods on.code on.budget ≡ Goes s → IsWithin on.budget s) → IsAtTurn (start on.table on.methods on.code on.budget)
   begins sound within = record { sound = sound; within = within; leads = λ outcome comes. comes }
 
+  no_site : (m : Machine) → IsNew m → (keys : List Key) (n k : ℕ) (site : Site) → site_in m.sites n k ≡ Some site → IsSite on keys n k site
+  no_site m new keys n k site e = let none = sym (new.sites n k) ∙ e in cc
+
   pub shows_first : (m : Machine) → IsNew m → Shows on m (state [] (first_world on.table))
   shows_first m new = record {
     contexts = new.contexts;
@@ -143,6 +148,7 @@ module _ (on : Given) where
       keys = ap (map (λ x. x.key)) new.methods;
       given = subst (All (IsGiven on)) (sym new.methods) (All-nil (IsGiven on));
       variables = λ v. ap (λ o. unwrap_or o (first_value on.table v)) (new.variables v);
+      sites = no_site m new [];
     };
   }
 
@@ -169,6 +175,7 @@ module _ (on : Given) where
             keys = ap (map (λ (x : Method). x.key)) added;
             given = subst (All (IsGiven on)) (sym added) (All-cons (IsGiven on) (record { key = doit; code = on.code }) [] refl (All-nil (IsGiven on)));
             variables = none.world.variables;
+            sites = no_site m new (doit ∷ []);
           };
         }
 

@@ -24,6 +24,7 @@ use Rattle.s80_machine.specs.Came.{Came, ChecksDepth, IsGiven, Shows, ShowsWorld
 use Rattle.s80_machine.specs.Messages.{ReceiverIsKnown}
 use Rattle.s80_machine.proofs.CameParts.{ends_so}
 use Rattle.s80_machine.proofs.SoundLists.{keys_same, numbered_there}
+use Rattle.s80_machine.proofs.KeptSites.{site_stays}
 
 -- activations that are alive, in a world
 abbrev pub alive : List Context → World → State
@@ -59,6 +60,7 @@ same_world on m w contexts shows = record {
   keys = shows.keys;
   given = shows.given;
   variables = shows.variables;
+  sites = shows.sites;
 }
 
 -- ---- ticks, and how many activations are alive
@@ -87,6 +89,7 @@ module _ (on : Given) (m : Machine) (w : World) where
           keys = shows.world.keys;
           given = shows.world.given;
           variables = shows.world.variables;
+          sites = shows.world.sites;
         };
       })
     where
@@ -263,6 +266,7 @@ method_numbered on m s key of new number shows is numbers = record {
       keys = ap (map (λ x. x.key)) numbers.added ∙ mapped_once (λ (x : Method). x.key) (same_key key) m.methods (record { key = key; code = of }) ∙ ap (added_once (same_key key) key) shows.world.keys;
       given = subst (All (IsGiven on)) (sym numbers.added) (once_all (IsGiven on) (is_method key) (record { key = key; code = of }) m.methods shows.world.given is);
       variables = shows.world.variables;
+      sites = λ n k site e. site_stays on key s.world.keys n k site (shows.world.sites n k site e);
     };
   };
   there = subst (λ n. slice_get (numbered s.world key).keys n ≡ Some key) own (numbered_there s.world key);

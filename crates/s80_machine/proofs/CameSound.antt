@@ -1,5 +1,5 @@
 -- What a machine has that shows a sound state: its method, its instruction, and what calls rest on.
-use Rattle.std.proofs.Common.{◌≡◌, ◌∙◌, ap, sym, subst, refl, ℕ, ◌+◌, ◌<◌, ◌≤◌, ◌^◌, List, [], ◌∷◌, All, drop, length, slice_get, Option, Some, None, Result, Ok, arith, option_and_then}
+use Rattle.std.proofs.Common.{◌≡◌, ◌∙◌, ap, sym, subst, refl, ℕ, ◌+◌, ◌<◌, ◌≤◌, ◌^◌, List, [], ◌∷◌, All, drop, length, map, slice_get, Option, Some, None, Result, Ok, arith, option_and_then}
 use Rattle.std.specs.Option.{IsSome, MatchOption, SomeIff, option_map}
 use Rattle.std.proofs.lemmas.Option.{slice_get-map}
 use Rattle.s80_code.specs.declared.code.Code.{Code}
@@ -25,7 +25,7 @@ use Rattle.s80_machine.specs.Step.{act, code_at, code_for, turn, turn_at, turn_o
 use Rattle.s80_machine.specs.Sound.{AreSound, HasCount, IsFrameOf, IsHomeOf, IsSound, IsSoundContext, IsSoundWorld, stack_kind}
 use Rattle.s80_machine.specs.Seen.{Does, Given, IsActivated, Method, moved}
 use Rattle.s80_machine.specs.Came.{Came, IsGiven, Shows, ShowsWorld, TopHasHome, TopIsKnown, at_place}
-use Rattle.s80_machine.specs.Messages.{ReceiverIsKnown}
+use Rattle.s80_machine.specs.Messages.{ReceiverIsKnown, TopRuns}
 use Rattle.s80_machine.specs.Acts.{TopCountsFew, TopHasMethod}
 use Rattle.s80_machine.proofs.SoundEnds.{AllWait}
 use Rattle.s80_machine.proofs.SoundLists.{all_got}
@@ -227,6 +227,14 @@ module _ (on : Given) (m : Machine) where
         let top : record c { place = next } ≡ d = cc in
         let known : IsKnown on.table m.objects c.receiver = subst (λ (s : Objects). IsKnown on.table s c.receiver) (sym a.shows.world.objects) a.stands.method.known in
         subst (λ (x : Context). IsKnown on.table m.objects x.receiver) top known
+
+    -- it runs this code
+    pub has_code : (code : Code) → code ≡ of → (next : ℕ) (contexts : List Context) → contexts ≡ record c { place = next } ∷ a.rest → TopRuns on code (with_contexts m contexts)
+    has_code code same next contexts is = λ d rest e.
+        let all : d ∷ rest ≡ record c { place = next } ∷ a.rest = sym e ∙ is in
+        let top : d ≡ record c { place = next } = cc in
+        let there = ap (λ (x : Context). slice_get (map (λ x. x.key) m.methods) x.method) top ∙ ap (λ keys. slice_get keys c.method) a.shows.world.keys ∙ a.stands.method.key_is in
+        (a.stands.method.key, (there, a.stands.method.code_is ∙ ap (λ k. Some k) (sym same)))
 
     home_there : (f : Frame) (h : ℕ) → IsFrameOf on.table on.methods on.code w f c.method c.receiver of → home_in f ≡ Some h → IsHomeOf on.table on.methods on.code w h c.method c.receiver of
     home_there (own temporaries) h frame e = cc

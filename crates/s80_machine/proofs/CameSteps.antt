@@ -48,7 +48,7 @@ module _ (on : Given) where
 
   module _ (m : Machine) where
     pub same_world : (w : World) (new : List Context) → ShowsWorld on m w → ShowsWorld on (with_contexts m new) w
-    same_world w new h = record { objects = h.objects; transcript = h.transcript; ticks = h.ticks; keys = h.keys; given = h.given; variables = h.variables }
+    same_world w new h = record { objects = h.objects; transcript = h.transcript; ticks = h.ticks; keys = h.keys; given = h.given; variables = h.variables; sites = h.sites }
 
     pub shows_other : (old new given : List Context) (w : World) → new ≡ given → Shows on m (state old w) → Shows on (with_contexts m new) (state given w)
     shows_other old new given w is h = record { contexts = is; world = same_world w new h.world }
@@ -129,6 +129,7 @@ module _ (on : Given) where
             keys = shows.world.keys;
             given = shows.world.given;
             variables = shows.world.variables;
+            sites = shows.world.sites;
           };
         })
 

@@ -20,6 +20,8 @@ use Rattle.s80_machine.specs.declared.machine.Machine.{Machine}
 use Rattle.s80_machine.specs.declared.setting.Setting.{Setting}
 use Rattle.s80_machine.specs.World.{World, Key, Variable, Context, home_in, waiting}
 use Rattle.s80_machine.specs.Lookup.{Place}
+use Rattle.s80_machine.specs.Sites.{IsSite, site_in}
+use Rattle.s80_machine.specs.declared.sites.Site.{Site}
 use Rattle.s80_machine.specs.Turn.{State, Turn, Goes, Ends, Stuck, depth_limit, special_selectors}
 use Rattle.s80_machine.specs.Step.{code_for, places_above, places_for, push, sent, store}
 use Rattle.s80_machine.specs.Sound.{IsSetting}
@@ -52,6 +54,7 @@ pub record ShowsWorld (on : Given) (m : Machine) (w : World) : Type 0 where
   pub keys : list_map (λ x. x.key) m.methods ≡ w.keys
   pub given : All (IsGiven on) m.methods
   pub variables : (v : Variable) → value_of on.table m.variables v ≡ w.variables v
+  pub sites : (n k : ℕ) (site : Site) → site_in m.sites n k ≡ Some site → IsSite on w.keys n k site
 
 pub record Shows (on : Given) (m : Machine) (s : State) : Type 0 where
   pub contexts : m.contexts ≡ s.contexts
@@ -74,6 +77,7 @@ pub record IsNew (m : Machine) : Type 0 where
   pub ticks : m.ticks ≡ 0
   pub methods : m.methods ≡ []
   pub variables : (v : Variable) → value_in m.variables v ≡ None
+  pub sites : (n k : ℕ) → site_in m.sites n k ≡ None
 
 abbrev pub Ticks : ℕ → Machine → Machine → Result (Unit {0}) Halt → Type 0
 Ticks budget old new (Ok done) = (old.ticks < budget) × (new ≡ record old { ticks = old.ticks + 1 })

@@ -7,6 +7,7 @@ pub mod Run
 pub mod Sound
 pub mod Measure
 pub mod Seen
+pub mod Sites
 pub mod Came
 pub mod Acts
 pub mod Messages

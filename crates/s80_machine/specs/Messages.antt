@@ -1,5 +1,5 @@
 -- What messages rest on, and the parts of what they come to.
-use Rattle.std.specs.Prelude.{◌≡◌, ℕ, ◌≤◌, List, [], ◌∷◌, ◌==◌, length, codes, get_or, All, Option, Some, None, option_and_then, if◌then◌else◌}
+use Rattle.std.specs.Prelude.{◌≡◌, ℕ, ◌≤◌, List, [], ◌∷◌, ◌==◌, length, codes, get_or, map, slice_get, All, Option, Some, None, option_and_then, if◌then◌else◌}
 use Rattle.s80_base.specs.declared.names.Side.TheVariants.{Instance}
 use Rattle.s80_class.specs.Table.{Table}
 use Rattle.s80_code.specs.declared.code.Code.{Code}
@@ -17,6 +17,8 @@ use Rattle.s80_machine.specs.Lookup.{Found, Place, first_found, number}
 use Rattle.s80_machine.specs.Turn.{Turn, of_integers}
 use Rattle.s80_machine.specs.Step.{activated, by_primitive, code_for, found_turn, looked_up, method_turn, not_understood, performed, places_of}
 use Rattle.s80_machine.specs.Seen.{Given}
+use Rattle.s80_machine.specs.Sites.{IsLiteralOf}
+use Rattle.s80_machine.specs.declared.lookup.Found.{Found as FoundCode}
 
 -- the receiver and the arguments of a message are known, and so is all that objects hold
 pub record IsKnownMessage (t : Table) (s : Objects) (r : Value) (vs : List Value) : Type 0 where
@@ -36,6 +38,22 @@ pub record IsAnswerOfTwo (n : ℕ) (two : Option (Value × Value)) (v : Value) :
 -- the receiver of the active context is known
 abbrev pub ReceiverIsKnown : Table → Machine → Type 0
 ReceiverIsKnown t m = (c : Context) (rest : List Context) → m.contexts ≡ c ∷ rest → IsKnown t m.objects c.receiver
+
+-- the active context runs this code
+abbrev pub TopRuns : Given → Code → Machine → Type 0
+TopRuns on code m =
+    (c : Context) (rest : List Context) → m.contexts ≡ c ∷ rest
+    → (key : Key) × ((slice_get (map (λ x. x.key) m.methods) c.method ≡ Some key) × (code_for on.methods on.code key ≡ Some code))
+
+-- this literal of its code has this selector
+abbrev pub TopSends : Given → ℕ → List ℕ → Machine → Type 0
+TopSends on k selector m =
+    (c : Context) (rest : List Context) → m.contexts ≡ c ∷ rest → IsLiteralOf on (map (λ x. x.key) m.methods) c.method k selector
+
+-- what was found is a method without a primitive
+abbrev pub IsPlain : Option FoundCode → Option FoundCode → Type 0
+IsPlain found (Some plain) = (found ≡ Some plain) × (plain.code.now.primitive ≡ 0)
+IsPlain found None = Unit {0}
 
 -- this is a method's code, which has room for these arguments
 pub record Takes (on : Given) (key : Key) (code : Code) (arguments : List Value) : Type 0 where

@@ -14,6 +14,7 @@ mod methods;
 mod selectors;
 mod sends;
 mod setting;
+mod sites;
 mod steps;
 mod stores;
 mod variables;

@@ -4,6 +4,7 @@ ghost use Rattle.s80_machine.specs.Came.{ChecksDepth, IsMade, IsNew, Ticks};
 use crate::contexts::Contexts;
 use crate::halt::Halt;
 use crate::methods::Methods;
+use crate::sites::Sites;
 use crate::variables::Variables;
 use s80_base::Text;
 use s80_object::{ObjectFault, Objects, Value};
@@ -23,6 +24,7 @@ pub(crate) struct Machine<'a> {
     pub ticks: u64,
     pub methods: Methods<'a>,
     pub variables: Variables,
+    pub sites: Sites,
 }
 
 impl<'a> Machine<'a> {
@@ -38,6 +40,7 @@ impl<'a> Machine<'a> {
             ticks: 0,
             methods: Methods::none(alloc),
             variables: Variables::none(alloc),
+            sites: Sites::none(alloc),
         }
     }
 

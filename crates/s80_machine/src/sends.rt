@@ -11,13 +11,15 @@ ghost use Rattle.s80_prims.specs.declared.stop.Stop.TheVariants.{NotUnderstood};
 ghost use Rattle.s80_verify.specs.Effect.{special_arguments};
 ghost use Rattle.s80_verify.specs.Selector.{IsSelectorOf, is_name};
 ghost use Rattle.s80_machine.specs.declared.machine.Machine.{Machine as MachineValue};
-ghost use Rattle.s80_machine.specs.World.{Context, Key, World, method, waiting};
-ghost use Rattle.s80_machine.specs.Lookup.{Place};
+ghost use Rattle.s80_machine.specs.World.{Context, Key, World, method, number_in, waiting};
+ghost use Rattle.s80_machine.specs.Lookup.{Place, places_up};
+ghost use Rattle.s80_machine.specs.Sites.{IsLiteralOf};
+ghost use Rattle.s80_code.specs.declared.code.Code.{Code};
 ghost use Rattle.s80_machine.specs.Turn.{State, at_once, block_with, is_value, message_off, of_integers, unary_in};
 ghost use Rattle.s80_machine.specs.Step.{special_turn};
 ghost use Rattle.s80_machine.specs.Seen.{IsBlock, IsFound, two_on_top};
 ghost use Rattle.s80_machine.specs.Came.{Came, IsGiven, IsReady, IsSet, Shows, ShowsWorld, TopIsKnown, above, at_place, given_of, places, sends};
-ghost use Rattle.s80_machine.specs.Messages.{IsAnswerOfTwo, IsKnownMessage, ReceiverIsKnown, Takes, activates, finds, own_place, performs, places_in, refuses, runs, runs_method, runs_primitive, sends_one};
+ghost use Rattle.s80_machine.specs.Messages.{IsAnswerOfTwo, IsKnownMessage, IsPlain, ReceiverIsKnown, Takes, TopSends, activates, finds, own_place, performs, places_in, refuses, runs, runs_method, runs_primitive, sends_one};
 
 use crate::activations::Block;
 use crate::halt::Halt;
@@ -25,6 +27,7 @@ use crate::lookup::Found;
 use crate::machine::Machine;
 use crate::selectors::{integer_primitive, special_arguments};
 use crate::setting::Setting;
+use crate::sites::Sending;
 use s80_base::{OutOfMemory, Side, Text};
 use s80_object::{Objects, Value};
 use s80_prims::{Applied, Stop, apply, arithmetic, same, truth};
@@ -50,17 +53,103 @@ const VALUE_ALONE: u8 = 25;
 const VALUE_WITH: u8 = 26;
 
 impl<'a> Machine<'a> {
-    /// Sends a message to the receiver below its arguments on the stack.
-    pub(crate) fn send(&mut self, on: &Setting<'a>, selector: &Text, count: u8) -> Result<(), Halt>
+    /// Sends the message of a literal of the active context's code, its selector, to the receiver below its arguments on the stack.
+    pub(crate) fn send(
+        &mut self,
+        on: &Setting<'a>,
+        literal: u8,
+        selector: &Text,
+        count: u8,
+    ) -> Result<(), Halt>
         requires ready { IsReady on.now }
         requires setting { IsSet (given_of on.now) }
         requires known { TopIsKnown on.now.classes.now self.old }
         requires selector { IsSelectorOf count selector.now }
+        requires sends { TopSends (given_of on.now) literal selector.now self.old }
         ensures { (c : Context) (rest : List Context) (w : World) (next : ℕ) → Shows (given_of on.now) self.old (at_place c next rest w)
             → Came (given_of on.now) (message_off count [] c.stack (λ r arguments stack. sends (given_of on.now) (places (given_of on.now) w r) selector.now r arguments (waiting c next stack ∷ rest) w)) self.new result }
     {
+        let method = self.contexts.active().ok_or(Halt::Stuck)?.method;
         let (receiver, arguments) = self.contexts.take_message(on.alloc, count)?;
-        self.send_to(on, selector, receiver, arguments)
+        let (class, side) = on.class_of(&self.objects, receiver).ok_or(Halt::Stuck)?;
+        let sending = Sending {
+            method,
+            literal,
+            class,
+            side,
+        };
+        self.tick(on.budget)?;
+        match self.sites.get(sending) {
+            Some(number) => self.activate_again(on, number, receiver, arguments),
+            None => self.find_and_run(on, sending, selector, receiver, arguments),
+        }
+    }
+
+    // Activates the method to which the message went before.
+    fn activate_again(
+        &mut self,
+        on: &Setting<'a>,
+        number: u32,
+        receiver: Value,
+        arguments: Vec<Value>,
+    ) -> Result<(), Halt>
+        ensures { (s : State) (key : Key) (code : Code) → Shows (given_of on.now) self.old s → slice_get s.world.keys number ≡ Some key → number_in s.world key ≡ number
+            → Takes (given_of on.now) key code arguments.items
+            → Came (given_of on.now) (activates (given_of on.now) key code receiver arguments.items s.contexts s.world) self.new result }
+    {
+        self.check_depth()?;
+        self.activate_method(on, number, receiver, arguments)
+    }
+
+    // Looks a message up, and runs the method that it finds. Where that has no primitive, its number is noted.
+    fn find_and_run(
+        &mut self,
+        on: &Setting<'a>,
+        sending: Sending,
+        selector: &Text,
+        receiver: Value,
+        arguments: Vec<Value>,
+    ) -> Result<(), Halt>
+        requires ready { IsReady on.now }
+        requires setting { IsSet (given_of on.now) }
+        requires known { IsKnownMessage on.now.classes.now self.old.objects receiver arguments.items }
+        requires selector { IsSelectorOf (length arguments.items) selector.now }
+        requires class { IsClass on.now.classes.now.names sending.class }
+        ensures { (c : Context) (rest : List Context) (w : World) → Shows (given_of on.now) self.old (record { contexts = c ∷ rest; world = w })
+            → IsLiteralOf (given_of on.now) w.keys sending.method sending.literal selector.now
+            → Came (given_of on.now) (runs (given_of on.now) (performs (given_of on.now) receiver arguments.items (c ∷ rest)) (places_up on.now.classes.now sending.class sending.side)
+            selector.now receiver arguments.items (c ∷ rest) w) self.new result }
+    {
+        let found = on.find(sending.class, sending.side, selector);
+        match plain(found) {
+            Some(plain) => self.activate_noting(on, sending, plain, selector, receiver, arguments),
+            None => self.run_found(on, found, selector, receiver, arguments),
+        }
+    }
+
+    // Activates a method that was found, and notes its number.
+    fn activate_noting(
+        &mut self,
+        on: &Setting<'a>,
+        sending: Sending,
+        found: Found<'a>,
+        selector: &Text,
+        receiver: Value,
+        arguments: Vec<Value>,
+    ) -> Result<(), Halt>
+        requires plain { found.code.now.primitive ≡ 0 }
+        ensures { (s : State) → Shows (given_of on.now) self.old s
+            → IsLiteralOf (given_of on.now) s.world.keys sending.method sending.literal selector.now
+            → IsFound (finds (given_of on.now) selector.now (places_up on.now.classes.now sending.class sending.side)) (Some found.entry)
+            → Takes (given_of on.now) (method found.entry.class found.entry.side selector.now) found.entry.code.now arguments.items
+            → Came (given_of on.now) (activates (given_of on.now) (method found.entry.class found.entry.side selector.now) found.entry.code.now receiver arguments.items s.contexts s.world) self.new result }
+    {
+        self.check_depth()?;
+        let number = self
+            .methods
+            .number(on.alloc, found.class, found.side, selector, found.code)?;
+        self.sites.note(on.alloc, sending, number)?;
+        self.activate_method(on, number, receiver, arguments)
     }
 
     /// Sends a message to the active context's receiver that is looked up above the class of its method.
@@ -297,6 +386,18 @@ impl<'a> Machine<'a> {
             .methods
             .number(on.alloc, class, side, selector, found.code)?;
         self.activate_method(on, method, receiver, arguments)
+    }
+}
+
+// The method that was found, where it has no primitive.
+fn plain(found: Option<Found<'_>>) -> Option<Found<'_>>
+    ensures { IsPlain found.entry result }
+{
+    let found = found?;
+    if found.code.code().primitive == 0 {
+        Some(found)
+    } else {
+        None
     }
 }
 

@@ -11,7 +11,7 @@ ghost use Rattle.s80_machine.specs.Step.{jump, turn};
 ghost use Rattle.s80_machine.specs.Sound.{IsSound};
 ghost use Rattle.s80_machine.specs.Seen.{Given, IsUnwound};
 ghost use Rattle.s80_machine.specs.Came.{Came, IsGiven, IsReady, IsSet, Shows, TopHasHome, TopIsKnown, given_of, left_at};
-ghost use Rattle.s80_machine.specs.Messages.{ReceiverIsKnown};
+ghost use Rattle.s80_machine.specs.Messages.{ReceiverIsKnown, TopRuns};
 ghost use Rattle.s80_machine.specs.Acts.{Acts, TopCountsFew, TopHasMethod, left_by};
 
 use crate::context::Frame;
@@ -63,6 +63,7 @@ impl<'a> Machine<'a> {
         requires near { next ≤ 1023 }
         requires suits { (at : ℕ) × (stack : Stack) × Suits code.now at stack instruction }
         requires few { instruction ≡ SendSpecial 24 → TopCountsFew self.old }
+        requires runs { TopRuns (given_of on.now) code.now self.old }
         ensures { Acts (given_of on.now) code.now next instruction self.old self.new result }
     {
         match instruction {
@@ -152,16 +153,17 @@ impl<'a> Machine<'a> {
         on: &Setting<'a>,
         code: &'a Code,
         arguments: u8,
-        selector: u8,
+        literal: u8,
     ) -> Result<(), Halt>
         requires ready { IsReady on.now }
         requires setting { IsSet (given_of on.now) }
         requires known { TopIsKnown on.now.classes.now self.old }
-        requires sends { Sends code.now arguments selector }
-        ensures { (next : ℕ) → Acts (given_of on.now) code.now next (Send arguments selector) self.old self.new result }
+        requires sends { Sends code.now arguments literal }
+        requires runs { TopRuns (given_of on.now) code.now self.old }
+        ensures { (next : ℕ) → Acts (given_of on.now) code.now next (Send arguments literal) self.old self.new result }
     {
-        let selector = selector_at(code, selector).ok_or(Halt::Stuck)?;
-        self.send(on, selector, arguments)
+        let selector = selector_at(code, literal).ok_or(Halt::Stuck)?;
+        self.send(on, literal, selector, arguments)
     }
 
     fn send_literal_super(

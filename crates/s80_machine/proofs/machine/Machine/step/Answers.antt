@@ -4,7 +4,7 @@ use Rattle.s80_code.specs.declared.instruction.Instruction.{Instruction}
 use Rattle.s80_code.specs.Table.{decoded}
 use Rattle.s80_machine.specs.Seen.{Method}
 use Rattle.s80_machine.specs.Came.{given_of}
-use Rattle.s80_machine.proofs.CameSound.{Active, IsRead, active, added_is, few, has_home, has_known, has_method, has_receiver, listed, moved_to, near, reads, shows_moved, some_instruction, some_sum, steps, suits}
+use Rattle.s80_machine.proofs.CameSound.{Active, IsRead, active, added_is, few, has_code, has_home, has_known, has_method, has_receiver, listed, moved_to, near, reads, shows_moved, some_instruction, some_sum, steps, suits}
 use Rattle.s80_machine.proofs.machine.Machine.step.Goals.{In_ok-code}
 use Rattle.s80_machine.proofs.machine.Machine.step.Goals as goal
 
@@ -91,6 +91,14 @@ act-requires-clause-method c =
     let on = given_of c.args.on.now in
     let a = it (goal.at.act-requires-clause-method c).In_ok-code in
     has_method on c.args.self.now a c.in_ok-next.next c.move_to.new.self (moved_to on c.args.self.now a c.in_ok-next.next c.move_to.new.self c.in_ok-move_to.ensures)
+
+pub act-requires-clause-runs : goal.act-requires-clause-runs
+act-requires-clause-runs c =
+    let on = given_of c.args.on.now in
+    let m = c.args.self.now in
+    let at = (goal.at.act-requires-clause-runs c).In_ok-code in
+    let a = it at in
+    has_code on m a c.in_ok-code.field-0.code.now (read at).code_is c.in_ok-next.next c.move_to.new.self (moved_to on m a c.in_ok-next.next c.move_to.new.self c.in_ok-move_to.ensures)
 
 pub returns : goal.returns
 returns c =
