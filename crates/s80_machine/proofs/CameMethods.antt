@@ -1,5 +1,5 @@
 -- Messages: the method that is found, and what runs it.
-use Rattle.std.proofs.Common.{◌≡◌, ◌∙◌, ap, sym, subst, refl, ℕ, ◌+◌, ◌++◌, ◌≤◌, ◌==◌, cond, List, [], ◌∷◌, find, length, nat_le, All, Option, Some, None, Result, Ok, Err, Bool, true, false, unwrap_or, arith, if◌then◌else◌, option_and_then, pos, replicate, slice_get}
+use Rattle.std.proofs.Common.{◌≡◌, ◌∙◌, ap, sym, subst, refl, ℕ, ◌+◌, ◌++◌, ◌==◌, cond, List, [], ◌∷◌, find, length, nat_le, All, Option, Some, None, Result, Ok, Err, Bool, true, false, unwrap_or, arith, if◌then◌else◌, option_and_then, pos, replicate, slice_get}
 use Rattle.std.specs.List.{AllByRecursion}
 use Rattle.std.specs.Option.{option_map, option_map_or}
 use Rattle.std.proofs.lemmas.List.Elements.{All-cons, All-nil}

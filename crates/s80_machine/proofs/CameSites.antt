@@ -1,6 +1,6 @@
 -- Messages that went to a method before: what they come to, and how they are noted.
-use Rattle.std.proofs.Common.{◌≡◌, ◌∙◌, ap, sym, subst, ℕ, ◌==◌, ◌&&◌, ◌<◌, ◌++◌, refl, List, [], ◌∷◌, Bool, true, false, length, map, slice_get, Option, Some, None, Result, option_map, unwrap_or, if◌then◌else◌}
-use Rattle.std.specs.List.{list_any, position_or_len}
+use Rattle.std.proofs.Common.{◌≡◌, ◌∙◌, ap, sym, subst, ℕ, ◌==◌, ◌&&◌, ◌<◌, ◌++◌, refl, List, [], ◌∷◌, Bool, true, false, length, slice_get, Option, Some, None, Result, unwrap_or, if◌then◌else◌}
+use Rattle.std.specs.List.{position_or_len}
 use Rattle.std.specs.Option.{option_map_or}
 use Rattle.std.proofs.lemmas.Option.{slice_get_within}
 use Rattle.s80_base.specs.declared.names.Side.{Side}

@@ -30,6 +30,7 @@ pub(crate) struct Block {
 
 impl<'a> Machine<'a> {
     /// Activates a method by its number. Its home is an object where it holds a real block.
+    #[inline(always)]
     pub(crate) fn activate_method(
         &mut self,
         on: &Setting<'a>,
@@ -70,6 +71,7 @@ impl<'a> Machine<'a> {
     }
 
     // Begins an activation, which becomes the active one.
+    #[inline(always)]
     fn begin(&mut self, context: Context) -> Result<(), Halt>
         ensures { (on : Given) (s : State) → Shows on self.old s → Came on (Goes (record { contexts = context ∷ s.contexts; world = s.world })) self.new result }
     {
@@ -128,6 +130,7 @@ impl<'a> Machine<'a> {
 
     /// Makes a block of the active context's home. The number of its arguments is on top of the stack, and the context below it; it begins
     /// behind the jump of two bytes that stands next.
+    #[inline(never)]
     pub(crate) fn make_block(&mut self, next: u32) -> Result<(), Halt>
         requires home { TopHasHome self.old }
         requires few { TopCountsFew self.old }

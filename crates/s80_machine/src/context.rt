@@ -111,6 +111,7 @@ impl Context {
         self.frame.block()
     }
 
+    #[inline(always)]
     pub(crate) fn push(&mut self, value: Value) -> Result<(), Halt>
         ensures does { DoesIn (λ done. done) (pushed value self.old) self.new result }
         ensures stays { block_in self.new.frame ≡ block_in self.old.frame }
@@ -119,6 +120,7 @@ impl Context {
         Ok(())
     }
 
+    #[inline(always)]
     pub(crate) fn pop(&mut self) -> Result<Value, Halt>
         ensures does { DoesIn (λ v. v) (popped self.old) self.new result }
         ensures stays { block_in self.new.frame ≡ block_in self.old.frame }
@@ -130,6 +132,7 @@ impl Context {
     }
 
     /// The top of the stack, which stays.
+    #[inline(always)]
     pub(crate) fn top(&self) -> Result<Value, Halt>
         ensures { DoesIn (λ v. v) (topped self.now) self.now result }
     {
@@ -140,6 +143,7 @@ impl Context {
     }
 
     /// Takes so many arguments off the stack into this room, of which the last is on top, and the receiver below them.
+    #[inline(always)]
     pub(crate) fn take_message(
         &mut self,
         mut arguments: Vec<Value>,
@@ -159,6 +163,7 @@ impl Context {
     }
 
     /// The two on top: a receiver, and its argument above it.
+    #[inline(always)]
     pub(crate) fn two_on_top(&self) -> Option<(Value, Value)>
         ensures { result ≡ two_in self.now.stack }
     {
@@ -169,6 +174,7 @@ impl Context {
     }
 
     /// Puts an answer in the place of the two on top. Takes no memory.
+    #[inline(always)]
     pub(crate) fn answer_two(&mut self, value: Value) -> Result<(), Halt>
         ensures does { DoesIn (λ done. done) (two_answered value self.old) self.new result }
         ensures stays { block_in self.new.frame ≡ block_in self.old.frame }
@@ -182,6 +188,7 @@ impl Context {
     }
 
     /// Goes on at this place.
+    #[inline(always)]
     pub(crate) fn move_to(&mut self, place: u32) -> Result<(), Halt>
         ensures does { DoesIn (λ done. done) (moved place self.old) self.new result }
         ensures stays { block_in self.new.frame ≡ block_in self.old.frame }

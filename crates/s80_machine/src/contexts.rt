@@ -62,6 +62,7 @@ impl Contexts {
     }
 
     /// Begins an activation, which becomes the active one.
+    #[inline(always)]
     pub(crate) fn begin(&mut self, context: Context) -> Result<(), OutOfMemory>
         ensures { OnOk result (self.new ≡ context ∷ self.old) }
     {
@@ -76,6 +77,7 @@ impl Contexts {
     }
 
     /// Pushes a value on the stack of the active context.
+    #[inline(always)]
     pub(crate) fn push(&mut self, value: Value) -> Result<(), Halt>
         ensures { Does (λ done. done) (pushed value) self.old self.new result }
     {
@@ -85,6 +87,7 @@ impl Contexts {
         active.push(value)
     }
 
+    #[inline(always)]
     pub(crate) fn pop(&mut self) -> Result<Value, Halt>
         ensures { Does (λ v. v) popped self.old self.new result }
     {
@@ -95,6 +98,7 @@ impl Contexts {
     }
 
     /// The top of the stack, which stays.
+    #[inline(always)]
     pub(crate) fn top(&self) -> Result<Value, Halt>
         ensures { Does (λ v. v) topped self.now self.now result }
     {
@@ -105,6 +109,7 @@ impl Contexts {
     }
 
     /// Takes so many arguments off the stack, of which the last is on top, and the receiver below them.
+    #[inline(always)]
     pub(crate) fn take_message(
         &mut self,
         alloc: Global,
@@ -127,6 +132,7 @@ impl Contexts {
     }
 
     /// Room for the stack of an activation.
+    #[inline(always)]
     pub(crate) fn take_room(&mut self, alloc: Global) -> Vec<Value>
         ensures empty { result.items ≡ [] }
         ensures same { self.new ≡ self.old }
@@ -135,6 +141,7 @@ impl Contexts {
     }
 
     /// The two on top of the active context's stack: a receiver, and its argument above it.
+    #[inline(always)]
     pub(crate) fn two_on_top(&self) -> Option<(Value, Value)>
         ensures { result ≡ two_on_top self.now }
     {
@@ -145,6 +152,7 @@ impl Contexts {
     }
 
     /// Puts an answer in the place of the two on top. Takes no memory.
+    #[inline(always)]
     pub(crate) fn answer_two(&mut self, value: Value) -> Result<(), Halt>
         ensures { Does (λ done. done) (two_answered value) self.old self.new result }
     {
@@ -155,6 +163,7 @@ impl Contexts {
     }
 
     /// The active context goes on at this place.
+    #[inline(always)]
     pub(crate) fn move_to(&mut self, place: u32) -> Result<(), Halt>
         ensures { Does (λ done. done) (moved place) self.old self.new result }
     {
@@ -175,6 +184,7 @@ impl Contexts {
     }
 
     /// Ends the active context, and keeps its room.
+    #[inline(always)]
     pub(crate) fn end(&mut self) -> Result<(), Halt>
         ensures { IsEnded self.old self.new result }
     {
@@ -209,6 +219,7 @@ impl Contexts {
 }
 
 // Room that is there, or what grows into one.
+#[inline(always)]
 fn take_room(rooms: &mut Vec<Vec<Value>>, alloc: Global) -> Vec<Value>
     ensures { result.items ≡ [] }
 {
@@ -219,6 +230,7 @@ fn take_room(rooms: &mut Vec<Vec<Value>>, alloc: Global) -> Vec<Value>
 }
 
 /// The same room with nothing in it.
+#[inline(always)]
 pub(crate) fn emptied(mut room: Vec<Value>) -> Vec<Value>
     ensures { result.items ≡ [] }
 {
@@ -227,11 +239,13 @@ pub(crate) fn emptied(mut room: Vec<Value>) -> Vec<Value>
 }
 
 // Keeps a room for others. Where memory is wanting, it is let go.
+#[inline(always)]
 fn keep_room(rooms: &mut Vec<Vec<Value>>, room: Vec<Value>) {
     let _ = rooms.push(room);
 }
 
 // Keeps the rooms of an activation. That of its temporaries, which were arguments, is taken first again.
+#[inline(always)]
 fn keep_rooms(rooms: &mut Vec<Vec<Value>>, ended: Context) {
     keep_room(rooms, ended.stack);
     if let Frame::Own(temporaries) = ended.frame {
@@ -269,6 +283,7 @@ fn raised_count(counts: &mut Vec<u32>, block: u32) -> Result<u32, OutOfMemory>
 }
 
 // One activation less of its block.
+#[inline(always)]
 fn take_off(counts: &mut [u32], ended: &Context)
     requires { (b : ℕ) → one_of b ended.now ≤ get_or counts.old b 0 }
     ensures { (b : ℕ) → get_or counts.new b 0 + one_of b ended.now ≡ get_or counts.old b 0 }

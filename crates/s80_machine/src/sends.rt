@@ -54,6 +54,7 @@ const VALUE_WITH: u8 = 26;
 
 impl<'a> Machine<'a> {
     /// Sends the message of a literal of the active context's code, its selector, to the receiver below its arguments on the stack.
+    #[inline(always)]
     pub(crate) fn send(
         &mut self,
         on: &Setting<'a>,
@@ -86,6 +87,7 @@ impl<'a> Machine<'a> {
     }
 
     // Activates the method to which the message went before.
+    #[inline(always)]
     fn activate_again(
         &mut self,
         on: &Setting<'a>,
@@ -102,6 +104,7 @@ impl<'a> Machine<'a> {
     }
 
     // Looks a message up, and runs the method that it finds. Where that has no primitive, its number is noted.
+    #[inline(never)]
     fn find_and_run(
         &mut self,
         on: &Setting<'a>,
@@ -128,6 +131,7 @@ impl<'a> Machine<'a> {
     }
 
     // Activates a method that was found, and notes its number.
+    #[inline(never)]
     fn activate_noting(
         &mut self,
         on: &Setting<'a>,
@@ -209,6 +213,7 @@ impl<'a> Machine<'a> {
     }
 
     // What the two on top are answered at once by a special message with one argument.
+    #[inline(always)]
     fn two_at_once(&self, number: u8) -> Option<Value>
         ensures { IfSome result (IsAnswerOfTwo number (two_on_top self.now.contexts)) }
     {
@@ -438,6 +443,7 @@ fn class_at_once(on: &Setting<'_>, objects: &Objects, number: u8, r: Value) -> O
 }
 
 // The answer to `==`, or of two SmallIntegers to one of their messages.
+#[inline(always)]
 fn one_at_once(number: u8, r: Value, a: Value) -> Option<Value>
     ensures { result ≡ (if number == 22 then Some (truth (same r a)) else of_integers number r a) }
 {
@@ -447,6 +453,7 @@ fn one_at_once(number: u8, r: Value, a: Value) -> Option<Value>
     of_integers(number, r, a)
 }
 
+#[inline(always)]
 fn of_integers(number: u8, r: Value, a: Value) -> Option<Value>
     ensures { result ≡ of_integers number r a }
 {

@@ -148,6 +148,7 @@ impl<'a> Machine<'a> {
 
     // ---- messages
 
+    #[inline(always)]
     fn send_literal(
         &mut self,
         on: &Setting<'a>,
@@ -166,6 +167,7 @@ impl<'a> Machine<'a> {
         self.send(on, literal, selector, arguments)
     }
 
+    #[inline(never)]
     fn send_literal_super(
         &mut self,
         on: &Setting<'a>,
@@ -205,6 +207,7 @@ impl<'a> Machine<'a> {
 
     // ---- jumps
 
+    #[inline(always)]
     fn jump(&mut self, next: u32, distance: i32) -> Result<(), Halt>
         requires { next ≤ 1023 }
         ensures { (on : Given) (c : Context) (rest : List Context) (w : World) (stack : List Value) → Shows on self.old (left_at c next stack rest w)
@@ -228,6 +231,7 @@ impl<'a> Machine<'a> {
     }
 
     // Jumps where the top is as wanted; true and false decide, and nothing else does.
+    #[inline(always)]
     fn jump_on(&mut self, wanted: bool, next: u32, distance: i32) -> Result<(), Halt>
         requires { next ≤ 1023 }
         ensures { (on : Given) (code : Code) → Acts on code next (if wanted then JumpOnTrue distance else JumpOnFalse distance) self.old self.new result }
@@ -268,6 +272,7 @@ impl<'a> Machine<'a> {
         self.deliver(value)
     }
 
+    #[inline(always)]
     fn return_from_method(&mut self, value: Value) -> Result<(), Halt>
         ensures { (on : Given) (c : Context) (rest : List Context) (w : World) → Shows on self.old (record { contexts = c ∷ rest; world = w })
             → Came on (return_from c.frame value rest w) self.new result }
@@ -277,6 +282,7 @@ impl<'a> Machine<'a> {
     }
 
     // A value for the context that waits for it.
+    #[inline(always)]
     fn deliver(&mut self, value: Value) -> Result<(), Halt>
         ensures { (on : Given) (rest : List Context) (w : World) → Shows on self.old (record { contexts = rest; world = w })
             → Came on (deliver value rest w) self.new result }

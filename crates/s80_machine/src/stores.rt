@@ -49,6 +49,7 @@ impl<'a> Machine<'a> {
     }
 
     // Pushes a value that is there.
+    #[inline(always)]
     fn push_found(&mut self, value: Option<Value>) -> Result<(), Halt>
         ensures { (on : Given) (c : Context) (rest : List Context) (w : World) (next : ℕ) → Shows on self.old (at_place c next rest w)
             → Came on (given value (λ v. goes_on c next (v ∷ c.stack) rest w)) self.new result }
@@ -58,6 +59,7 @@ impl<'a> Machine<'a> {
     }
 
     // A literal becomes an object at its first push.
+    #[inline(never)]
     fn push_literal(&mut self, on: &Setting<'a>, code: &'a Code, k: u8) -> Result<(), Halt>
         requires { IsReady on.now }
         ensures { (c : Context) (rest : List Context) (w : World) (next : ℕ) → Shows (given_of on.now) self.old (at_place c next rest w)
@@ -74,6 +76,7 @@ impl<'a> Machine<'a> {
     }
 
     /// Stores a value where an instruction says.
+    #[inline(always)]
     pub(crate) fn store(
         &mut self,
         on: &Setting<'a>,
@@ -134,6 +137,7 @@ impl<'a> Machine<'a> {
         }
     }
 
+    #[inline(always)]
     fn set_temporary(&mut self, i: u8, value: Value) -> Result<(), Halt>
         ensures { (on : Given) (c : Context) (rest : List Context) (w : World) (next : ℕ) (stack : List Value) → Shows on self.old (left_at c next stack rest w)
             → Came on (given (with_temporary w c.frame i value) (λ p. goes_on (record c { frame = p.1 }) next stack rest p.0)) self.new result }
