@@ -37,56 +37,184 @@ pub(crate) fn new_disk(alloc: Global, plan: FaultPlan) -> Result<MemDisk, OutOfM
     Ok(disk)
 }
 
-#[test]
-fn items_are_answered_one_by_one(rt: HostRuntime) -> Result<(), Fail> {
-    let alloc = rt.alloc();
-    let mut outside = outside_of(alloc, new_disk(alloc, FaultPlan::Never)?, b"")?;
-    let mut session = Session::start(alloc, &mut outside, BUDGET)?;
-    let sum = Item::Plain(Text::from_bytes(alloc, b"3 + 4")?);
-    session.step(alloc, SessionItem::Chunk(sum), &mut outside)?;
-    session.step(alloc, SessionItem::Query(Query::Recover), &mut outside)?;
-    assert!(rt; !session.troubled());
-    let head = Item::Head(Text::from_bytes(alloc, b"Object foo")?);
-    session.step(alloc, SessionItem::Chunk(head), &mut outside)?;
-    session.step(alloc, SessionItem::Chunk(Item::SectionEnd), &mut outside)?;
-    let long = Item::TooLong {
-        role: Role::Plain,
-        length: 65_536,
-    };
-    session.step(alloc, SessionItem::Chunk(long), &mut outside)?;
-    session.step(alloc, SessionItem::Unended, &mut outside)?;
-    assert!(rt; session.troubled());
-    let (_disk, _source, sink) = outside.parts();
-    assert_eq!(rt;
-        sink.bytes(),
-        b"=> 7\nrecovered 1 changes, 0 classes, 0 methods\nrefused 13 no section Object foo\nrefused 3 too large chunk 65536\nrefused 1 unended\n".as_slice()
-    );
-    Ok(())
+/// An outside over a new disk without faults, with this input.
+pub(crate) fn faultless_outside(
+    alloc: Global,
+    input: &[u8],
+) -> Result<MemOutside<MemSource>, OutOfMemory> {
+    outside_of(alloc, new_disk(alloc, FaultPlan::Never)?, input)
 }
 
-/// Steps a plain text.
-fn step_text(
+/// A session whose doIts may take so many ticks.
+pub(crate) fn started(
+    alloc: Global,
+    outside: &mut MemOutside<MemSource>,
+    budget: u64,
+) -> Result<Session, Fail>
+    ensures { IfOk result IsFaultless }
+{
+    Ok(Session::start(alloc, outside, budget)?)
+}
+
+/// A step of a session, in tests.
+#[derive(Clone, Copy)]
+pub(crate) enum Step<'a> {
+    /// A chunk outside a section.
+    Plain(&'a [u8]),
+    Head(&'a [u8]),
+    Method(&'a [u8]),
+    SectionEnd,
+    /// A chunk of 65,536 bytes.
+    TooLong(Role),
+    Unended,
+    /// All chunks of the input.
+    Input,
+    Recover,
+    Classes,
+    Browse(&'a [u8]),
+    Source(&'a [u8], &'a [u8]),
+}
+
+/// How many ticks a run took, and how many it might have taken.
+type TicksAndBudget = (u64, u64);
+
+/// What a session wrote, and behind each step whether it was troubled and what its last run was.
+#[derive(Drop)]
+pub(crate) struct Seen {
+    pub written: Vec<u8>,
+    pub troubled: Vec<bool>,
+    pub runs: Vec<Option<TicksAndBudget>>,
+}
+
+fn chunk_of(alloc: Global, step: Step<'_>) -> Result<Option<Item>, OutOfMemory> {
+    let item = match step {
+        Step::Plain(text) => Item::Plain(Text::from_bytes(alloc, text)?),
+        Step::Head(text) => Item::Head(Text::from_bytes(alloc, text)?),
+        Step::Method(text) => Item::Method(Text::from_bytes(alloc, text)?),
+        Step::SectionEnd => Item::SectionEnd,
+        Step::TooLong(role) => Item::TooLong {
+            role,
+            length: 65_536,
+        },
+        _ => return Ok(None),
+    };
+    Ok(Some(item))
+}
+
+fn query_of(alloc: Global, step: Step<'_>) -> Result<Option<Query>, OutOfMemory> {
+    let query = match step {
+        Step::Recover => Query::Recover,
+        Step::Classes => Query::Classes,
+        Step::Browse(name) => Query::Browse(Text::from_bytes(alloc, name)?),
+        Step::Source(spec, selector) => Query::Source(
+            Text::from_bytes(alloc, spec)?,
+            Text::from_bytes(alloc, selector)?,
+        ),
+        _ => return Ok(None),
+    };
+    Ok(Some(query))
+}
+
+/// The item of a step; the input has many.
+fn item_of(alloc: Global, step: Step<'_>) -> Result<Option<SessionItem>, OutOfMemory> {
+    if let Step::Unended = step {
+        return Ok(Some(SessionItem::Unended));
+    }
+    if let Some(item) = chunk_of(alloc, step)? {
+        return Ok(Some(SessionItem::Chunk(item)));
+    }
+    Ok(query_of(alloc, step)?.map(SessionItem::Query))
+}
+
+fn take_step(
     alloc: Global,
     session: &mut Session,
-    text: &[u8],
+    step: Step<'_>,
     outside: &mut MemOutside<MemSource>,
 ) -> Result<(), Fail>
     requires { IsFaultless session.old }
     ensures { OnOk result (IsFaultless session.new) }
 {
-    let item = Item::Plain(Text::from_bytes(alloc, text)?);
-    session.step(alloc, SessionItem::Chunk(item), outside)?;
+    match item_of(alloc, step)? {
+        Some(item) => session.step(alloc, item, outside)?,
+        None => session.run_items(alloc, outside)?,
+    }
     Ok(())
+}
+
+fn last_run_of(session: &Session) -> Option<TicksAndBudget> {
+    let ran = session.last_run()?;
+    Some((ran.outcome().ticks, ran.budget()))
+}
+
+/// Takes steps, and notes what is seen behind each.
+fn take_steps(
+    alloc: Global,
+    session: &mut Session,
+    steps: &[Step<'_>],
+    outside: &mut MemOutside<MemSource>,
+) -> Result<(Vec<bool>, Vec<Option<TicksAndBudget>>), Fail>
+    requires { IsFaultless session.old }
+{
+    let mut troubled = Vec::new(alloc);
+    let mut runs = Vec::new(alloc);
+    for step in steps {
+        take_step(alloc, session, *step, outside)?;
+        troubled.push(session.troubled())?;
+        runs.push(last_run_of(session))?;
+    }
+    Ok((troubled, runs))
+}
+
+/// What a session has written.
+fn written(alloc: Global, outside: MemOutside<MemSource>) -> Result<Vec<u8>, Fail> {
+    let (_disk, _source, sink) = outside.parts();
+    Ok(sink.bytes().to_vec(alloc)?)
+}
+
+/// What is seen of a session with this input and this budget that takes these steps.
+fn observe(alloc: Global, input: &[u8], budget: u64, steps: &[Step<'_>]) -> Result<Seen, Fail> {
+    let mut outside = faultless_outside(alloc, input)?;
+    let mut session = started(alloc, &mut outside, budget)?;
+    let (troubled, runs) = take_steps(alloc, &mut session, steps, &mut outside)?;
+    Ok(Seen {
+        written: written(alloc, outside)?,
+        troubled,
+        runs,
+    })
+}
+
+/// What a session with this input writes at these steps.
+pub(crate) fn answers(alloc: Global, input: &[u8], steps: &[Step<'_>]) -> Result<Vec<u8>, Fail> {
+    let Seen { written, .. } = observe(alloc, input, BUDGET, steps)?;
+    Ok(written)
 }
 
 /// What a session answers to a plain text.
 fn answer_to(alloc: Global, text: &[u8]) -> Result<Vec<u8>, Fail> {
-    let mut outside = outside_of(alloc, new_disk(alloc, FaultPlan::Never)?, b"")?;
-    let mut session = Session::start(alloc, &mut outside, BUDGET)?;
-    let item = Item::Plain(Text::from_bytes(alloc, text)?);
-    session.step(alloc, SessionItem::Chunk(item), &mut outside)?;
-    let (_disk, _source, sink) = outside.parts();
-    Ok(sink.bytes().to_vec(alloc)?)
+    answers(alloc, b"", &[Step::Plain(text)])
+}
+
+#[test]
+fn items_are_answered_one_by_one(rt: HostRuntime) -> Result<(), Fail> {
+    let steps = [
+        Step::Plain(b"3 + 4"),
+        Step::Recover,
+        Step::Head(b"Object foo"),
+        Step::SectionEnd,
+        Step::TooLong(Role::Plain),
+        Step::Unended,
+    ];
+    let seen = observe(rt.alloc(), b"", BUDGET, &steps)?;
+    assert_eq!(rt;
+        seen.troubled.as_slice(),
+        [false, false, true, true, true, true].as_slice()
+    );
+    assert_eq!(rt;
+        seen.written.as_slice(),
+        b"=> 7\nrecovered 1 changes, 0 classes, 0 methods\nrefused 13 no section Object foo\nrefused 3 too large chunk 65536\nrefused 1 unended\n".as_slice()
+    );
+    Ok(())
 }
 
 #[test]
@@ -152,73 +280,60 @@ fn a_doit_is_answered_with_what_it_came_to(rt: HostRuntime) -> Result<(), Fail> 
     Ok(())
 }
 
+const LOOP_OF_FIVE: &[u8] = b"| i | i _ 0. [i < 5] whileTrue: [i _ i + 1]. i";
+
 #[test]
 fn a_doit_has_the_budget_of_its_session(rt: HostRuntime) -> Result<(), Fail> {
-    let alloc = rt.alloc();
-    let mut outside = outside_of(alloc, new_disk(alloc, FaultPlan::Never)?, b"")?;
-    let mut session = Session::start(alloc, &mut outside, 5)?;
-    step_text(alloc, &mut session, b"[true] whileTrue: []", &mut outside)?;
-    step_text(
-        alloc,
-        &mut session,
-        b"| i | i _ 0. [i < 5] whileTrue: [i _ i + 1]. i",
-        &mut outside,
-    )?;
-    let (_disk, _source, sink) = outside.parts();
-    assert_eq!(rt; sink.bytes(), b"stopped 9 budget 5\n=> 5\n".as_slice());
+    let steps = [
+        Step::Plain(b"[true] whileTrue: []"),
+        Step::Plain(LOOP_OF_FIVE),
+    ];
+    let seen = observe(rt.alloc(), b"", 5, &steps)?;
+    assert_eq!(rt;
+        seen.written.as_slice(),
+        b"stopped 9 budget 5\n=> 5\n".as_slice()
+    );
     Ok(())
 }
 
 #[test]
 fn a_doit_that_stops_troubles_its_session(rt: HostRuntime) -> Result<(), Fail> {
-    let alloc = rt.alloc();
-    let mut outside = outside_of(alloc, new_disk(alloc, FaultPlan::Never)?, b"")?;
-    let mut session = Session::start(alloc, &mut outside, BUDGET)?;
-    step_text(alloc, &mut session, b"3 + 4", &mut outside)?;
-    assert!(rt; !session.troubled());
-    step_text(alloc, &mut session, b"3 zork", &mut outside)?;
-    assert!(rt; session.troubled());
-    step_text(alloc, &mut session, b"3 + 4", &mut outside)?;
-    assert!(rt; session.troubled());
+    let steps = [
+        Step::Plain(b"3 + 4"),
+        Step::Plain(b"3 zork"),
+        Step::Plain(b"3 + 4"),
+    ];
+    let seen = observe(rt.alloc(), b"", BUDGET, &steps)?;
+    assert_eq!(rt; seen.troubled.as_slice(), [false, true, true].as_slice());
     Ok(())
-}
-
-/// Whether a session's last run took so many ticks under the budget of these tests.
-fn took(session: &Session, ticks: u64) -> bool {
-    match session.last_run() {
-        None => false,
-        Some(ran) => ran.outcome().ticks == ticks && ran.budget() == BUDGET,
-    }
 }
 
 #[test]
 fn the_last_run_is_that_of_the_last_doit(rt: HostRuntime) -> Result<(), Fail> {
-    let alloc = rt.alloc();
-    let mut outside = outside_of(alloc, new_disk(alloc, FaultPlan::Never)?, b"")?;
-    let mut session = Session::start(alloc, &mut outside, BUDGET)?;
-    assert!(rt; session.last_run().is_none());
-    step_text(
-        alloc,
-        &mut session,
-        b"| i | i _ 0. [i < 5] whileTrue: [i _ i + 1]. i",
-        &mut outside,
-    )?;
-    assert!(rt; took(&session, 5));
-    step_text(alloc, &mut session, b"3 +", &mut outside)?;
-    assert!(rt; took(&session, 5));
-    step_text(
-        alloc,
-        &mut session,
-        b"Object subclass: #A instanceVariableNames: '' classVariableNames: '' poolDictionaries: '' category: ''",
-        &mut outside,
-    )?;
-    assert!(rt; took(&session, 5));
-    step_text(alloc, &mut session, b"3 + 4", &mut outside)?;
-    assert!(rt; took(&session, 0));
-    let (_disk, _source, sink) = outside.parts();
+    let steps = [
+        Step::Plain(b"3 +"),
+        Step::Plain(LOOP_OF_FIVE),
+        Step::Plain(b"3 +"),
+        Step::Plain(
+            b"Object subclass: #A instanceVariableNames: '' classVariableNames: '' poolDictionaries: '' category: ''",
+        ),
+        Step::Plain(b"3 + 4"),
+    ];
+    let seen = observe(rt.alloc(), b"", BUDGET, &steps)?;
     assert_eq!(rt;
-        sink.bytes(),
-        b"=> 5\nrefused 2 unexpected at 3\nok\n=> 7\n".as_slice()
+        seen.runs.as_slice(),
+        [
+            None,
+            Some((5, BUDGET)),
+            Some((5, BUDGET)),
+            Some((5, BUDGET)),
+            Some((0, BUDGET))
+        ]
+        .as_slice()
+    );
+    assert_eq!(rt;
+        seen.written.as_slice(),
+        b"refused 2 unexpected at 3\n=> 5\nrefused 2 unexpected at 3\nok\n=> 7\n".as_slice()
     );
     Ok(())
 }
@@ -247,19 +362,9 @@ fn a_text_that_is_too_long_is_refused_before_it_is_parsed(rt: HostRuntime) -> Re
     Ok(())
 }
 
-/// What a session answers to an input and then to a query.
-pub(crate) fn answers(alloc: Global, input: &[u8], query: Query) -> Result<Vec<u8>, Fail> {
-    let mut outside = outside_of(alloc, new_disk(alloc, FaultPlan::Never)?, input)?;
-    let mut session = Session::start(alloc, &mut outside, BUDGET)?;
-    session.run_items(alloc, &mut outside)?;
-    session.step(alloc, SessionItem::Query(query), &mut outside)?;
-    let (_disk, _source, sink) = outside.parts();
-    Ok(sink.bytes().to_vec(alloc)?)
-}
-
 /// What a session answers to an input and then to `browse` with this name.
 pub(crate) fn browsed(alloc: Global, input: &[u8], name: &[u8]) -> Result<Vec<u8>, Fail> {
-    answers(alloc, input, Query::Browse(Text::from_bytes(alloc, name)?))
+    answers(alloc, input, &[Step::Input, Step::Browse(name)])
 }
 
 #[test]
@@ -348,7 +453,7 @@ fn classes_stand_in_byte_order(rt: HostRuntime) -> Result<(), Fail> {
     let found = answers(
         alloc,
         b"Object subclass: #Zoo instanceVariableNames: '' classVariableNames: '' poolDictionaries: '' category: ''! Zoo subclass: #Account instanceVariableNames: '' classVariableNames: '' poolDictionaries: '' category: ''! Object subclass: #Objects instanceVariableNames: '' classVariableNames: '' poolDictionaries: '' category: ''!",
-        Query::Classes,
+        &[Step::Input, Step::Classes],
     )?;
     assert_eq!(rt;
         found.as_slice(),
@@ -382,7 +487,7 @@ fn answers_to_definition(
     let mut input = Text::empty(alloc);
     add_definition(&mut input, b"Object", b"Account", b"balance")?;
     add_definition(&mut input, superclass, class_name, inst_vars)?;
-    answers(alloc, input.bytes(), Query::Recover)
+    answers(alloc, input.bytes(), &[Step::Input, Step::Recover])
 }
 
 #[test]
@@ -432,7 +537,7 @@ fn every_other_expression_is_kept_as_a_doit(rt: HostRuntime) -> Result<(), Fail>
     let returned = answers(
         alloc,
         b"^Object subclass: #A instanceVariableNames: '' classVariableNames: '' poolDictionaries: '' category: ''! (Object subclass: #A instanceVariableNames: '' classVariableNames: '' poolDictionaries: '' category: '')! nil subclass: #A instanceVariableNames: '' classVariableNames: '' poolDictionaries: '' category: ''!",
-        Query::Recover,
+        &[Step::Input, Step::Recover],
     )?;
     assert_eq!(rt;
         returned.as_slice(),
@@ -441,7 +546,7 @@ fn every_other_expression_is_kept_as_a_doit(rt: HostRuntime) -> Result<(), Fail>
     let others = answers(
         alloc,
         b"Object subclass: #A! Object subclass: 'A' instanceVariableNames: '' classVariableNames: '' poolDictionaries: '' category: ''! Object comment: 'c'! Object removeSelector: #halt! 'a'! \"a\"!",
-        Query::Recover,
+        &[Step::Input, Step::Recover],
     )?;
     assert_eq!(rt;
         others.as_slice(),
@@ -452,25 +557,19 @@ fn every_other_expression_is_kept_as_a_doit(rt: HostRuntime) -> Result<(), Fail>
 
 #[test]
 fn a_definition_is_kept_or_refused(rt: HostRuntime) -> Result<(), Fail> {
-    let alloc = rt.alloc();
-    let mut outside = outside_of(alloc, new_disk(alloc, FaultPlan::Never)?, b"")?;
-    let mut session = Session::start(alloc, &mut outside, BUDGET)?;
-    let account = Item::Plain(Text::from_bytes(
-        alloc,
-        b"Object subclass: #Account instanceVariableNames: 'balance ' classVariableNames: '' poolDictionaries: '' category: 'Bank'",
-    )?);
-    session.step(alloc, SessionItem::Chunk(account), &mut outside)?;
-    assert!(rt; !session.troubled());
-    let array = Item::Plain(Text::from_bytes(
-        alloc,
-        b"Object subclass: #Array instanceVariableNames: 'balance ' classVariableNames: '' poolDictionaries: '' category: 'Bank'",
-    )?);
-    session.step(alloc, SessionItem::Chunk(array), &mut outside)?;
-    assert!(rt; session.troubled());
-    session.step(alloc, SessionItem::Query(Query::Recover), &mut outside)?;
-    let (_disk, _source, sink) = outside.parts();
+    let steps = [
+        Step::Plain(
+            b"Object subclass: #Account instanceVariableNames: 'balance ' classVariableNames: '' poolDictionaries: '' category: 'Bank'",
+        ),
+        Step::Plain(
+            b"Object subclass: #Array instanceVariableNames: 'balance ' classVariableNames: '' poolDictionaries: '' category: 'Bank'",
+        ),
+        Step::Recover,
+    ];
+    let seen = observe(rt.alloc(), b"", BUDGET, &steps)?;
+    assert_eq!(rt; seen.troubled.as_slice(), [false, true, true].as_slice());
     assert_eq!(rt;
-        sink.bytes(),
+        seen.written.as_slice(),
         b"ok\nrefused 5 kernel class Array\nrecovered 1 changes, 1 classes, 0 methods\n".as_slice()
     );
     Ok(())
@@ -478,15 +577,11 @@ fn a_definition_is_kept_or_refused(rt: HostRuntime) -> Result<(), Fail> {
 
 #[test]
 fn a_refused_text_is_not_kept(rt: HostRuntime) -> Result<(), Fail> {
-    let alloc = rt.alloc();
-    let mut outside = outside_of(alloc, new_disk(alloc, FaultPlan::Never)?, b"1! 3 + ! 2!")?;
-    let mut session = Session::start(alloc, &mut outside, BUDGET)?;
-    session.run_items(alloc, &mut outside)?;
-    session.step(alloc, SessionItem::Query(Query::Recover), &mut outside)?;
-    assert!(rt; session.troubled());
-    let (_disk, _source, sink) = outside.parts();
+    let steps = [Step::Input, Step::Recover];
+    let seen = observe(rt.alloc(), b"1! 3 + ! 2!", BUDGET, &steps)?;
+    assert_eq!(rt; seen.troubled.as_slice(), [true, true].as_slice());
     assert_eq!(rt;
-        sink.bytes(),
+        seen.written.as_slice(),
         b"=> 1\nrefused 2 unexpected at 4\n=> 2\nrecovered 2 changes, 0 classes, 0 methods\n".as_slice()
     );
     Ok(())
@@ -494,13 +589,18 @@ fn a_refused_text_is_not_kept(rt: HostRuntime) -> Result<(), Fail> {
 
 #[test]
 fn a_whole_input_is_worked(rt: HostRuntime) -> Result<(), Fail> {
+    let seen = observe(rt.alloc(), b"1! 2! 3!", BUDGET, &[Step::Input])?;
+    assert_eq!(rt; seen.written.as_slice(), b"=> 1\n=> 2\n=> 3\n".as_slice());
+    Ok(())
+}
+
+#[test]
+fn a_line_is_put(rt: HostRuntime) -> Result<(), Fail> {
     let alloc = rt.alloc();
-    let mut outside = outside_of(alloc, new_disk(alloc, FaultPlan::Never)?, b"1! 2! 3!")?;
-    let mut session = Session::start(alloc, &mut outside, BUDGET)?;
-    session.run_items(alloc, &mut outside)?;
+    let mut outside = faultless_outside(alloc, b"")?;
     put_all(&mut outside, b"done\n")?;
-    let (_disk, _source, sink) = outside.parts();
-    assert_eq!(rt; sink.bytes(), b"=> 1\n=> 2\n=> 3\ndone\n".as_slice());
+    let found = written(alloc, outside)?;
+    assert_eq!(rt; found.as_slice(), b"done\n".as_slice());
     Ok(())
 }
 

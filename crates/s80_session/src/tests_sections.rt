@@ -1,9 +1,11 @@
 // Sections, methods and their sources, over an outside in memory.
-use crate::tests::{BUDGET, answers, browsed, new_disk, outside_of};
+ghost use Rattle.s80_session.specs.Session.{IsFaultless};
+
+use crate::tests::{BUDGET, Step, answers, browsed, faultless_outside, started};
 use crate::{Session, SessionEnd};
-use s80_base::{OutOfMemory, Text};
-use s80_chunk::{Item, Role};
-use s80_disk::{Disk, FaultPlan, FileId};
+use s80_base::{MemSource, OutOfMemory, Text};
+use s80_chunk::Role;
+use s80_disk::{Disk, FileId, MemOutside};
 use s80_keeper::Damage;
 use s80_model::{Query, SessionItem};
 use std::alloc::Global;
@@ -15,7 +17,7 @@ fn a_section_goes_on_behind_a_refused_method(rt: HostRuntime) -> Result<(), Fail
     let found = answers(
         alloc,
         b"!Object methodsFor: 'x'!\none ^1! two ^(2! three ^3! !\n4!",
-        Query::Recover,
+        &[Step::Input, Step::Recover],
     )?;
     assert_eq!(rt;
         found.as_slice(),
@@ -30,18 +32,26 @@ fn a_refused_head_has_one_reply(rt: HostRuntime) -> Result<(), Fail> {
     let unknown = answers(
         alloc,
         b"!Nobody methodsFor: 'x'!\na ^1! b ^(! !\n4!",
-        Query::Recover,
+        &[Step::Input, Step::Recover],
     )?;
     assert_eq!(rt;
         unknown.as_slice(),
         b"refused 4 unknown class Nobody\n=> 4\nrecovered 1 changes, 0 classes, 0 methods\n".as_slice()
     );
-    let no_section = answers(alloc, b"!Object foo!\na ^1! !\n", Query::Recover)?;
+    let no_section = answers(
+        alloc,
+        b"!Object foo!\na ^1! !\n",
+        &[Step::Input, Step::Recover],
+    )?;
     assert_eq!(rt;
         no_section.as_slice(),
         b"refused 13 no section Object foo\nrecovered 0 changes, 0 classes, 0 methods\n".as_slice()
     );
-    let no_doit = answers(alloc, b"!Object methodsFor: (!\na ^1! !\n", Query::Recover)?;
+    let no_doit = answers(
+        alloc,
+        b"!Object methodsFor: (!\na ^1! !\n",
+        &[Step::Input, Step::Recover],
+    )?;
     assert_eq!(rt;
         no_doit.as_slice(),
         b"refused 2 unexpected at 20\nrecovered 0 changes, 0 classes, 0 methods\n".as_slice()
@@ -50,10 +60,13 @@ fn a_refused_head_has_one_reply(rt: HostRuntime) -> Result<(), Fail> {
 }
 
 /// What a session answers to an input and then to `source` of this selector.
-fn sourced(alloc: Global, input: &[u8], spec: &[u8], selector: &[u8]) -> Result<Vec<u8>, Fail> {
-    let spec = Text::from_bytes(alloc, spec)?;
-    let selector = Text::from_bytes(alloc, selector)?;
-    answers(alloc, input, Query::Source(spec, selector))
+fn sourced<'a>(
+    alloc: Global,
+    input: &[u8],
+    spec: &'a [u8],
+    selector: &'a [u8],
+) -> Result<Vec<u8>, Fail> {
+    answers(alloc, input, &[Step::Input, Step::Source(spec, selector)])
 }
 
 #[test]
@@ -144,7 +157,7 @@ fn methods_are_counted_that_are_not_the_kernels(rt: HostRuntime) -> Result<(), F
     let found = answers(
         alloc,
         b"!Object methodsFor: 'kernel'!\nsize <primitive: 62> ^0! size2 ^2! !\n!Object class methodsFor: 'kernel'!\nsize <primitive: 62> ^0! !\n",
-        Query::Recover,
+        &[Step::Input, Step::Recover],
     )?;
     assert_eq!(rt;
         found.as_slice(),
@@ -153,24 +166,30 @@ fn methods_are_counted_that_are_not_the_kernels(rt: HostRuntime) -> Result<(), F
     Ok(())
 }
 
+/// How a session ends at the source of a method that it kept and that was damaged then, if it does.
+fn end_at_damage(
+    alloc: Global,
+    session: &mut Session,
+    outside: &mut MemOutside<MemSource>,
+) -> Result<Option<SessionEnd>, Fail>
+    requires { IsFaultless session.old }
+{
+    session.run_items(alloc, outside)?;
+    outside.write_at(FileId::Log0, 26, b"!")?;
+    let spec = Text::from_bytes(alloc, b"Object")?;
+    let selector = Text::from_bytes(alloc, b"one")?;
+    let query = SessionItem::Query(Query::Source(spec, selector));
+    Ok(session.step(alloc, query, outside).err())
+}
+
 #[test]
 fn a_source_that_was_damaged_ends_a_session(rt: HostRuntime) -> Result<(), Fail> {
     let alloc = rt.alloc();
     let input = b"!Object methodsFor: 'x'!\none ^1! !\n";
-    let mut outside = outside_of(alloc, new_disk(alloc, FaultPlan::Never)?, input)?;
-    let mut session = Session::start(alloc, &mut outside, BUDGET)?;
-    session.run_items(alloc, &mut outside)?;
-    outside.write_at(FileId::Log0, 26, b"!")?;
-    let query = Query::Source(
-        Text::from_bytes(alloc, b"Object")?,
-        Text::from_bytes(alloc, b"one")?,
-    );
-    assert_eq!(rt;
-        session
-            .step(alloc, SessionItem::Query(query), &mut outside)
-            .err(),
-        Some(SessionEnd::Damaged(Damage::BadBlock(25)))
-    );
+    let mut outside = faultless_outside(alloc, input)?;
+    let mut session = started(alloc, &mut outside, BUDGET)?;
+    let end = end_at_damage(alloc, &mut session, &mut outside)?;
+    assert_eq!(rt; end, Some(SessionEnd::Damaged(Damage::BadBlock(25))));
     Ok(())
 }
 
@@ -185,16 +204,14 @@ fn literals(alloc: Global, pattern: &[u8], count: u8) -> Result<Text, OutOfMemor
 
 /// What a session answers to a doIt with so many literals, and to a method.
 fn with_literals(alloc: Global, count: u8) -> Result<Vec<u8>, Fail> {
-    let mut outside = outside_of(alloc, new_disk(alloc, FaultPlan::Never)?, b"")?;
-    let mut session = Session::start(alloc, &mut outside, BUDGET)?;
-    let doit = Item::Plain(literals(alloc, b"nil.", count)?);
-    session.step(alloc, SessionItem::Chunk(doit), &mut outside)?;
-    let head = Item::Head(Text::from_bytes(alloc, b"Object methodsFor: 'x'")?);
-    session.step(alloc, SessionItem::Chunk(head), &mut outside)?;
-    let method = Item::Method(literals(alloc, b"many", count)?);
-    session.step(alloc, SessionItem::Chunk(method), &mut outside)?;
-    let (_disk, _source, sink) = outside.parts();
-    Ok(sink.bytes().to_vec(alloc)?)
+    let doit = literals(alloc, b"nil.", count)?;
+    let method = literals(alloc, b"many", count)?;
+    let steps = [
+        Step::Plain(doit.bytes()),
+        Step::Head(b"Object methodsFor: 'x'"),
+        Step::Method(method.bytes()),
+    ];
+    answers(alloc, b"", &steps)
 }
 
 #[test]
@@ -210,27 +227,15 @@ fn a_text_with_too_many_literals_is_refused(rt: HostRuntime) -> Result<(), Fail>
     Ok(())
 }
 
-/// What a session answers to a method that is too long, in the section of this head, where there is one.
+/// What a session answers to a method that is too long in the section of this head.
 fn long_method(alloc: Global, head: &[u8]) -> Result<Vec<u8>, Fail> {
-    let mut outside = outside_of(alloc, new_disk(alloc, FaultPlan::Never)?, b"")?;
-    let mut session = Session::start(alloc, &mut outside, BUDGET)?;
-    if !head.is_empty() {
-        let head = Item::Head(Text::from_bytes(alloc, head)?);
-        session.step(alloc, SessionItem::Chunk(head), &mut outside)?;
-    }
-    let long = Item::TooLong {
-        role: Role::Method,
-        length: 65_536,
-    };
-    session.step(alloc, SessionItem::Chunk(long), &mut outside)?;
-    let (_disk, _source, sink) = outside.parts();
-    Ok(sink.bytes().to_vec(alloc)?)
+    answers(alloc, b"", &[Step::Head(head), Step::TooLong(Role::Method)])
 }
 
 #[test]
 fn a_long_method_is_refused_in_a_section(rt: HostRuntime) -> Result<(), Fail> {
     let alloc = rt.alloc();
-    let outside = long_method(alloc, b"")?;
+    let outside = answers(alloc, b"", &[Step::TooLong(Role::Method)])?;
     assert!(rt; outside.is_empty());
     let inside = long_method(alloc, b"Object methodsFor: 'x'")?;
     assert_eq!(rt;

@@ -40,6 +40,35 @@ fn methods_are_run(rt: HostRuntime) -> Result<(), Fail> {
     expect_all(&rt, rt.alloc(), &system, &ROWS)
 }
 
+// One message of one text, to receivers of several classes.
+const KINDS: [MethodRow; 4] = [
+    (b"Object", Side::Instance, b"kind ^1"),
+    (b"Maker", Side::Instance, b"kind ^2"),
+    (b"Maker", Side::Class, b"kind ^3"),
+    (b"Maker", Side::Class, b"kindOf: x ^x kind"),
+];
+
+const OF_KINDS: [Row; 3] = [
+    (
+        b"(Maker kindOf: 5) * 1000 + ((Maker kindOf: Maker new) * 100) + ((Maker kindOf: Maker) * 10) + (Maker kindOf: 5)",
+        b"=> 1231",
+    ),
+    (
+        b"| b | b _ [:x | x kind]. (b value: nil) * 100 + ((b value: Maker new) * 10) + (b value: 'a')",
+        b"=> 121",
+    ),
+    (
+        b"| b | b _ [:x | x zork]. (b value: 3) + (b value: nil)",
+        b"stopped 2 not understood SmallInteger zork",
+    ),
+];
+
+#[test]
+fn a_message_is_looked_up_in_the_class_of_each_receiver(rt: HostRuntime) -> Result<(), Fail> {
+    let system = with_methods(rt.alloc(), &KINDS)?;
+    expect_all(&rt, rt.alloc(), &system, &OF_KINDS)
+}
+
 #[test]
 fn a_class_that_is_defined_anew_has_its_methods_compiled_again(
     rt: HostRuntime,
