@@ -4,7 +4,7 @@
 usage: bench/evaluating.py [TURNS]
 
 The shapes: a loop over timesRepeat:, a recursion, calls of a block, and each of them below a deep stack of activations. A third of Python's
-speed is wanted at least. Times are user seconds of whole processes, without those of a process that evaluates nothing.
+speed is wanted at least. Times are user seconds of whole processes, the least of three, without those of a process that evaluates nothing.
 """
 import os
 import resource
@@ -83,21 +83,27 @@ def user_seconds(command, data):
     return resource.getrusage(resource.RUSAGE_CHILDREN).ru_utime - before, found.stdout.decode().splitlines()
 
 
+def least_seconds(command, data):
+    """The least of three runs, and what the last wrote."""
+    runs = [user_seconds(command, data) for _ in range(3)]
+    return min(seconds for seconds, _ in runs), runs[-1][1]
+
+
 def here(place, name, doit, turns, answer):
     """User seconds of a doIt, evaluated so often."""
     work = os.path.join(place, name.replace(" ", "-"))
     os.mkdir(work)
     least, replies = user_seconds([PROGRAM, work, "run"], CLASS)
     assert replies == ["ok"] * 3, replies
-    seconds, replies = user_seconds([PROGRAM, work, "run"], f"{doit}!\n" * turns)
+    seconds, replies = least_seconds([PROGRAM, work, "run"], f"{doit}!\n" * turns)
     assert replies == [f"=> {answer}"] * turns, replies
     return seconds - least
 
 
 def there(call, turns, answer):
     """The same in Python."""
-    least, _ = user_seconds(["python3", "-"], PYTHON)
-    seconds, replies = user_seconds(["python3", "-"], PYTHON + f"for _ in range({turns}):\n    print({call})\n")
+    least, _ = least_seconds(["python3", "-"], PYTHON)
+    seconds, replies = least_seconds(["python3", "-"], PYTHON + f"for _ in range({turns}):\n    print({call})\n")
     assert replies == [str(answer)] * turns, replies
     return seconds - least
 
