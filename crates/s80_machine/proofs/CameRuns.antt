@@ -1,5 +1,5 @@
 -- A machine on its way: it shows a sound state that the run comes by.
-use Rattle.std.proofs.Common.{◌≡◌, ◌∙◌, ap, sym, subst, refl, ℕ, suc, ◌+◌, ◌*◌, ◌-◌, ◌<◌, ◌≢◌, List, [], ◌∷◌, slice_get, Some, Result, Ok, Err, unwrap_or, map, All, arith}
+use Rattle.std.proofs.Common.{◌≡◌, ◌∙◌, ap, sym, subst, refl, ℕ, zero, suc, ◌+◌, ◌*◌, ◌-◌, ◌<◌, ◌≤◌, ◌≢◌, List, [], ◌∷◌, slice_get, Some, Result, Ok, Err, unwrap_or, map, All, arith}
 use Rattle.std.specs.Result.{IfOk}
 use Rattle.std.proofs.lemmas.Result.{IfOk-weaker}
 use Rattle.std.proofs.lemmas.List.Elements.{All-cons, All-nil}
@@ -23,6 +23,7 @@ use Rattle.s80_machine.specs.Sound.{IsKnownEnd, IsSound, IsSoundTurn}
 use Rattle.s80_machine.specs.Measure.{IsWithin, left_of_all, one_tick_more, steps_left}
 use Rattle.s80_machine.specs.Seen.{Given, Method, Numbers, is_method}
 use Rattle.s80_machine.specs.Came.{AnswersKnown, Came, EndIsKnown, IsGiven, IsNew, Shows, ShowsWorld}
+use Rattle.s80_machine.specs.Stretch.{Reaches}
 use Rattle.s80_machine.proofs.CameSteps.{state}
 
 -- what is left of the steps, as a machine tells it
@@ -128,6 +129,38 @@ module _ (on : Given) where
         let g = goes_on new (turn_of way.state) (at_turn old way) came in
         let less = (leaves_less way.state g.0 way.sound way.within g.1).1 in
         omega (arith, less, left_is old way.state way.shows, left_is new g.0 g.2)
+
+    -- ---- some steps on
+
+    record IsFurther (s t : State) : Type 0 where
+      sound : Sound t
+      within : IsWithin on.budget t
+      leads : (outcome : Outcome) → Comes (turn_of t) outcome → Runs outcome
+      no_more : steps_left on.budget t ≤ steps_left on.budget s
+
+    reaches_further : (n : ℕ) (s t : State) → Sound s → IsWithin on.budget s → ((outcome : Outcome) → Comes (turn_of s) outcome → Runs outcome) → Reaches on n s t → IsFurther s t
+    reaches_further zero s t sound within leads is =
+        subst (IsFurther s) (sym is) (record { sound = sound; within = within; leads = leads; no_more = omega arith })
+    reaches_further (suc n) s t sound within leads (mid, far, e) =
+        let h = reaches_further n s mid sound within leads far in
+        let less = leaves_less mid t h.sound h.within e in
+        let no_more = h.no_more in
+        record {
+          sound = subst (IsSoundTurn on.table on.methods on.code) e (steps_sound mid h.sound);
+          within = less.0;
+          leads = λ outcome comes. h.leads outcome (subst (λ x. Comes x outcome) (sym e) (one_more t outcome comes));
+          no_more = omega (arith, less.1, no_more);
+        }
+
+    module _ (old new : Machine) (way : IsOnItsWay old) (behind : (t : State) × ((n : ℕ) × Reaches on n way.state t) × Shows on new t) where
+      further : IsFurther way.state behind.0
+      further = reaches_further behind.1.0 way.state behind.0 way.sound way.within way.leads behind.1.1
+
+      pub still_on_its_way : IsOnItsWay new
+      still_on_its_way = record { state = behind.0; shows = behind.2; sound = further.sound; within = further.within; leads = further.leads }
+
+      pub no_more_left : left_in on.budget new ≤ left_in on.budget old
+      no_more_left = let no_more = further.no_more in omega (arith, no_more, left_is old way.state way.shows, left_is new behind.0 behind.2)
 
   -- ---- the beginning
 

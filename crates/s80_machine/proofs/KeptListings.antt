@@ -90,3 +90,16 @@ module _ {Z : Type 0} where
     pub one_more_listed : (a : Activated) (l : Vec Entry Z) → l.items ≡ listing a.code.now.bytes → AreListed (done ++ a ∷ []) (listings_of (ls ++ l ∷ []))
     one_more_listed a l is =
         map-append (λ (l : Vec Entry Z). l.items) ls (l ∷ []) ∙ ap₂ (λ xs x. xs ++ x ∷ []) listed is ∙ sym (map-append (λ (a : Activated). listing a.code.now.bytes) done (a ∷ []))
+
+-- the listings of all methods
+listings_same : (ks : List (List ℕ)) (done : List Activated) → length done ≡ length ks → map (λ (m : Method). listing m.code.bytes) (methods_of ks done) ≡ map (λ (a : Activated). listing a.code.now.bytes) done
+listings_same [] [] same = refl
+listings_same [] (a ∷ done) same = absurd (omega (arith, same))
+listings_same (k ∷ ks) [] same = absurd (omega (arith, same))
+listings_same (k ∷ ks) (a ∷ done) same = ap (λ ls. listing a.code.now.bytes ∷ ls) (listings_same ks done (omega (arith, same)))
+
+pub all_kept : {Z : Type 0} (done : List Activated) (ls : List (Vec Entry Z)) → AreListed done (map (λ l. l.items) ls) → (ks : List (List ℕ)) (now : List Method) → length done ≡ length ks → methods_of ks done ≡ now → (i : ℕ)
+    → option_map (λ (l : Vec Entry Z). l.items) (slice_get ls i) ≡ option_map (λ (m : Method). listing m.code.bytes) (slice_get now i)
+all_kept {Z} done ls listed ks now same shows i =
+    sym (slice_get-map (λ (l : Vec Entry Z). l.items) ls i) ∙ ap (λ l. slice_get l i) (listed ∙ sym (listings_same ks done same) ∙ ap (map (λ (m : Method). listing m.code.bytes)) shows)
+    ∙ slice_get-map (λ (m : Method). listing m.code.bytes) now i

@@ -26,6 +26,23 @@ module _ {A B : Type 0} (seen : B → A) where
     pub active_does : (n : ℕ) → n ≡ length xs → 0 < length xs → a ≡ get_or xs (n - 1) a → DoesIn seen (change a) b r → Does seen change old (reverse (set xs (n - 1) b)) r
     active_does n size some is does = subst (λ m. Does seen change old (reverse (set xs (m - 1) b)) r) (sym size) (at_last some (subst (λ m. a ≡ get_or xs (m - 1) a) size is) does)
 
+-- the last of a vector of n contexts is the active one, and becomes another
+module _ (xs old : List Context) (shows : reverse xs ≡ old) (a : Context) (n : ℕ) (size : n ≡ length xs) (some : 0 < length xs) (is : a ≡ get_or xs (n - 1) a) (c : Context) (rest : List Context) (active : old ≡ c ∷ rest) where
+  last_is : a ≡ get_or xs (length xs - 1) a
+  last_is = subst (λ m. a ≡ get_or xs (m - 1) a) size is
+
+  both : a ∷ reverse (take (length xs - 1) xs) ≡ c ∷ rest
+  both = sym (seen_first xs a some last_is) ∙ shows ∙ active
+
+  pub is_active_one : a ≡ c
+  is_active_one = let h = both in cc
+
+  waiting_are : reverse (take (length xs - 1) xs) ≡ rest
+  waiting_are = let h = both in cc
+
+  pub becomes_active : (b : Context) → reverse (set xs (n - 1) b) ≡ b ∷ rest
+  becomes_active b = subst (λ m. reverse (set xs (m - 1) b) ≡ b ∷ rest) (sym size) (set_first xs b some ∙ ap (λ l. b ∷ l) waiting_are)
+
 -- ---- any of them
 
 module _ {A : Type 0} (test : A → Bool) where

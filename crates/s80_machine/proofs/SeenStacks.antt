@@ -1,12 +1,12 @@
 -- A list seen from its last element, and a stack that is seen so.
-use Rattle.std.proofs.Common.{◌≡◌, ◌∙◌, ap, sym, subst, refl, ℕ, zero, suc, ◌+◌, ◌-◌, ◌<◌, ◌≤◌, List, [], ◌∷◌, ◌++◌, length, slice_get, get_or, set, reverse, take, drop, Option, Some, None, Result, Ok, Err, SomeIff, option_map, arith, append_assoc, append-nil}
+use Rattle.std.proofs.Common.{◌≡◌, ◌∙◌, ap, sym, subst, refl, ℕ, zero, suc, ◌+◌, ◌-◌, ◌<◌, ◌≤◌, List, [], ◌∷◌, ◌++◌, length, get_or, set, reverse, take, drop, Option, Some, None, Result, Ok, Err, SomeIff, option_map, arith, append_assoc, append-nil}
 use Rattle.std.proofs.lemmas.List.{reverse-append, reverse-reverse, take_all, take_more, take_more_set, take-append-drop, drop_more, length-drop, length-reverse}
 use Rattle.std.proofs.lemmas.Grind.{reverse_onto}
 use Rattle.s80_object.specs.declared.value.Value.{Value}
 use Rattle.s80_machine.specs.declared.halt.Halt.{Halt}
 use Rattle.s80_machine.specs.declared.halt.Halt.TheVariants as halt
 use Rattle.s80_machine.specs.World.{Context}
-use Rattle.s80_machine.specs.Seen.{DoesIn, answered_in, message_in, message_taken, two_answered, two_in, two_on_top, with_stack}
+use Rattle.s80_machine.specs.Seen.{DoesIn, message_in, message_taken, with_stack}
 
 -- ---- the last of a list is seen first
 
@@ -98,20 +98,6 @@ module _ {B : Type 0} (seen : B → Value × List Value) (a old : Context) (show
 
 -- ---- the two on top
 
-few_of : (ys : List Value) → length ys < 2 → None ≡ two_in ys
-few_of [] few = refl
-few_of (a ∷ []) few = refl
-few_of (a ∷ (r ∷ ys)) few = absurd (omega (arith, few))
-
--- those of the active context
-abbrev pub first_two : Option Context → Option (Value × Value)
-first_two None = None
-first_two (Some c) = two_in c.stack
-
-pub two_of_first : (o : Option Context) (contexts : List Context) → o ≡ slice_get contexts 0 → first_two o ≡ two_on_top contexts
-two_of_first o [] is = ap first_two is
-two_of_first o (c ∷ rest) is = ap first_two is
-
 module _ (xs : List Value) (below : ℕ) (all : below + 2 ≡ length xs) where
   first_within : below + 1 < length xs
   first_within = omega (arith, all)
@@ -123,36 +109,11 @@ module _ (xs : List Value) (below : ℕ) (all : below + 2 ≡ length xs) where
   long = omega (arith, all)
 
   -- whatever they are read with where there is nothing
-  turned : (d e : Value) → reverse xs ≡ get_or xs (below + 1) d ∷ (get_or xs below e ∷ reverse (take below xs))
+  pub turned : (d e : Value) → reverse xs ≡ get_or xs (below + 1) d ∷ (get_or xs below e ∷ reverse (take below xs))
   turned d e =
       ap reverse (sym (take_all ((below + 1) + 1) xs long) ∙ take_more xs (below + 1) d first_within) ∙ last_first (take (below + 1) xs) (get_or xs (below + 1) d)
       ∙ ap (λ l. get_or xs (below + 1) d ∷ l) (ap reverse (take_more xs below e second_within) ∙ last_first (take below xs) (get_or xs below e))
 
-module _ (a old : Context) (shows : a ≡ old) (xs : List Value) (stack : a.stack ≡ reverse xs) where
-  two_is : two_in (reverse xs) ≡ two_in old.stack
-  two_is = ap two_in (sym stack) ∙ ap (λ (c : Context). two_in c.stack) shows
-
-  pub no_two : length xs < 2 → None ≡ two_in old.stack
-  no_two few = few_of (reverse xs) (omega (arith, few, length-reverse xs)) ∙ two_is
-
-  pub two_seen : (below : ℕ) (r v : Value) → below + 2 ≡ length xs → r ≡ get_or xs below r → v ≡ get_or xs (below + 1) v → Some (r, v) ≡ two_in old.stack
-  two_seen below r v all r_is v_is = (λ i. Some (r_is i, v_is i)) ∙ ap two_in (sym (turned xs below all v r)) ∙ two_is
-
-  module _ (v : Value) where
-    by_stack : (ys : List Value) (new : Context) (r : Result (Unit {0}) Halt) → reverse xs ≡ ys → DoesIn (λ done. done) (answered_in a v ys) new r → DoesIn (λ done. done) (two_answered v old) new r
-    by_stack ys new r is does =
-        subst (λ c. DoesIn (λ done. done) (two_answered v c) new r) shows
-        (subst (λ s. DoesIn (λ done. done) (answered_in a v s) new r) (sym (stack ∙ is)) does)
-
-    pub not_answered : (new : Context) → length xs < 2 → DoesIn (λ done. done) (two_answered v old) new (Err halt.Stuck)
-    not_answered new few = by_few (reverse xs) refl (omega (arith, few, length-reverse xs))
-      where
-        by_few : (ys : List Value) → reverse xs ≡ ys → length ys < 2 → DoesIn (λ done. done) (two_answered v old) new (Err halt.Stuck)
-        by_few [] is few = by_stack [] new (Err halt.Stuck) is refl
-        by_few (x ∷ []) is few = by_stack (x ∷ []) new (Err halt.Stuck) is refl
-        by_few (x ∷ (y ∷ ys)) is few = absurd (omega (arith, few))
-
-    pub answered : (below : ℕ) → below + 2 ≡ length xs → (ys : List Value) → ys ≡ take (below + 1) (set xs below v) → (done : Unit {0}) → DoesIn (λ done. done) (two_answered v old) (with_stack a (reverse ys)) (Ok done)
-    answered below all ys is done =
-        by_stack (get_or xs (below + 1) v ∷ (get_or xs below v ∷ reverse (take below xs))) (with_stack a (reverse ys)) (Ok done) (turned xs below all v v)
-        (refl, ap (with_stack a) (ap reverse (is ∙ take_more_set xs below v (second_within xs below all)) ∙ last_first (take below xs) v))
+  -- an answer in their place
+  pub answered : (v : Value) (ys : List Value) → ys ≡ take (below + 1) (set xs below v) → reverse ys ≡ v ∷ reverse (take below xs)
+  answered v ys is = ap reverse (is ∙ take_more_set xs below v second_within) ∙ last_first (take below xs) v

@@ -12,3 +12,4 @@ pub mod Came
 pub mod Acts
 pub mod Messages
 pub mod Worked
+pub mod Stretch

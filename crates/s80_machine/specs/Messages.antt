@@ -1,20 +1,17 @@
 -- What messages rest on, and the parts of what they come to.
-use Rattle.std.specs.Prelude.{◌≡◌, ℕ, ◌≤◌, List, [], ◌∷◌, ◌==◌, length, codes, get_or, map, slice_get, All, Option, Some, None, option_and_then, if◌then◌else◌}
+use Rattle.std.specs.Prelude.{◌≡◌, ℕ, ◌≤◌, List, [], ◌∷◌, length, codes, map, slice_get, All, Option, Some, None}
 use Rattle.s80_base.specs.declared.names.Side.TheVariants.{Instance}
 use Rattle.s80_class.specs.Table.{Table}
 use Rattle.s80_code.specs.declared.code.Code.{Code}
 use Rattle.s80_dict.specs.declared.dict.MethodEntry.{MethodEntry}
 use Rattle.s80_object.specs.Objects.{State as Objects}
 use Rattle.s80_object.specs.declared.value.Value.{Value}
-use Rattle.s80_prims.specs.Arithmetic.{truth}
 use Rattle.s80_prims.specs.Classes.{class_of}
 use Rattle.s80_prims.specs.Known.{AreKnown, IsKnown}
-use Rattle.s80_prims.specs.Primitives.{same}
-use Rattle.s80_verify.specs.Effect.{special_arguments}
 use Rattle.s80_machine.specs.declared.machine.Machine.{Machine}
 use Rattle.s80_machine.specs.World.{World, Key, doit, method, Context}
 use Rattle.s80_machine.specs.Lookup.{Found, Place, first_found, number}
-use Rattle.s80_machine.specs.Turn.{Turn, of_integers}
+use Rattle.s80_machine.specs.Turn.{Turn}
 use Rattle.s80_machine.specs.Step.{activated, by_primitive, code_for, found_turn, looked_up, method_turn, not_understood, performed, places_of}
 use Rattle.s80_machine.specs.Seen.{Given}
 use Rattle.s80_machine.specs.Sites.{IsLiteralOf}
@@ -25,15 +22,6 @@ pub record IsKnownMessage (t : Table) (s : Objects) (r : Value) (vs : List Value
   pub objects : AreKnown t s
   pub receiver : IsKnown t s r
   pub arguments : All (IsKnown t s) vs
-
--- what two are answered at once, a receiver and its argument
-abbrev pub answer_of_two : ℕ → Value × Value → Option Value
-answer_of_two n p = if n == 22 then Some (truth (same p.0 p.1)) else of_integers n p.0 p.1
-
--- a special message has one argument, and this is what the two on top are answered at once
-pub record IsAnswerOfTwo (n : ℕ) (two : Option (Value × Value)) (v : Value) : Type 0 where
-  pub one : get_or special_arguments n 0 ≡ 1
-  pub is : Some v ≡ option_and_then (answer_of_two n) two
 
 -- the receiver of the active context is known
 abbrev pub ReceiverIsKnown : Table → Machine → Type 0

@@ -87,25 +87,6 @@ message_in (suc n) arguments (v ∷ stack) = message_in n (v ∷ arguments) stac
 abbrev pub message_taken : ℕ → Context → Option (Context × (Value × List Value))
 message_taken count c = option_map (λ p. (with_stack c p.0, p.1)) (message_in count [] c.stack)
 
--- the two on top: a receiver, and its argument above it
-abbrev pub two_in : List Value → Option (Value × Value)
-two_in [] = None
-two_in (a ∷ []) = None
-two_in (a ∷ (r ∷ stack)) = Some (r, a)
-
-abbrev pub two_on_top : List Context → Option (Value × Value)
-two_on_top [] = None
-two_on_top (c ∷ rest) = two_in c.stack
-
--- an answer in their place
-abbrev pub answered_in : Context → Value → List Value → Option (Context × Unit {0})
-answered_in c v [] = None
-answered_in c v (a ∷ []) = None
-answered_in c v (a ∷ (r ∷ stack)) = Some (with_stack c (v ∷ stack), tt)
-
-abbrev pub two_answered : Value → Context → Option (Context × Unit {0})
-two_answered v c = answered_in c v c.stack
-
 abbrev pub moved : ℕ → Context → Option (Context × Unit {0})
 moved place c = Some (record c { place = place }, tt)
 

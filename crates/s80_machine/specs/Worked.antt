@@ -1,13 +1,10 @@
 -- Codes of runs that were worked by hand.
-use Rattle.std.specs.Prelude.{ℕ, List, [], ◌∷◌, pos, false}
+use Rattle.std.specs.Prelude.{ℕ, List, [], ◌∷◌, false}
 use Rattle.s80_code.specs.declared.code.Code.{Code}
 use Rattle.s80_code.specs.declared.code.Frame.{Frame}
 use Rattle.s80_object.specs.Objects.{no_objects}
-use Rattle.s80_object.specs.declared.value.Value.TheVariants.{Small}
 use Rattle.s80_prims.specs.declared.stop.End.{End}
-use Rattle.s80_prims.specs.declared.stop.End.TheVariants.{Answer, Stopped}
 use Rattle.s80_prims.specs.declared.stop.Outcome.{Outcome}
-use Rattle.s80_prims.specs.declared.stop.Stop.TheVariants.{Budget}
 
 -- a doIt of these bytes without temporaries
 abbrev pub plain_code : List ℕ → Frame → Code

@@ -2,7 +2,7 @@
 ghost use Rattle.std.specs.Prelude.{◌≡◌, []};
 ghost use Rattle.s80_machine.specs.Counted.{block_in};
 ghost use Rattle.s80_machine.specs.World.{home_in, is_home, is_home_frame};
-ghost use Rattle.s80_machine.specs.Seen.{DoesIn, IsOwnSet, IsTemporarySet, frame_of, message_taken, moved, popped, pushed, temporary_set, topped, two_answered, two_in};
+ghost use Rattle.s80_machine.specs.Seen.{DoesIn, IsOwnSet, IsTemporarySet, frame_of, message_taken, moved, popped, pushed, temporary_set, topped};
 
 use crate::halt::Halt;
 use s80_object::Value;
@@ -160,31 +160,6 @@ impl Context {
         arguments.extend_from_slice(&self.stack[below + 1..])?;
         self.stack.truncate(below);
         Ok((receiver, arguments))
-    }
-
-    /// The two on top: a receiver, and its argument above it.
-    #[inline(always)]
-    pub(crate) fn two_on_top(&self) -> Option<(Value, Value)>
-        ensures { result ≡ two_in self.now.stack }
-    {
-        let Some(below) = self.stack.len().checked_sub(2) else {
-            return None;
-        };
-        Some((self.stack[below], self.stack[below + 1]))
-    }
-
-    /// Puts an answer in the place of the two on top. Takes no memory.
-    #[inline(always)]
-    pub(crate) fn answer_two(&mut self, value: Value) -> Result<(), Halt>
-        ensures does { DoesIn (λ done. done) (two_answered value self.old) self.new result }
-        ensures stays { block_in self.new.frame ≡ block_in self.old.frame }
-    {
-        let Some(below) = self.stack.len().checked_sub(2) else {
-            return Err(Halt::Stuck);
-        };
-        self.stack[below] = value;
-        self.stack.truncate(below + 1);
-        Ok(())
     }
 
     /// Goes on at this place.

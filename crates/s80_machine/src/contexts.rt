@@ -1,14 +1,18 @@
 // The activations that are alive.
-ghost use Rattle.std.specs.Prelude.{◌≡◌, ◌+◌, ◌<◌, ◌≤◌, ◌∷◌, [], ℕ, IfOk, IfSome, OnOk, get_or, length, option_copied, reverse, slice_get, take};
+ghost use Rattle.std.specs.Prelude.{◌≡◌, ◌+◌, ◌<◌, ◌≤◌, ◌∷◌, [], ℕ, List, IfOk, IfSome, OnOk, get_or, length, option_copied, reverse, slice_get, take};
 ghost use Rattle.std.specs.Option.{option_map};
+ghost use Rattle.s80_code.specs.declared.code.Code.{Code};
 ghost use Rattle.s80_machine.specs.Counted.{count_of, one_of};
-ghost use Rattle.s80_machine.specs.Seen.{Does, IsEnded, IsUnwound, below_home, message_taken, moved, popped, pushed, temporary_set, topped, two_answered, two_on_top};
-ghost use Rattle.s80_machine.specs.World.{is_active};
+ghost use Rattle.s80_machine.specs.Seen.{Does, IsEnded, IsUnwound, below_home, message_taken, moved, popped, pushed, temporary_set, topped};
+ghost use Rattle.s80_machine.specs.Seen.{Given, listing};
+ghost use Rattle.s80_machine.specs.Stretch.{LeadsFar, local};
+ghost use Rattle.s80_machine.specs.World.{is_active, Context as Activation};
 
 use crate::context::{Context, Frame};
 use crate::halt::Halt;
 use s80_base::OutOfMemory;
-use s80_object::Value;
+use s80_code::Instruction;
+use s80_object::{Objects, Value};
 use s80_prims::Stop;
 use std::alloc::Global;
 use std::marker::Model;
@@ -140,28 +144,6 @@ impl Contexts {
         take_room(&mut self.rooms, alloc)
     }
 
-    /// The two on top of the active context's stack: a receiver, and its argument above it.
-    #[inline(always)]
-    pub(crate) fn two_on_top(&self) -> Option<(Value, Value)>
-        ensures { result ≡ two_on_top self.now }
-    {
-        match self.active() {
-            Some(active) => active.two_on_top(),
-            None => None,
-        }
-    }
-
-    /// Puts an answer in the place of the two on top. Takes no memory.
-    #[inline(always)]
-    pub(crate) fn answer_two(&mut self, value: Value) -> Result<(), Halt>
-        ensures { Does (λ done. done) (two_answered value) self.old self.new result }
-    {
-        let Some(active) = self.contexts.last_mut() else {
-            return Err(Halt::Stuck);
-        };
-        active.answer_two(value)
-    }
-
     /// The active context goes on at this place.
     #[inline(always)]
     pub(crate) fn move_to(&mut self, place: u32) -> Result<(), Halt>
@@ -181,6 +163,24 @@ impl Contexts {
             return Err(Halt::Stuck);
         };
         active.set_temporary(i, value)
+    }
+
+    /// The active context goes on through the instructions of its code, which these entries list, up to one that needs more.
+    #[inline(always)]
+    pub(crate) fn go_on(
+        &mut self,
+        entries: &[Option<(Instruction, u32)>],
+        objects: &mut Objects,
+        ticks: &mut u64,
+        budget: u64,
+    )
+        ensures { (on : Given) (code : Code) (c : Activation) (rest : List Activation) → on.budget ≡ budget → entries.now ≡ listing code.bytes → self.old ≡ c ∷ rest
+            → (new : Activation) × (self.new ≡ new ∷ rest) × ((n : ℕ) × LeadsFar on code n (local c objects.old ticks.old) (local new objects.new ticks.new)) }
+    {
+        let Some(active) = self.contexts.last_mut() else {
+            return;
+        };
+        active.go_on(entries, objects, ticks, budget);
     }
 
     /// Ends the active context, and keeps its room.

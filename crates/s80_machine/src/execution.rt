@@ -93,6 +93,7 @@ fn finish<'a>(on: &Setting<'a>, machine: &mut Machine<'a>) -> Result<End, OutOfM
         return ended(halt);
     }
     loop {
+        machine.go_on(on.budget);
         if let Err(halt) = machine.step(on) {
             return ended(halt);
         }

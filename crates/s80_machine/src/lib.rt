@@ -17,6 +17,7 @@ mod setting;
 mod sites;
 mod steps;
 mod stores;
+mod stretch;
 mod variables;
 
 pub use execution::{Ran, run};

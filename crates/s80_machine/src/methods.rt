@@ -1,5 +1,6 @@
 // The methods that were activated.
-ghost use Rattle.std.specs.Prelude.{◌≡◌, ◌<◌, ◌^◌, [], IfOk, OnOk, None, Some, MatchOption, drop, length, slice_get};
+ghost use Rattle.std.specs.Prelude.{◌≡◌, ◌<◌, ◌^◌, [], IfOk, OnOk, None, Some, MatchOption, drop, length, option_copied, slice_get};
+ghost use Rattle.std.specs.Option.{option_map};
 ghost use Rattle.s80_code.specs.Table.{decoded};
 ghost use Rattle.s80_machine.specs.World.{doit, method};
 ghost use Rattle.s80_machine.specs.Turn.{begins_block, holds_block};
@@ -69,10 +70,20 @@ impl<'a> Methods<'a> {
     }
 
     /// The instruction at a place of a method's code, and its width.
-    pub(crate) fn instruction(&self, number: u32, place: u32) -> Option<(Instruction, u32)>
-        ensures { (m : Method) → slice_get self.now number ≡ Some m → result ≡ decoded (drop place m.code.bytes) }
+    pub(crate) fn instruction(&self, number: u32, place: u32) -> Option<&(Instruction, u32)>
+        ensures { (m : Method) → slice_get self.now number ≡ Some m → option_copied result ≡ decoded (drop place m.code.bytes) }
     {
-        *self.listings.get(number as usize)?.get(place as usize)?
+        self.listings
+            .get(number as usize)?
+            .get(place as usize)?
+            .as_ref()
+    }
+
+    /// What stands at each place of a method's code.
+    pub(crate) fn listing(&self, number: u32) -> Option<&[Option<(Instruction, u32)>]>
+        ensures { option_copied result ≡ option_map (λ m. listing m.code.bytes) (slice_get self.now number) }
+    {
+        Some(self.listings.get(number as usize)?.as_slice())
     }
 
     /// The number of the doIt, which is added where it isn't there.

@@ -17,9 +17,9 @@ ghost use Rattle.s80_machine.specs.Sites.{IsLiteralOf};
 ghost use Rattle.s80_code.specs.declared.code.Code.{Code};
 ghost use Rattle.s80_machine.specs.Turn.{State, at_once, block_with, is_value, message_off, of_integers, unary_in};
 ghost use Rattle.s80_machine.specs.Step.{special_turn};
-ghost use Rattle.s80_machine.specs.Seen.{IsBlock, IsFound, two_on_top};
+ghost use Rattle.s80_machine.specs.Seen.{IsBlock, IsFound};
 ghost use Rattle.s80_machine.specs.Came.{Came, IsGiven, IsReady, IsSet, Shows, ShowsWorld, TopIsKnown, above, at_place, given_of, places, sends};
-ghost use Rattle.s80_machine.specs.Messages.{IsAnswerOfTwo, IsKnownMessage, IsPlain, ReceiverIsKnown, Takes, TopSends, activates, finds, own_place, performs, places_in, refuses, runs, runs_method, runs_primitive, sends_one};
+ghost use Rattle.s80_machine.specs.Messages.{IsKnownMessage, IsPlain, ReceiverIsKnown, Takes, TopSends, activates, finds, own_place, performs, places_in, refuses, runs, runs_method, runs_primitive, sends_one};
 
 use crate::activations::Block;
 use crate::halt::Halt;
@@ -198,34 +198,8 @@ impl<'a> Machine<'a> {
         )
     }
 
-    /// Sends one of the messages that have bytes of their own. What two values are answered at once takes no memory.
+    /// Sends one of the messages that have bytes of their own: it is answered at once, or activates a block, or is looked up.
     pub(crate) fn send_special(&mut self, on: &Setting<'a>, number: u8) -> Result<(), Halt>
-        requires ready { IsReady on.now }
-        requires setting { IsSet (given_of on.now) }
-        requires known { TopIsKnown on.now.classes.now self.old }
-        ensures { (c : Context) (rest : List Context) (w : World) (next : ℕ) → Shows (given_of on.now) self.old (at_place c next rest w)
-            → Came (given_of on.now) (message_off (get_or special_arguments number 0) [] c.stack (special_turn on.now.classes.now on.now.methods.now on.now.doit.now on.now.budget number c next rest w)) self.new result }
-    {
-        if let Some(answer) = self.two_at_once(number) {
-            return self.contexts.answer_two(answer);
-        }
-        self.send_taken(on, number)
-    }
-
-    // What the two on top are answered at once by a special message with one argument.
-    #[inline(always)]
-    fn two_at_once(&self, number: u8) -> Option<Value>
-        ensures { IfSome result (IsAnswerOfTwo number (two_on_top self.now.contexts)) }
-    {
-        if special_arguments(number) != 1 {
-            return None;
-        }
-        let (receiver, argument) = self.contexts.two_on_top()?;
-        one_at_once(number, receiver, argument)
-    }
-
-    // Sends one of them, which is taken off the stack: it is answered at once, or activates a block, or is looked up.
-    fn send_taken(&mut self, on: &Setting<'a>, number: u8) -> Result<(), Halt>
         requires ready { IsReady on.now }
         requires setting { IsSet (given_of on.now) }
         requires known { TopIsKnown on.now.classes.now self.old }
@@ -406,7 +380,7 @@ fn plain(found: Option<Found<'_>>) -> Option<Found<'_>>
     }
 }
 
-// What a special message is answered without a look-up.
+// What a special message is answered without a look-up; `value` and `value:` never are.
 fn at_once(
     on: &Setting<'_>,
     objects: &Objects,
@@ -420,11 +394,22 @@ fn at_once(
     requires receiver { IsKnown on.now.classes.now objects.now r }
     ensures { result ≡ at_once on.now.classes.now objects.now number r arguments.now }
 {
+    if is_value(number) {
+        return None;
+    }
     match arguments {
         [] => class_at_once(on, objects, number, r),
         [a] => one_at_once(number, r, *a),
         _ => None,
     }
+}
+
+// Whether it is `value` or `value:`.
+#[inline(always)]
+fn is_value(number: u8) -> bool
+    ensures { result ≡ is_value number }
+{
+    number == VALUE_ALONE || number == VALUE_WITH
 }
 
 // The answer to `class`.
@@ -442,9 +427,9 @@ fn class_at_once(on: &Setting<'_>, objects: &Objects, number: u8, r: Value) -> O
     Some(Value::ClassRef(class, side))
 }
 
-// The answer to `==`, or of two SmallIntegers to one of their messages.
+/// The answer to `==`, or of two SmallIntegers to one of their messages.
 #[inline(always)]
-fn one_at_once(number: u8, r: Value, a: Value) -> Option<Value>
+pub(crate) fn one_at_once(number: u8, r: Value, a: Value) -> Option<Value>
     ensures { result ≡ (if number == 22 then Some (truth (same r a)) else of_integers number r a) }
 {
     if number == IDENTITY {

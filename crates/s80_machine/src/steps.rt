@@ -39,7 +39,7 @@ impl<'a> Machine<'a> {
         let active = self.contexts.active().ok_or(Halt::Stuck)?;
         let (method, place) = (active.method, active.place);
         let code = self.methods.get(method).ok_or(Halt::Stuck)?.code;
-        let (instruction, width) = self.methods.instruction(method, place).ok_or(Halt::Stuck)?;
+        let (instruction, width) = *self.methods.instruction(method, place).ok_or(Halt::Stuck)?;
         let next = place.checked_add(width).ok_or(Halt::Stuck)?;
         self.contexts.move_to(next)?;
         self.act(on, code, instruction, next)
@@ -119,17 +119,7 @@ impl<'a> Machine<'a> {
     fn fixed(&self, number: u8) -> Option<Value>
         ensures { (c : Context) (rest : List Context) → self.now.contexts ≡ c ∷ rest → result ≡ slice_get (fixed c.receiver) number }
     {
-        match number {
-            0 => Some(self.contexts.active()?.receiver),
-            1 => Some(Value::True),
-            2 => Some(Value::False),
-            3 => Some(Value::Nil),
-            4 => Some(Value::Small(-1)),
-            5 => Some(Value::Small(0)),
-            6 => Some(Value::Small(1)),
-            7 => Some(Value::Small(2)),
-            _ => None,
-        }
+        self.contexts.active()?.fixed(number)
     }
 
     fn pop(&mut self) -> Result<(), Halt>
@@ -305,7 +295,9 @@ fn end_method(alloc: Global, contexts: &mut Contexts) -> Result<(), Halt>
     }
 }
 
-fn as_bool(value: Value) -> Option<bool>
+/// What true and false decide.
+#[inline(always)]
+pub(crate) fn as_bool(value: Value) -> Option<bool>
     ensures { result ≡ decided value (Some true) (Some false) None }
 {
     match value {

@@ -11,10 +11,10 @@ ghost use Rattle.s80_machine.specs.Turn.{constant_in, given, goes_on, selector_i
 ghost use Rattle.s80_machine.specs.Seen.{Given};
 ghost use Rattle.s80_machine.specs.Came.{Came, IsReady, Shows, ShowsWorld, Stores, at_place, given_of, left_at, pushes, stores};
 
-use crate::context::Frame;
 use crate::halt::Halt;
 use crate::machine::{Machine, made};
 use crate::setting::Setting;
+use crate::stretch::field;
 use s80_base::{Literal, Side, Text};
 use s80_code::{Code, Entry, Storage};
 use s80_object::Value;
@@ -103,7 +103,7 @@ impl<'a> Machine<'a> {
         ensures { (on : Given) (c : Context) (rest : List Context) (w : World) (next : ℕ) → Shows on self.now (at_place c next rest w) → result ≡ receiver_variable w c.receiver i }
     {
         match self.contexts.active()?.receiver {
-            Value::Object(n) => self.field(n, i),
+            Value::Object(n) => field(&self.objects, n, i),
             Value::ClassRef(c, Side::Instance) => {
                 Some(self.variables.of_class_side(c, i).unwrap_or(Value::Nil))
             }
@@ -130,11 +130,7 @@ impl<'a> Machine<'a> {
     fn temporary(&self, i: u8) -> Option<Value>
         ensures { (on : Given) (c : Context) (rest : List Context) (w : World) (next : ℕ) → Shows on self.now (at_place c next rest w) → result ≡ temporary w c.frame i }
     {
-        match &self.contexts.active()?.frame {
-            Frame::Own(temporaries) => temporaries.get(usize::from(i)).copied(),
-            Frame::Home(home) => self.field(*home, i),
-            Frame::Block { home, .. } => self.field(*home, i),
-        }
+        self.contexts.active()?.temporary(&self.objects, i)
     }
 
     #[inline(always)]
@@ -147,13 +143,6 @@ impl<'a> Machine<'a> {
             Some(home) => self.set_field(home, i, value),
             None => self.contexts.set_temporary(i, value),
         }
-    }
-
-    // A field of an object, or a temporary of a home.
-    fn field(&self, n: u32, i: u8) -> Option<Value>
-        ensures { (w : World) → self.now.objects ≡ w.objects → result ≡ field_read w n i }
-    {
-        self.objects.field(Value::Object(n), u32::from(i)).ok()
     }
 
     fn set_field(&mut self, n: u32, i: u8, value: Value) -> Result<(), Halt>

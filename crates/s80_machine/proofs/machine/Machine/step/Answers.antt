@@ -30,28 +30,28 @@ pub returns-in_err-instruction : goal.returns-in_err-instruction
 returns-in_err-instruction c = λ s shows.
     let at = (goal.at.returns-in_err-instruction c).In_ok-code in
     let r = read at in
-    absurd (some_instruction (given_of c.args.on.now) c.args.self.now (it at) c.in_ok-code.field-0.code.now c.active-2.inside.place r.code_is r.place_is (is_entry at c.instruction.result c.instruction.ensures ∙ c.in_err-instruction.ensures.ok_part))
+    absurd (some_instruction (given_of c.args.on.now) c.args.self.now (it at) c.in_ok-code.field-0.code.now c.active-2.inside.place r.code_is r.place_is (is_entry at (option_copied c.instruction.result) c.instruction.ensures ∙ ap option_copied c.in_err-instruction.ensures.ok_part))
 
 pub returns-in_err-next : goal.returns-in_err-next
 returns-in_err-next c = λ s shows.
     let at = (goal.at.returns-in_err-next c).In_ok-code in
-    let small_sum = within at c.in_ok-instruction.instruction c.in_ok-instruction.width (is_entry at c.instruction.result c.instruction.ensures ∙ c.in_ok-instruction.ensures.ok_part) in
-    let small : c.active-2.inside.place + c.in_ok-instruction.width < 2 ^ 32 = omega (arith, small_sum) in
-    absurd (some_sum c.checked_add.result (c.active-2.inside.place + c.in_ok-instruction.width) c.checked_add.ensures c.in_err-next.ensures.ok_part small)
+    let small_sum = within at c.in_ok-instruction.field-0.now.0 c.in_ok-instruction.field-0.now.1 (is_entry at (option_copied c.instruction.result) c.instruction.ensures ∙ ap option_copied c.in_ok-instruction.ensures.ok_part) in
+    let small : c.active-2.inside.place + c.in_ok-instruction.field-0.now.1 < 2 ^ 32 = omega (arith, small_sum) in
+    absurd (some_sum c.checked_add.result (c.active-2.inside.place + c.in_ok-instruction.field-0.now.1) c.checked_add.ensures c.in_err-next.ensures.ok_part small)
 
 pub act-requires-clause-near : goal.act-requires-clause-near
 act-requires-clause-near c =
     let at = (goal.at.act-requires-clause-near c).In_ok-code in
-    let small_sum = within at c.in_ok-instruction.instruction c.in_ok-instruction.width (is_entry at c.instruction.result c.instruction.ensures ∙ c.in_ok-instruction.ensures.ok_part) in
-    let sum = added_is c.checked_add.result c.in_ok-next.next (c.active-2.inside.place + c.in_ok-instruction.width) c.checked_add.ensures c.in_ok-next.ensures.ok_part in
+    let small_sum = within at c.in_ok-instruction.field-0.now.0 c.in_ok-instruction.field-0.now.1 (is_entry at (option_copied c.instruction.result) c.instruction.ensures ∙ ap option_copied c.in_ok-instruction.ensures.ok_part) in
+    let sum = added_is c.checked_add.result c.in_ok-next.next (c.active-2.inside.place + c.in_ok-instruction.field-0.now.1) c.checked_add.ensures c.in_ok-next.ensures.ok_part in
     omega (arith, small_sum, sum)
 
 pub act-requires-clause-suits : goal.act-requires-clause-suits
 act-requires-clause-suits c =
     let at = (goal.at.act-requires-clause-suits c).In_ok-code in
     let r = read at in
-    suits (given_of c.args.on.now) c.args.self.now (it at) c.in_ok-code.field-0.code.now c.active-2.inside.place r.code_is r.place_is c.in_ok-instruction.instruction c.in_ok-instruction.width
-    (is_entry at c.instruction.result c.instruction.ensures ∙ c.in_ok-instruction.ensures.ok_part)
+    suits (given_of c.args.on.now) c.args.self.now (it at) c.in_ok-code.field-0.code.now c.active-2.inside.place r.code_is r.place_is c.in_ok-instruction.field-0.now.0 c.in_ok-instruction.field-0.now.1
+    (is_entry at (option_copied c.instruction.result) c.instruction.ensures ∙ ap option_copied c.in_ok-instruction.ensures.ok_part)
 
 pub act-requires-clause-few : goal.act-requires-clause-few
 act-requires-clause-few c =
@@ -61,8 +61,8 @@ act-requires-clause-few c =
     let a = it at in
     let r = read at in
     let moved = moved_to on m a c.in_ok-next.next c.move_to.new.self c.in_ok-move_to.ensures in
-    let is = is_entry at c.instruction.result c.instruction.ensures ∙ c.in_ok-instruction.ensures.ok_part in
-    λ copies. few on m a c.in_ok-code.field-0.code.now c.active-2.inside.place r.code_is r.place_is c.in_ok-instruction.instruction c.in_ok-instruction.width is copies
+    let is = is_entry at (option_copied c.instruction.result) c.instruction.ensures ∙ ap option_copied c.in_ok-instruction.ensures.ok_part in
+    λ copies. few on m a c.in_ok-code.field-0.code.now c.active-2.inside.place r.code_is r.place_is c.in_ok-instruction.field-0.now.0 c.in_ok-instruction.field-0.now.1 is copies
     c.in_ok-next.next c.move_to.new.self moved
 
 pub act-requires-clause-known : goal.act-requires-clause-known
@@ -108,7 +108,7 @@ returns c =
     let at = (goal.at.returns c).In_ok-code in
     let a = it at in
     let r = read at in
-    let sum = added_is c.checked_add.result next (c.active-2.inside.place + c.in_ok-instruction.width) c.checked_add.ensures c.in_ok-next.ensures.ok_part in
-    steps on m a c.in_ok-code.field-0.code.now c.active-2.inside.place r.code_is r.place_is c.in_ok-instruction.instruction c.in_ok-instruction.width (is_entry at c.instruction.result c.instruction.ensures ∙ c.in_ok-instruction.ensures.ok_part)
+    let sum = added_is c.checked_add.result next (c.active-2.inside.place + c.in_ok-instruction.field-0.now.1) c.checked_add.ensures c.in_ok-next.ensures.ok_part in
+    steps on m a c.in_ok-code.field-0.code.now c.active-2.inside.place r.code_is r.place_is c.in_ok-instruction.field-0.now.0 c.in_ok-instruction.field-0.now.1 (is_entry at (option_copied c.instruction.result) c.instruction.ensures ∙ ap option_copied c.in_ok-instruction.ensures.ok_part)
     next c.act.new.self c.act.result sum
     (c.act.ensures a.context a.rest a.world (shows_moved on m a next c.move_to.new.self (moved_to on m a next c.move_to.new.self c.in_ok-move_to.ensures)))
