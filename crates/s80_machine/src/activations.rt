@@ -171,9 +171,13 @@ fn argument_count(count: Value) -> Option<u8>
 }
 
 // The arguments, and nil for each further temporary.
+#[inline(always)]
 fn with_nils(mut arguments: Vec<Value>, count: u8) -> Result<Vec<Value>, OutOfMemory>
     ensures { IfOk result (λ temporaries. length arguments.items ≤ count → temporaries.items ≡ arguments.items ++ replicate (count - length arguments.items) Nil) }
 {
+    if arguments.len() == usize::from(count) {
+        return Ok(arguments);
+    }
     arguments.resize(usize::from(count), Value::Nil)?;
     Ok(arguments)
 }

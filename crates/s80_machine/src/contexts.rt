@@ -71,11 +71,13 @@ impl Contexts {
         ensures { OnOk result (self.new ≡ context ∷ self.old) }
     {
         let Some(block) = context.block() else {
-            self.contexts.push(context)?;
+            self.contexts.reserve(1)?;
+            self.contexts.push_reserved(context);
             return Ok(());
         };
         let count = raised_count(&mut self.counts, block)?;
-        self.contexts.push(context)?;
+        self.contexts.reserve(1)?;
+        self.contexts.push_reserved(context);
         self.counts[block as usize] = count;
         Ok(())
     }

@@ -45,6 +45,7 @@ impl<'a> Machine<'a> {
     }
 
     /// Counts one more tick, or the budget is passed.
+    #[inline(always)]
     pub(crate) fn tick(&mut self, budget: u64) -> Result<(), Halt>
         ensures { Ticks budget self.old self.new result }
     {
@@ -56,6 +57,7 @@ impl<'a> Machine<'a> {
     }
 
     /// There may be one more activation.
+    #[inline(always)]
     pub(crate) fn check_depth(&self) -> Result<(), Halt>
         ensures { ChecksDepth self.now.contexts result }
     {

@@ -57,6 +57,7 @@ impl<'a> Setting<'a> {
     }
 
     /// The class of a value, and its side.
+    #[inline(always)]
     pub(crate) fn class_of(&self, objects: &Objects, v: Value) -> Option<(u32, Side)>
         requires { IsReady self.now }
         ensures { result ≡ class_place (class_of self.now.classes.now objects.now v) }

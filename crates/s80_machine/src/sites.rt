@@ -39,6 +39,7 @@ impl Sites {
     }
 
     /// The number of the method that it activates, where that is noted.
+    #[inline(always)]
     pub(crate) fn get(&self, sending: Sending) -> Option<u32>
         ensures { IfSome result (λ number. site_in self.now sending.method sending.literal
             ≡ Some (record { class = sending.class; side = sending.side; method = number })) }
@@ -51,6 +52,7 @@ impl Sites {
         }
     }
 
+    #[inline(always)]
     fn site(&self, method: u32, literal: u8) -> Option<Site>
         ensures { result ≡ site_in self.now method literal }
     {

@@ -285,6 +285,7 @@ impl<'a> Machine<'a> {
 }
 
 // Ends the active context, and from a block all down to its home.
+#[inline(always)]
 fn end_method(alloc: Global, contexts: &mut Contexts) -> Result<(), Halt>
     ensures { (c : Context) (rest : List Context) → contexts.old ≡ c ∷ rest → IsUnwound (left_by c.frame rest) contexts.old contexts.new result }
 {
