@@ -1,0 +1,180 @@
+-- Messages with as many arguments as their selectors have parameters, in numbered trees; and what the number of a special message says.
+use Rattle.std.proofs.Common.{◌≡◌, ap, sym, subst, refl, ℕ, zero, suc, ◌+◌, ◌==◌, ◌⊎◌, inl, inr, List, [], ◌∷◌, ◌++◌, Bool, true, false, ◌&&◌, not, cond, get_or, Option, Some, None}
+use Rattle.std.specs.Prelude.{slice_get}
+use Rattle.std.specs.Option.{option_map, option_map_or, option_or}
+use Rattle.std.specs.Str.{bytes_eq}
+use Rattle.std.proofs.lemmas.Slice.Eq.{bytes_eq-Decides}
+use Rattle.s80_code.proofs.TableLemmas.{value}
+use Rattle.s80_scope.specs.FitLiterals.{arithmetic_selectors, common_selectors}
+use Rattle.s80_verify.specs.Effect.{special_arguments}
+use Rattle.s80_verify.specs.Selector.{IsSelectorOf}
+use Rattle.s80_core.specs.Core as core
+use Rattle.s80_core.specs.Core.{CoreTree, CoreTrees, SendTrees}
+use Rattle.s80_core.specs.Elaborate.{place_in}
+use Rattle.s80_core.specs.Measures.{common_number, special_number}
+use Rattle.s80_agree.specs.Sent.{IsWellSent, AllWellSent, SendsWellSent}
+use Rattle.s80_agree.proofs.DepthSelector.{special_fits}
+use Rattle.s80_machine.specs.Turn.{special_selectors}
+use Rattle.s80_meaning.specs.Tree as tree
+use Rattle.s80_meaning.specs.Tree.{Tree, Trees, Sends, RealBlock, count, size, size_all, size_sends, numbered, numbered_all, numbered_sends, blocks, blocks_all, blocks_sends}
+
+-- ---- each message has as many arguments as its selector has parameters; a real block's body stands in the list of blocks
+
+abbrev mutual
+  pub Sent : Tree → Type 0
+  Sent (tree.leaf l) = Unit {0}
+  Sent (tree.assign v e) = Sent e
+  Sent (tree.value e) = Sent e
+  Sent (tree.send r to_super s es) = Sent r × (AllSent es × IsSelectorOf (count es) s)
+  Sent (tree.cascade r to_super ms) = Sent r × SendsSent ms
+  Sent (tree.real n) = Unit {0}
+  Sent (tree.two_arms on c a b) = Sent c × (Sent a × Sent b)
+  Sent (tree.one_arm on c a) = Sent c × Sent a
+  Sent (tree.shortcut on c a) = Sent c × Sent a
+  Sent (tree.repeat on c e) = Sent c × Sent e
+  Sent tree.nothing = Unit {0}
+  Sent (tree.before a b) = Sent a × Sent b
+  Sent (tree.answer e) = Sent e
+  Sent (tree.answer_fixed n) = Unit {0}
+  Sent (tree.leave e) = Sent e
+
+  pub AllSent : Trees → Type 0
+  AllSent tree.no_trees = Unit {0}
+  AllSent (tree.trees e es) = Sent e × AllSent es
+
+  pub SendsSent : Sends → Type 0
+  SendsSent tree.no_sends = Unit {0}
+  SendsSent (tree.sends s es ms) = (AllSent es × IsSelectorOf (count es) s) × SendsSent ms
+
+-- the bodies of real blocks
+abbrev BodiesSent : List RealBlock → Type 0
+BodiesSent [] = Unit {0}
+BodiesSent (b ∷ bs) = Sent b.body × BodiesSent bs
+
+bodies_append : (bs cs : List RealBlock) → BodiesSent bs → BodiesSent cs → BodiesSent (bs ++ cs)
+bodies_append [] cs h j = j
+bodies_append (b ∷ bs) cs h j = (h.0, bodies_append bs cs h.1 j)
+
+body_at : (bs : List RealBlock) → BodiesSent bs → (b : ℕ) (block : RealBlock) → slice_get bs b ≡ Some block → Sent block.body
+body_at [] h zero block e = cc
+body_at [] h (suc b) block e = cc
+body_at (x ∷ bs) h zero block e =
+    let same : x ≡ block = cc in
+    subst (λ (y : RealBlock). Sent y.body) same h.0
+body_at (x ∷ bs) h (suc b) block e = body_at bs h.1 b block e
+
+-- what is made of two parts, one behind the other
+both : {A B : Type 0} (bs cs : List RealBlock) → A × BodiesSent bs → B × BodiesSent cs → (A × B) × BodiesSent (bs ++ cs)
+both bs cs f g = ((f.0, g.0), bodies_append bs cs f.1 g.1)
+
+as_many : (k : ℕ) (es : CoreTrees) → count (numbered_all k es) ≡ core.count es
+as_many k core.no_cores = refl
+as_many k (core.cores e es) = ap suc (as_many (k + size e) es)
+
+selector_still : (k : ℕ) (es : CoreTrees) (s : List ℕ) → IsSelectorOf (core.count es) s → IsSelectorOf (count (numbered_all k es)) s
+selector_still k es s h = subst (λ (n : ℕ). IsSelectorOf n s) (sym (as_many k es)) h
+
+mutual
+  sent_from : (c : CoreTree) (k : ℕ) → IsWellSent c → Sent (numbered k c) × BodiesSent (blocks k c)
+  sent_from (core.leaf l) k h = (tt, tt)
+  sent_from (core.assign v e) k h = sent_from e k h
+  sent_from (core.value e) k h = sent_from e k h
+  sent_from (core.send r to_super s es) k h =
+      let j = both (blocks k r) (blocks_all (k + size r) es) (sent_from r k h.0) (all_from es (k + size r) h.1.0) in
+      ((j.0.0, (j.0.1, selector_still (k + size r) es s h.1.1)), j.1)
+  sent_from (core.cascade r to_super ms) k h =
+      both (blocks k r) (blocks_sends (k + size r) ms) (sent_from r k h.0) (sends_from ms (k + size r) h.1)
+  sent_from (core.real_block first n e) k h = (tt, sent_from e (suc k) h)
+  sent_from (core.two_arms on c a b) k h =
+      both (blocks k c) (blocks (k + size c) a ++ blocks (k + size c + size a) b) (sent_from c k h.0)
+      (both (blocks (k + size c) a) (blocks (k + size c + size a) b) (sent_from a (k + size c) h.1.0) (sent_from b (k + size c + size a) h.1.1))
+  sent_from (core.one_arm on c a) k h = both (blocks k c) (blocks (k + size c) a) (sent_from c k h.0) (sent_from a (k + size c) h.1)
+  sent_from (core.shortcut on c a) k h = both (blocks k c) (blocks (k + size c) a) (sent_from c k h.0) (sent_from a (k + size c) h.1)
+  sent_from (core.repeat on c e) k h = both (blocks k c) (blocks (k + size c) e) (sent_from c k h.0) (sent_from e (k + size c) h.1)
+  sent_from core.nothing k h = (tt, tt)
+  sent_from (core.before a b) k h = both (blocks k a) (blocks (k + size a) b) (sent_from a k h.0) (sent_from b (k + size a) h.1)
+  sent_from (core.answer e) k h = sent_from e k h
+  sent_from (core.answer_fixed n) k h = (tt, tt)
+  sent_from (core.leave e) k h = sent_from e k h
+
+  all_from : (es : CoreTrees) (k : ℕ) → AllWellSent es → AllSent (numbered_all k es) × BodiesSent (blocks_all k es)
+  all_from core.no_cores k h = (tt, tt)
+  all_from (core.cores e es) k h = both (blocks k e) (blocks_all (k + size e) es) (sent_from e k h.0) (all_from es (k + size e) h.1)
+
+  sends_from : (ms : SendTrees) (k : ℕ) → SendsWellSent ms → SendsSent (numbered_sends k ms) × BodiesSent (blocks_sends k ms)
+  sends_from core.no_sends k h = (tt, tt)
+  sends_from (core.sends s es ms) k h =
+      let j = both (blocks_all k es) (blocks_sends (k + size_all es) ms) (all_from es k h.0.0) (sends_from ms (k + size_all es) h.1) in
+      (((j.0.0, selector_still k es s h.0.1), j.0.1), j.1)
+
+pub sent_numbered : (c : CoreTree) → IsWellSent c → Sent (numbered 0 c) × ((b : ℕ) (block : RealBlock) → slice_get (blocks 0 c) b ≡ Some block → Sent block.body)
+sent_numbered c h = let a = sent_from c 0 h in (a.0, body_at (blocks 0 c) a.1)
+
+-- ---- messages with an instruction of their own
+
+-- with this number a message has this selector, and it begins no block
+abbrev stands_there : List ℕ → ℕ → Bool
+stands_there word n = not (n == 24) && option_map_or (bytes_eq word) (slice_get special_selectors n) false
+
+abbrev all_stand : (ℕ → ℕ) → List (List ℕ) → Bool
+all_stand number [] = true
+all_stand number (word ∷ words) = stands_there word (number 0) && all_stand (λ k. number (suc k)) words
+
+arithmetic_stand : all_stand (λ k. k) arithmetic_selectors ≡ true
+arithmetic_stand = refl
+
+common_stand : all_stand common_number common_selectors ≡ true
+common_stand = refl
+
+both_hold : (x y : Bool) → (x && y) ≡ true → (x ≡ true) × (y ≡ true)
+both_hold true y e = (refl, e)
+both_hold false y e = cc
+
+not_so : (b : Bool) → not b ≡ true → b ≡ false
+not_so true e = cc
+not_so false e = refl
+
+one_further : (o : Option ℕ) (k : ℕ) → option_map suc o ≡ Some k → (j : ℕ) × (o ≡ Some j) × (suc j ≡ k)
+one_further None k e = cc
+one_further (Some j) k e = (j, refl, value e)
+
+placed : (words : List (List ℕ)) (number : ℕ → ℕ) (s : List ℕ) (k : ℕ) → all_stand number words ≡ true → place_in words s ≡ Some k → stands_there s (number k) ≡ true
+placed [] number s k all e = cc
+placed (word ∷ words) number s k all e =
+    let parts = both_hold (stands_there word (number 0)) (all_stand (λ k. number (suc k)) words) all in
+    by_test parts.0 (λ j. placed words (λ k. number (suc k)) s j parts.1) (bytes_eq s word) (bytes_eq-Decides s word).0 e
+  where
+    by_test : stands_there word (number 0) ≡ true
+        → ((j : ℕ) → place_in words s ≡ Some j → stands_there s (number (suc j)) ≡ true)
+        → (b : Bool) → (b ≡ true → s ≡ word) → cond b (Some 0) (option_map suc (place_in words s)) ≡ Some k
+        → stands_there s (number k) ≡ true
+    by_test first later true is e =
+        subst (λ (j : ℕ). stands_there s (number j) ≡ true) (value e)
+        (subst (λ (w : List ℕ). stands_there w (number 0) ≡ true) (sym (is refl)) first)
+    by_test first later false is e =
+        let (j, found, step) = one_further (place_in words s) k e in
+        subst (λ (j : ℕ). stands_there s (number j) ≡ true) step (later j found)
+
+either_found : (a b : Option ℕ) (number : ℕ) → option_or a (option_map common_number b) ≡ Some number
+    → (a ≡ Some number) ⊎ ((j : ℕ) × (b ≡ Some j) × (common_number j ≡ number))
+either_found (Some k) b number e = inl e
+either_found None None number e = cc
+either_found None (Some j) number e = inr (j, refl, value e)
+
+special_stands : (s : List ℕ) (n : ℕ) → special_number s ≡ Some n → stands_there s n ≡ true
+special_stands s n e = elim (either_found (place_in arithmetic_selectors s) (place_in common_selectors s) n e) [
+  | inl first ↦ placed arithmetic_selectors (λ k. k) s n arithmetic_stand first
+  | inr (j, second, is) ↦ subst (λ (k : ℕ). stands_there s k ≡ true) is (placed common_selectors common_number s j common_stand second)
+]
+
+same_word : (s : List ℕ) (o : Option (List ℕ)) → option_map_or (bytes_eq s) o false ≡ true → o ≡ Some s
+same_word s None e = cc
+same_word s (Some word) e = ap Some (sym ((bytes_eq-Decides s word).0 e))
+
+pub special_is : (s : List ℕ) (n : ℕ) → special_number s ≡ Some n → ((n == 24) ≡ false) × (slice_get special_selectors n ≡ Some s)
+special_is s n e =
+    let parts = both_hold (not (n == 24)) (option_map_or (bytes_eq s) (slice_get special_selectors n) false) (special_stands s n e) in
+    (not_so (n == 24) parts.0, same_word s (slice_get special_selectors n) parts.1)
+
+pub special_takes : (s : List ℕ) (n k : ℕ) → special_number s ≡ Some n → IsSelectorOf k s → get_or special_arguments n 0 ≡ k
+special_takes s n k e h = (special_fits s k n h e).0

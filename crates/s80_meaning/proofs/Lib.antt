@@ -1,0 +1,17 @@
+pub mod Holding
+pub mod Headers
+pub mod Counted
+pub mod Ahead
+pub mod Natural
+pub mod NaturalWorld
+pub mod Numbered
+pub mod Stays
+pub mod Extends
+pub mod Variables
+pub mod Follows
+pub mod KeysOnce
+pub mod Agreed
+pub mod BlockMade
+pub mod Ended
+pub mod Assembled
+pub mod Means

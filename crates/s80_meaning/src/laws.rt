@@ -1,0 +1,33 @@
+// Laws of the meaning of trees.
+ghost use Rattle.std.specs.Prelude.{◌≡◌, ℕ, pos, Some};
+ghost use Rattle.std.specs.Option.{option_map};
+ghost use Rattle.s80_class.specs.Table.{Table};
+ghost use Rattle.s80_code.specs.declared.code.Code.{Code};
+ghost use Rattle.s80_dict.specs.Table.{MethodsValue};
+ghost use Rattle.s80_dict.specs.declared.dict.MethodEntry.{MethodEntry};
+ghost use Rattle.s80_object.specs.declared.value.Value.TheVariants.{Small};
+ghost use Rattle.s80_prims.specs.declared.stop.End.TheVariants.{Answer, Stopped};
+ghost use Rattle.s80_prims.specs.declared.stop.Outcome.{Outcome};
+ghost use Rattle.s80_prims.specs.declared.stop.Stop.TheVariants.{Budget};
+ghost use Rattle.s80_machine.specs.Run.{RunsTo};
+ghost use Rattle.s80_meaning.specs.Agreement.{MeansItsTrees};
+ghost use Rattle.s80_meaning.specs.Tree.{Meant};
+ghost use Rattle.s80_meaning.specs.Meaning.{eval};
+ghost use Rattle.s80_meaning.specs.Worked.{end_of, endless, sum, twice};
+
+/// Some trees, evaluated: `3 + 4`, a loop without an end under a budget, and a block that is activated twice.
+pub fn worked_trees()
+    ensures sum { (t : Table) (methods : MethodsValue (MethodEntry Meant)) (budget : ℕ)
+        → option_map end_of (eval t methods sum budget) ≡ Some (Answer (Small (pos 7)), 0) }
+    ensures endless { (t : Table) (methods : MethodsValue (MethodEntry Meant))
+        → option_map end_of (eval t methods endless 5) ≡ Some (Stopped (Budget 5), 5) }
+    ensures twice { (t : Table) (methods : MethodsValue (MethodEntry Meant))
+        → option_map end_of (eval t methods twice 9) ≡ Some (Answer (Small (pos 7)), 2) }
+{}
+
+/// Code means its trees: what a run of a doIt's code comes to is what its tree comes to among the trees of the methods, whatever trees
+/// the codes are compiled from, with the same end, transcript, ticks and words, and with the same objects but for where blocks begin.
+pub fn code_means_its_trees()
+    ensures { (t : Table) (codes : MethodsValue (MethodEntry Code)) (code : Code) (budget : ℕ) (ran : Outcome) → RunsTo t codes code budget ran
+        → MeansItsTrees t codes code budget ran }
+{}
