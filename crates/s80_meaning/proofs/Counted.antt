@@ -1,5 +1,5 @@
 -- Messages with as many arguments as their selectors have parameters, in numbered trees; and what the number of a special message says.
-use Rattle.std.proofs.Common.{◌≡◌, ap, sym, subst, refl, ℕ, zero, suc, ◌+◌, ◌==◌, ◌⊎◌, inl, inr, List, [], ◌∷◌, ◌++◌, Bool, true, false, ◌&&◌, not, cond, get_or, Option, Some, None}
+use Rattle.std.proofs.Common.{◌≡◌, ap, sym, subst, refl, ℕ, suc, ◌+◌, ◌==◌, ◌⊎◌, inl, inr, List, [], ◌∷◌, ◌++◌, Bool, true, false, ◌&&◌, not, cond, get_or, Option, Some, None}
 use Rattle.std.specs.Prelude.{slice_get}
 use Rattle.std.specs.Option.{option_map, option_map_or, option_or}
 use Rattle.std.specs.Str.{bytes_eq}
@@ -15,6 +15,8 @@ use Rattle.s80_core.specs.Measures.{common_number, special_number}
 use Rattle.s80_agree.specs.Sent.{IsWellSent, AllWellSent, SendsWellSent}
 use Rattle.s80_agree.proofs.DepthSelector.{special_fits}
 use Rattle.s80_machine.specs.Turn.{special_selectors}
+use Rattle.s80_meaning.proofs.Bodies.{BodiesAre, bodies_append, body_at}
+use Rattle.s80_meaning.proofs.Numbered.{count_numbered}
 use Rattle.s80_meaning.specs.Tree as tree
 use Rattle.s80_meaning.specs.Tree.{Tree, Trees, Sends, RealBlock, count, size, size_all, size_sends, numbered, numbered_all, numbered_sends, blocks, blocks_all, blocks_sends}
 
@@ -48,31 +50,14 @@ abbrev mutual
 
 -- the bodies of real blocks
 abbrev BodiesSent : List RealBlock → Type 0
-BodiesSent [] = Unit {0}
-BodiesSent (b ∷ bs) = Sent b.body × BodiesSent bs
-
-bodies_append : (bs cs : List RealBlock) → BodiesSent bs → BodiesSent cs → BodiesSent (bs ++ cs)
-bodies_append [] cs h j = j
-bodies_append (b ∷ bs) cs h j = (h.0, bodies_append bs cs h.1 j)
-
-body_at : (bs : List RealBlock) → BodiesSent bs → (b : ℕ) (block : RealBlock) → slice_get bs b ≡ Some block → Sent block.body
-body_at [] h zero block e = cc
-body_at [] h (suc b) block e = cc
-body_at (x ∷ bs) h zero block e =
-    let same : x ≡ block = cc in
-    subst (λ (y : RealBlock). Sent y.body) same h.0
-body_at (x ∷ bs) h (suc b) block e = body_at bs h.1 b block e
+BodiesSent bs = BodiesAre Sent bs
 
 -- what is made of two parts, one behind the other
 both : {A B : Type 0} (bs cs : List RealBlock) → A × BodiesSent bs → B × BodiesSent cs → (A × B) × BodiesSent (bs ++ cs)
-both bs cs f g = ((f.0, g.0), bodies_append bs cs f.1 g.1)
-
-as_many : (k : ℕ) (es : CoreTrees) → count (numbered_all k es) ≡ core.count es
-as_many k core.no_cores = refl
-as_many k (core.cores e es) = ap suc (as_many (k + size e) es)
+both bs cs f g = ((f.0, g.0), bodies_append Sent bs cs f.1 g.1)
 
 selector_still : (k : ℕ) (es : CoreTrees) (s : List ℕ) → IsSelectorOf (core.count es) s → IsSelectorOf (count (numbered_all k es)) s
-selector_still k es s h = subst (λ (n : ℕ). IsSelectorOf n s) (sym (as_many k es)) h
+selector_still k es s h = subst (λ (n : ℕ). IsSelectorOf n s) (sym (count_numbered k es)) h
 
 mutual
   sent_from : (c : CoreTree) (k : ℕ) → IsWellSent c → Sent (numbered k c) × BodiesSent (blocks k c)
@@ -108,7 +93,7 @@ mutual
       (((j.0.0, selector_still k es s h.0.1), j.0.1), j.1)
 
 pub sent_numbered : (c : CoreTree) → IsWellSent c → Sent (numbered 0 c) × ((b : ℕ) (block : RealBlock) → slice_get (blocks 0 c) b ≡ Some block → Sent block.body)
-sent_numbered c h = let a = sent_from c 0 h in (a.0, body_at (blocks 0 c) a.1)
+sent_numbered c h = let a = sent_from c 0 h in (a.0, body_at Sent (blocks 0 c) a.1)
 
 -- ---- messages with an instruction of their own
 

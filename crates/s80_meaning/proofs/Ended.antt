@@ -1,5 +1,5 @@
 -- A body ends with a return, or leaves its activation: it gives no value to what stands behind it.
-use Rattle.std.proofs.Common.{◌≡◌, subst, ℕ, zero, suc, ◌+◌, List, [], ◌∷◌, ◌++◌, Bool, true, false, Option, Some, None, if◌then◌else◌}
+use Rattle.std.proofs.Common.{◌≡◌, ℕ, suc, ◌+◌, List, ◌++◌, Bool, true, false, Option, Some, None, if◌then◌else◌}
 use Rattle.std.specs.Prelude.{slice_get}
 use Rattle.s80_class.specs.Table.{Table}
 use Rattle.s80_dict.specs.Table.{MethodsValue}
@@ -16,6 +16,7 @@ use Rattle.s80_prims.specs.declared.stop.Stop.TheVariants.{CannotReturn}
 use Rattle.s80_machine.specs.World.{World, Frame, own, home}
 use Rattle.s80_machine.specs.World as world
 use Rattle.s80_machine.specs.Turn.{fixed}
+use Rattle.s80_meaning.proofs.Bodies.{BodiesAre, bodies_append, body_at}
 use Rattle.s80_meaning.specs.Meaning.{Out, Gives, Answers, Returns, Stopped, Unfinished, Here, Evaluator, and_then, ev, is_alive, returned, with_part}
 use Rattle.s80_meaning.specs.Tree.{Meant, RealBlock, Tree, leaf, assign, value, send, cascade, real, two_arms, one_arm, shortcut, repeat, nothing, before, answer, answer_fixed, leave, size, size_all, numbered, blocks, blocks_all, blocks_sends}
 
@@ -54,26 +55,13 @@ body_ends m shape = tree_ends false (elaborated m shape) 0 (finished m shape)
 
 -- the bodies of real blocks
 abbrev BodiesEnd : List RealBlock → Type 0
-BodiesEnd [] = Unit {0}
-BodiesEnd (b ∷ bs) = Ends b.body × BodiesEnd bs
-
-bodies_append : (bs cs : List RealBlock) → BodiesEnd bs → BodiesEnd cs → BodiesEnd (bs ++ cs)
-bodies_append [] cs h j = j
-bodies_append (b ∷ bs) cs h j = (h.0, bodies_append bs cs h.1 j)
-
-body_at : (bs : List RealBlock) → BodiesEnd bs → (b : ℕ) (block : RealBlock) → slice_get bs b ≡ Some block → Ends block.body
-body_at [] h zero block e = cc
-body_at [] h (suc b) block e = cc
-body_at (x ∷ bs) h zero block e =
-    let same : x ≡ block = cc in
-    subst (λ (y : RealBlock). Ends y.body) same h.0
-body_at (x ∷ bs) h (suc b) block e = body_at bs h.1 b block e
+BodiesEnd bs = BodiesAre Ends bs
 
 mutual
   -- in a tree that ends itself
   ended_blocks : (in_block : Bool) (c : CoreTree) (k : ℕ) → Finishes in_block c → BodiesEnd (blocks k c)
   ended_blocks in_block (core.before a b) k h =
-      bodies_append (blocks k a) (blocks (k + size a) b) (left_blocks a k h.0) (ended_blocks in_block b (k + size a) h.1)
+      bodies_append Ends (blocks k a) (blocks (k + size a) b) (left_blocks a k h.0) (ended_blocks in_block b (k + size a) h.1)
   ended_blocks in_block (core.answer e) k h = left_blocks e k h
   ended_blocks in_block (core.answer_fixed n) k h = tt
   ended_blocks true (core.leave e) k h = left_blocks e k h
@@ -95,32 +83,32 @@ mutual
   left_blocks (core.leaf l) k h = tt
   left_blocks (core.assign v e) k h = left_blocks e k h
   left_blocks (core.value e) k h = left_blocks e k h
-  left_blocks (core.send r to_super s es) k h = bodies_append (blocks k r) (blocks_all (k + size r) es) (left_blocks r k h.0) (all_left es (k + size r) h.1)
-  left_blocks (core.cascade r to_super ms) k h = bodies_append (blocks k r) (blocks_sends (k + size r) ms) (left_blocks r k h.0) (sends_left ms (k + size r) h.1)
+  left_blocks (core.send r to_super s es) k h = bodies_append Ends (blocks k r) (blocks_all (k + size r) es) (left_blocks r k h.0) (all_left es (k + size r) h.1)
+  left_blocks (core.cascade r to_super ms) k h = bodies_append Ends (blocks k r) (blocks_sends (k + size r) ms) (left_blocks r k h.0) (sends_left ms (k + size r) h.1)
   left_blocks (core.real_block first n e) k h = (tree_ends true e (suc k) h, ended_blocks true e (suc k) h)
   left_blocks (core.two_arms on c a b) k h =
-      bodies_append (blocks k c) (blocks (k + size c) a ++ blocks (k + size c + size a) b) (left_blocks c k h.0)
-      (bodies_append (blocks (k + size c) a) (blocks (k + size c + size a) b) (left_blocks a (k + size c) h.1.0) (left_blocks b (k + size c + size a) h.1.1))
-  left_blocks (core.one_arm on c a) k h = bodies_append (blocks k c) (blocks (k + size c) a) (left_blocks c k h.0) (left_blocks a (k + size c) h.1)
-  left_blocks (core.shortcut on c a) k h = bodies_append (blocks k c) (blocks (k + size c) a) (left_blocks c k h.0) (left_blocks a (k + size c) h.1)
-  left_blocks (core.repeat on c e) k h = bodies_append (blocks k c) (blocks (k + size c) e) (left_blocks c k h.0) (left_blocks e (k + size c) h.1)
+      bodies_append Ends (blocks k c) (blocks (k + size c) a ++ blocks (k + size c + size a) b) (left_blocks c k h.0)
+      (bodies_append Ends (blocks (k + size c) a) (blocks (k + size c + size a) b) (left_blocks a (k + size c) h.1.0) (left_blocks b (k + size c + size a) h.1.1))
+  left_blocks (core.one_arm on c a) k h = bodies_append Ends (blocks k c) (blocks (k + size c) a) (left_blocks c k h.0) (left_blocks a (k + size c) h.1)
+  left_blocks (core.shortcut on c a) k h = bodies_append Ends (blocks k c) (blocks (k + size c) a) (left_blocks c k h.0) (left_blocks a (k + size c) h.1)
+  left_blocks (core.repeat on c e) k h = bodies_append Ends (blocks k c) (blocks (k + size c) e) (left_blocks c k h.0) (left_blocks e (k + size c) h.1)
   left_blocks core.nothing k h = tt
-  left_blocks (core.before a b) k h = bodies_append (blocks k a) (blocks (k + size a) b) (left_blocks a k h.0) (left_blocks b (k + size a) h.1)
+  left_blocks (core.before a b) k h = bodies_append Ends (blocks k a) (blocks (k + size a) b) (left_blocks a k h.0) (left_blocks b (k + size a) h.1)
   left_blocks (core.answer e) k h = left_blocks e k h
   left_blocks (core.answer_fixed n) k h = tt
   left_blocks (core.leave e) k h = absurd h
 
   all_left : (es : CoreTrees) (k : ℕ) → AllLeaveBlocks es → BodiesEnd (blocks_all k es)
   all_left core.no_cores k h = tt
-  all_left (core.cores e es) k h = bodies_append (blocks k e) (blocks_all (k + size e) es) (left_blocks e k h.0) (all_left es (k + size e) h.1)
+  all_left (core.cores e es) k h = bodies_append Ends (blocks k e) (blocks_all (k + size e) es) (left_blocks e k h.0) (all_left es (k + size e) h.1)
 
   sends_left : (ms : SendTrees) (k : ℕ) → SendsLeaveBlocks ms → BodiesEnd (blocks_sends k ms)
   sends_left core.no_sends k h = tt
-  sends_left (core.sends s es ms) k h = bodies_append (blocks_all k es) (blocks_sends (k + size_all es) ms) (all_left es k h.0) (sends_left ms (k + size_all es) h.1)
+  sends_left (core.sends s es ms) k h = bodies_append Ends (blocks_all k es) (blocks_sends (k + size_all es) ms) (all_left es k h.0) (sends_left ms (k + size_all es) h.1)
 
 -- and that of each of its real blocks
 pub blocks_end : (m : MethodParts) (shape : Shape) (b : ℕ) (block : RealBlock) → slice_get (blocks 0 (elaborated m shape)) b ≡ Some block → Ends block.body
-blocks_end m shape = body_at (blocks 0 (elaborated m shape)) (ended_blocks false (elaborated m shape) 0 (finished m shape))
+blocks_end m shape = body_at Ends (blocks 0 (elaborated m shape)) (ended_blocks false (elaborated m shape) 0 (finished m shape))
 
 -- ---- no value is given
 

@@ -1,5 +1,6 @@
 pub mod Holding
 pub mod Headers
+pub mod Bodies
 pub mod Counted
 pub mod Ahead
 pub mod Natural

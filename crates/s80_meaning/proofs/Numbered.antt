@@ -48,7 +48,7 @@ module _ (bytes : List ℕ) (entries : List EntryTree) where
         places_all es r.mid r.second.mid r.second.first
         ++ places_sends to_super (sends s2 es2 ms) r.second.second.second.mid q r.second.second.second.second
 
-count_numbered : (k : ℕ) (es : CoreTrees) → tree.count (numbered_all k es) ≡ count es
+pub count_numbered : (k : ℕ) (es : CoreTrees) → tree.count (numbered_all k es) ≡ count es
 count_numbered k no_cores = refl
 count_numbered k (cores e es) = ap suc (count_numbered (k + size e) es)
 

@@ -1,4 +1,4 @@
--- The meaning of a tree among classes and methods, under a budget of ticks.
+-- The meaning of a tree among classes and methods, under a budget of ticks (Blue Book, part one: expressions, blocks, methods and returns).
 use Rattle.std.specs.Prelude.{ℕ, zero, suc, ◌+◌, ◌-◌, ◌==◌, List, [], ◌∷◌, ◌++◌, Bool, true, false, codes, drop, length, replicate, slice_get, nat_le, nat_lt, Option, Some, None, option_and_then, unwrap_or, if◌then◌else◌}
 use Rattle.std.specs.FinMap as map_of
 use Rattle.std.specs.Option.{option_map, option_map_or}
@@ -145,9 +145,6 @@ module _ (t : Table) (methods : MethodsValue (MethodEntry Meant)) (doit_meant : 
   abbrev pub meant_for : Key → Option Meant
   meant_for doit = Some doit_meant
   meant_for (method c side selector) = option_map (λ e. e.code) (map_of.get (methods_at methods c side) selector)
-
-  abbrev pub meant_at : World → ℕ → Option Meant
-  meant_at w m = option_and_then meant_for (slice_get w.keys m)
 
   -- a literal is made at its first push, and is the same one at each later push
   abbrev pub literal_value : World → Frame → ℕ → ℕ → LiteralTree → Out Value

@@ -26,7 +26,8 @@ pub fn worked_trees()
 {}
 
 /// Code means its trees: what a run of a doIt's code comes to is what its tree comes to among the trees of the methods, whatever trees
-/// the codes are compiled from, with the same end, transcript, ticks and words, and with the same objects but for where blocks begin.
+/// the codes are compiled from, where each message has as many arguments as its selector has parameters. The end, the transcript, the
+/// ticks and the words are the same, and so are the objects but for where blocks begin.
 pub fn code_means_its_trees()
     ensures { (t : Table) (codes : MethodsValue (MethodEntry Code)) (code : Code) (budget : ℕ) (ran : Outcome) → RunsTo t codes code budget ran
         → MeansItsTrees t codes code budget ran }
