@@ -1,16 +1,11 @@
 //! `st80 FOLDER COMMAND`: a day's work in Smalltalk-80, kept in a folder that no crash loses.
 #![tactic(auto)]
 
-mod outside;
-mod program;
 mod real;
-mod status;
-mod words;
 
-pub use program::st80;
 pub use real::RealOutside;
 use s80_base::Text;
-pub use status::Status;
+use s80_program::{Status, st80};
 use std::env::Env;
 use std::io::ErrorKind;
 use std::process::ExitCode;
@@ -44,6 +39,3 @@ fn main(rt: HostRuntime) -> ExitCode {
     }
     ExitCode::from(status.number())
 }
-
-#[cfg(test)]
-mod tests;

@@ -1,0 +1,9 @@
+// Changes: definitions, heads, blocks, chunk files and refusals.
+use anyhow::Result;
+use s80_base::Text;
+use std::alloc::Global;
+
+/// What a row of this module shows, if it is one.
+pub(crate) fn row(_alloc: Global, _word: &str, _rest: &str) -> Result<Option<Text>> {
+    Ok(None)
+}

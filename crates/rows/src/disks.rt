@@ -1,0 +1,117 @@
+// Folders in memory, and runs of the program over them.
+ghost use Rattle.std.specs.Prelude.{◌≡◌, IfOk};
+ghost use Rattle.s80_disk.specs.Memory.{told_by};
+
+use anyhow::{Result, bail};
+use s80_base::{FixedClock, MemSink, OutOfMemory, Source, Text};
+use s80_disk::{Disk, FaultPlan, FileId, MemDisk, MemOutside};
+use s80_program::{Status, st80};
+use std::alloc::Global;
+
+/// How many calls a disk records.
+const CALLS: usize = 4096;
+
+/// How many bytes a run may write.
+const MOST_WRITTEN: usize = 1 << 18;
+
+/// A folder of empty files with this room each, whose calls fail by this plan.
+pub(crate) fn empty(alloc: Global, room: usize, plan: FaultPlan) -> Result<MemDisk, OutOfMemory>
+    ensures { IfOk result (λ disk. told_by disk ≡ 0) }
+{
+    let disk = MemDisk::make(alloc, room, CALLS, plan)?;
+    Ok(disk)
+}
+
+/// The file of this name.
+pub(crate) fn file_named(name: &str) -> Result<FileId> {
+    match name {
+        "mark" => Ok(FileId::Mark),
+        "log0" => Ok(FileId::Log0),
+        "log1" => Ok(FileId::Log1),
+        "image0" => Ok(FileId::Image0),
+        "image1" => Ok(FileId::Image1),
+        _ => bail!("no file: {name}"),
+    }
+}
+
+/// What a file holds, whatever calls on the disk fail.
+pub(crate) fn contents(
+    alloc: Global,
+    disk: &MemDisk,
+    room: usize,
+    file: FileId,
+) -> Result<Vec<u8>> {
+    let mut copy = disk.crash(alloc, 1)?;
+    let mut bytes = vec![in alloc; 0; room]?;
+    let count = copy.read_at(file, 0, &mut bytes)?;
+    bytes.truncate(count);
+    Ok(bytes)
+}
+
+/// The plan under which so many calls more are made first.
+fn later(plan: FaultPlan, calls: u64) -> FaultPlan {
+    match plan {
+        FaultPlan::Never => FaultPlan::Never,
+        FaultPlan::One(number) => FaultPlan::One(number.saturating_add(calls)),
+        FaultPlan::From(number) => FaultPlan::From(number.saturating_add(calls)),
+    }
+}
+
+/// A folder that holds the same on the disk, whose calls fail by this plan.
+pub(crate) fn planned(
+    alloc: Global,
+    from: &MemDisk,
+    room: usize,
+    plan: FaultPlan,
+) -> Result<MemDisk>
+    ensures { IfOk result (λ disk. told_by disk ≡ 0) }
+{
+    if plan == FaultPlan::Never {
+        return Ok(from.crash(alloc, 1)?);
+    }
+    let mut disk = empty(alloc, room, later(plan, 6))?;
+    for file in [FileId::Mark, FileId::Log0, FileId::Log1] {
+        let bytes = contents(alloc, from, room, file)?;
+        disk.write_at(file, 0, &bytes)?;
+        disk.sync(file)?;
+    }
+    Ok(disk)
+}
+
+/// What a run left: how it ended, its disk, and what it wrote.
+#[derive(Drop)]
+pub(crate) struct Ran {
+    pub status: Status,
+    pub disk: MemDisk,
+    pub written: Text,
+}
+
+/// Runs the program over these parts.
+pub(crate) fn run<S: Source + Drop>(
+    alloc: Global,
+    disk: MemDisk,
+    source: S,
+    failing_puts: &[u64],
+    words: &[Text],
+) -> Result<Ran>
+    requires { told_by disk ≡ 0 }
+{
+    let sink = MemSink::make(alloc, MOST_WRITTEN, failing_puts)?;
+    let mut outside = MemOutside::make(disk, source, sink, FixedClock { seconds: 0 });
+    let status = st80(alloc, words, &mut outside);
+    let (disk, _source, sink) = outside.parts();
+    Ok(Ran {
+        status,
+        disk,
+        written: Text::from_bytes(alloc, sink.bytes())?,
+    })
+}
+
+/// Words, parted by `|`.
+pub(crate) fn words(alloc: Global, spelled: &str) -> Result<Vec<Text>> {
+    let mut list = Vec::new(alloc);
+    for word in spelled.split('|') {
+        list.push(crate::bytes::read(alloc, word)?)?;
+    }
+    Ok(list)
+}

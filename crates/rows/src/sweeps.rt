@@ -1,0 +1,97 @@
+// Runs that are stopped at each of their calls on the disk, and what is found after crashes.
+use crate::disks::{Ran, planned, run, words};
+use anyhow::{Context, Result, ensure};
+use s80_base::{MemSource, Text};
+use s80_disk::{FaultPlan, MemDisk};
+use s80_program::Status;
+use std::alloc::Global;
+
+/// What may stand where a crash leaves any bytes, those that open the gate of a slot among it.
+const CHOICES: [u64; 6] = [0, 1, 2, 3, 33, 225];
+
+/// How many changes `recover` finds in a folder.
+fn count(alloc: Global, disk: &MemDisk, choice: u64) -> Result<u64> {
+    let source = MemSource::make(alloc, b"", 1, &[])?;
+    let asked = words(alloc, "st80|F|recover")?;
+    let found = run(alloc, disk.crash(alloc, choice)?, source, &[], &asked)?;
+    ensure!(found.status == Status::Done, "recover ends otherwise");
+    let line = std::str::from_utf8(found.written.bytes())?;
+    let behind = line.strip_prefix("recovered ").context("no count")?;
+    let (number, _) = behind.split_once(' ').context("no count")?;
+    number.parse().context("no number")
+}
+
+/// Runs the chunks of an input over a folder whose calls fail from this one on.
+fn stopped(alloc: Global, disk: &MemDisk, room: usize, call: u64, input: &Text) -> Result<Ran> {
+    let disk = planned(alloc, disk, room, FaultPlan::From(call))?;
+    let source = MemSource::make(alloc, input.bytes(), 4096, &[])?;
+    let asked = words(alloc, "st80|F|run")?;
+    run(alloc, disk, source, &[], &asked)
+}
+
+/// How many changes were answered, each by a line.
+fn answered(written: &Text) -> u64 {
+    let mut lines = 0u64;
+    for byte in written.bytes() {
+        if *byte == b'\n' {
+            lines = lines.saturating_add(1);
+        }
+    }
+    lines
+}
+
+/// How many crashes of a run lose no change that was answered, and find at most one more, where there were so many before.
+fn crashes(alloc: Global, ran: &Ran, before: u64) -> Result<u64> {
+    let least = before.saturating_add(answered(&ran.written));
+    let mut tried = 0u64;
+    for choice in CHOICES {
+        let found = count(alloc, &ran.disk, choice)?;
+        ensure!(
+            least <= found && found <= least.saturating_add(1),
+            "{least} changes were answered, and choice {choice} finds {found}"
+        );
+        tried = tried.saturating_add(1);
+    }
+    Ok(tried)
+}
+
+/// Runs an input over a folder, stopped at each call up to the last, and tries crashes behind each. Answers how many, and whether the
+/// run that is stopped at the last call came to its end.
+pub(crate) fn sweep(
+    alloc: Global,
+    disk: &MemDisk,
+    room: usize,
+    last: u64,
+    input: &Text,
+) -> Result<(u64, Status)> {
+    let before = count(alloc, disk, 1)?;
+    let mut tried = 0u64;
+    let mut status = Status::DiskFault;
+    for call in 1..=last {
+        let ran = stopped(alloc, disk, room, call, input)?;
+        tried = tried.saturating_add(crashes(alloc, &ran, before)?);
+        status = ran.status;
+    }
+    Ok((tried, status))
+}
+
+/// The same over each of the folders that a crash may leave of a run that is stopped at this call.
+pub(crate) fn sweep_again(
+    alloc: Global,
+    disk: &MemDisk,
+    room: usize,
+    call: u64,
+    last: u64,
+    input: &Text,
+) -> Result<(u64, Status)> {
+    let first = stopped(alloc, disk, room, call, input)?;
+    let mut tried = 0u64;
+    let mut status = Status::DiskFault;
+    for choice in CHOICES {
+        let left = first.disk.crash(alloc, choice)?;
+        let (more, ended) = sweep(alloc, &left, room, last, input)?;
+        tried = tried.saturating_add(more);
+        status = ended;
+    }
+    Ok((tried, status))
+}

@@ -1,0 +1,177 @@
+-- The beginning of a command: the folder is chosen, and a session starts.
+use Rattle.std.proofs.Common.{◌≡◌, ◌≢◌, inl, inr, ⊎_elim, ℕ, List, [], length, refl, sym, ap, subst, ◌∙◌, Err, Option, Some, None, Bool, true, false, take, arith}
+use Rattle.std.specs.Prelude.{◌<◌, ◌==◌, if◌then◌else◌}
+use Rattle.std.proofs.lemmas.List.{append-nil}
+use Rattle.s80_chunk.specs.Chunks.Reads.{stop}
+use Rattle.s80_block.specs.declared.change.Change.{Change}
+use Rattle.s80_disk.specs.Image.{Image}
+use Rattle.s80_disk.specs.Moments.{LeavesOnly}
+use Rattle.s80_disk.proofs.Run.{joined, weaker}
+use Rattle.s80_mark.specs.Mark.{valid_mark}
+use Rattle.s80_mark.specs.Found.{longer_log}
+use Rattle.s80_keeper.specs.declared.start.Damage.{Damage}
+use Rattle.s80_keeper.specs.declared.start.Damage.TheVariants as damages
+use Rattle.s80_block.specs.Block.{blocks}
+use Rattle.s80_disk.specs.declared.disk.FileId.{FileId}
+use Rattle.s80_disk.specs.declared.disk.FileId.TheVariants.{Mark, Log0, Log1}
+use Rattle.s80_log.specs.Log.{log_file}
+use Rattle.s80_keeper.specs.Keeper.{KeeperState, Knows}
+use Rattle.s80_keeper.specs.Standing.{FilesStandFor, StandsFor, ReadsFor}
+use Rattle.s80_keeper.specs.Start.{IsDamage}
+use Rattle.s80_session.specs.declared.end.SessionEnd.{SessionEnd}
+use Rattle.s80_session.specs.declared.end.SessionEnd.TheVariants as ends
+use Rattle.s80_session.specs.Putting.{IsAsBefore}
+use Rattle.s80_model.specs.declared.item.SessionItem.{SessionItem}
+use Rattle.s80_session.specs.declared.session.Session.{Session}
+use Rattle.s80_session.specs.Session.{keeper_of}
+use Rattle.s80_session.specs.Run.{Shown, HasKept}
+use Rattle.s80_session.specs.Working.{IsAt, Starts, IsSessionStart}
+use Rattle.s80_session.proofs.Keeping.{keeps_stands}
+use Rattle.s80_session.proofs.Lasting.{keeps_at_start}
+use Rattle.s80_program.specs.declared.status.Status.TheVariants as status
+use Rattle.s80_program.specs.Command.{default_budget}
+use Rattle.s80_program.specs.Ending.{IsDiskEnd, status_after}
+use Rattle.s80_program.specs.Leaves.{StartsWith, LeavesFor, KeepsFor, TellsDamage, beginning}
+
+-- every crash of a disk that stands for a list leaves files that do
+pub stands_leaves : (tells : Bool) (reads : Image) (may_leave : Image → Type 0) (changes : List Change) → StandsFor tells reads may_leave changes → (c : Image) → may_leave c → FilesStandFor c changes
+stands_leaves tells reads may_leave changes h c left = ⊎_elim (λ empty. inl ((empty.1.log0 c left, empty.1.log1 c left), empty.2)) (λ marked. inr (
+  marked.0,
+  record {
+    valid = ap valid_mark (marked.1.mark_stays c left) ∙ marked.1.files.valid;
+    numbers = marked.1.files.numbers;
+    list = marked.1.files.list;
+    whole = marked.1.files.whole;
+    bytes = marked.1.log_stays c left ∙ marked.1.files.bytes;
+  },
+  marked.2,
+  marked.3,
+)) h.stands
+
+-- a call that shows nothing new, and after which a crash leaves no more
+module _ (old now : Shown) (same : now ≡ old) (was may_leave : Image → Type 0) (less : (c : Image) → may_leave c → was c) (changes : List Change) where
+  pub stands_on : StandsFor old.tells old.files was changes → StandsFor now.tells now.files may_leave changes
+  stands_on h = let P : Shown → Type 0 = λ o. StandsFor o.tells o.files may_leave changes in subst P (sym same) (record {
+    told = h.told;
+    stands = ⊎_elim (λ empty. inl (empty.0, record { log0 = λ c left. empty.1.log0 c (less c left); log1 = λ c left. empty.1.log1 c (less c left) }, empty.2)) (λ marked. inr (
+      marked.0,
+      record { told = marked.1.told; files = marked.1.files; mark_stays = λ c left. marked.1.mark_stays c (less c left); log_stays = λ c left. marked.1.log_stays c (less c left) },
+      marked.2,
+      marked.3,
+    )) h.stands;
+  })
+
+  pub reads_on : ReadsFor old.tells old.files was changes → ReadsFor now.tells now.files may_leave changes
+  reads_on h = let P : Shown → Type 0 = λ o. ReadsFor o.tells o.files may_leave changes in subst P (sym same) (record {
+    told = h.told;
+    stands = ⊎_elim (λ empty. inl empty) (λ marked. inr (marked.0, marked.1, marked.2, marked.3, λ c left. marked.4 c (less c left))) h.stands;
+  })
+
+  pub starts_on : (input before : List ℕ) → StartsWith was old changes input before → StartsWith may_leave now changes input before
+  starts_on input before h = record {
+    reads = reads_on h.reads;
+    left = ap (λ (o : Shown). o.left) same ∙ h.left;
+    taken = ap (λ (o : Shown). o.taken) same ∙ h.taken;
+    told = ap (λ (o : Shown). o.told) same ∙ h.told;
+  }
+
+-- the disk fails before the first item
+pub lost_at_start : (item : Option SessionItem) (end : SessionEnd) (may_leave : Image → Type 0) (now : Shown) (changes : List Change) (input before : List ℕ) → IsDiskEnd end → now.left ≡ Some input → now.taken ≡ Some before → LeavesFor item (status_after (Err end)) may_leave now changes input before
+lost_at_start None (ends.Disk failed) may_leave now changes input before is left taken = record {
+  asks = [];
+  first = ([], inl ([], input, stop refl refl, refl), tt);
+  taken = taken ∙ ap Some (sym (append-nil before));
+}
+lost_at_start (Some item) (ends.Disk failed) may_leave now changes input before is left taken = (taken, left)
+lost_at_start item ends.Memory may_leave now changes input before is left taken = absurd is
+lost_at_start item (ends.Read failed) may_leave now changes input before is left taken = absurd is
+lost_at_start item (ends.Write failed) may_leave now changes input before is left taken = absurd is
+lost_at_start item (ends.Damaged damage) may_leave now changes input before is left taken = absurd is
+lost_at_start item ends.TooLong may_leave now changes input before is left taken = absurd is
+
+-- the session doesn't start
+pub no_session : (item : Option SessionItem) (end : SessionEnd) (may_leave : Image → Type 0) (now : Shown) (changes : List Change) (input before : List ℕ) → Starts (Err end) may_leave now default_budget changes before → now.left ≡ Some input → now.taken ≡ Some before → LeavesFor item (status_after (Err end)) may_leave now changes input before
+no_session None ends.Memory may_leave now changes input before h left taken = inl (record {
+  asks = [];
+  first = ([], inl ([], input, stop refl refl, refl), tt);
+  answered = record { stands = h; taken = taken ∙ ap Some (sym (append-nil before)) };
+})
+no_session (Some item) ends.Memory may_leave now changes input before h left taken = (inl (record { stands = h; taken = taken ∙ ap Some (sym (append-nil before)) }), left)
+no_session item (ends.Disk failed) may_leave now changes input before h left taken = lost_at_start item (ends.Disk failed) may_leave now changes input before tt left taken
+no_session item (ends.Read failed) may_leave now changes input before h left taken = absurd h
+no_session item (ends.Write failed) may_leave now changes input before h left taken = absurd h
+no_session item (ends.Damaged damage) may_leave now changes input before h left taken = absurd h
+no_session item ends.TooLong may_leave now changes input before h left taken = absurd h
+
+-- memory is wanting before the first item
+pub no_memory : (item : Option SessionItem) (may_leave : Image → Type 0) (now : Shown) (session : Session) (changes : List Change) (input before : List ℕ) → IsAt may_leave now session (beginning changes) before → now.left ≡ Some input → LeavesFor item (status_after (Err ends.Memory)) may_leave now changes input before
+no_memory item may_leave now session changes input before at left =
+    no_session item ends.Memory may_leave now changes input before (keeps_stands now.tells now.files may_leave (keeper_of session) changes at.keeps) left at.taken
+
+-- what is kept before the first item
+pub kept_at_start : (item : Option SessionItem) (changes : List Change) (input before : List ℕ) (told : ℕ) (c : Image) → HasKept changes (length before) told c → KeepsFor item changes input before told c
+kept_at_start None changes input before told c h = keeps_at_start (beginning changes) input before told c h
+kept_at_start (Some item) changes input before told c h = inl h
+
+module _ {D : Type 0} (moment : D → ℕ) (left_since : D → ℕ → ℕ → Image → Type 0) (item : Option SessionItem) (changes : List Change) (input before : List ℕ) where
+  abbrev P : ℕ → Image → Type 0
+  P = KeepsFor item changes input before
+
+  -- the folder is chosen
+  pub chosen : (tells : Bool) (reads : Image) (may_leave : Image → Type 0) (told : ℕ) (old new : D) → StandsFor tells reads may_leave changes → told ≡ length before → LeavesOnly moment left_since old new (IsAsBefore may_leave told 0) → LeavesOnly moment left_since old new P
+  chosen tells reads may_leave told old new stands is run = weaker moment left_since old new (IsAsBefore may_leave told 0) P run (λ n c h. kept_at_start item changes input before n c (record { no_more = omega (arith, h.no_more, is); files = stands_leaves tells reads may_leave changes stands c h.was }))
+
+  -- a session starts
+  pub session_begins : (told : ℕ) (old new : D) → told ≡ length before → LeavesOnly moment left_since old new (HasKept changes told) → LeavesOnly moment left_since old new P
+  session_begins told old new is run = weaker moment left_since old new (HasKept changes told) P run (λ n c h. kept_at_start item changes input before n c (record { no_more = omega (arith, h.no_more, is); files = h.files }))
+
+  pub goes_on : (old mid new : D) → LeavesOnly moment left_since old mid P → LeavesOnly moment left_since mid new P → LeavesOnly moment left_since old new P
+  goes_on old mid new first second = joined moment left_since old mid new P P first second (λ n c h. h)
+
+-- a log holds something where files are damaged
+pub damaged_has_log : (files : Image) (damage : Damage) → IsDamage files damage → 0 < longer_log files
+damaged_has_log files (damages.NoMark count) h = h.0
+damaged_has_log files (damages.BadMark value) (inl h) = h.0
+damaged_has_log files (damages.BadMark value) (inr h) = h.1.some
+damaged_has_log files (damages.LogShort marked found) h = h.1.some
+damaged_has_log files (damages.BadBlock place) h = h.3.has_mark.some
+damaged_has_log files (damages.Replay place number) h = h.5.has_mark.some
+
+-- a session that doesn't start on damaged files
+pub tells_damage : (files : Image) (end : SessionEnd) → IsSessionStart files (Err end) → TellsDamage (status_after (Err end))
+tells_damage files ends.Memory h = tt
+tells_damage files (ends.Disk failed) h = tt
+tells_damage files (ends.Damaged damage) h = tt
+tells_damage files (ends.Read failed) h = absurd h
+tells_damage files (ends.Write failed) h = absurd h
+tells_damage files ends.TooLong h = absurd h
+
+pub damage_found : (files : Image) (end : SessionEnd) → status_after (Err end) ≡ status.Damaged → IsSessionStart files (Err end) → (damage : Damage) × IsDamage files damage
+damage_found files (ends.Damaged damage) is h = (damage, h)
+damage_found files ends.Memory is h = cc is
+damage_found files (ends.Disk failed) is h = cc is
+damage_found files (ends.Read failed) is h = absurd h
+damage_found files (ends.Write failed) is h = absurd h
+damage_found files ends.TooLong is h = absurd h
+
+-- what is shown stays but for the files
+pub shown_but_files : (old now : Shown) → now ≡ old → now ≡ record old { files = now.files }
+shown_but_files old now same = let P : Shown → Type 0 = λ o. o ≡ record old { files = o.files } in subst P (sym same) refl
+
+pub shown_through : (old mid now : Shown) → mid ≡ old → now ≡ record mid { files = now.files } → now ≡ record old { files = now.files }
+shown_through old mid now same here = let P : Shown → Type 0 = λ o. now ≡ record o { files = now.files } in subst P same here
+
+-- what the files have of the keeper's log, where the mark alone was written
+log_or_log : (b : Bool) → (if b then Log0 else Log1) ≢ Mark
+log_or_log true is = cc is
+log_or_log false is = cc is
+
+no_mark : (number : ℕ) → log_file number ≢ Mark
+no_mark number = log_or_log (number == 0)
+
+pub knows_on : (files now : Image) (keeper : KeeperState) (changes : List Change) → ((other : FileId) → other ≢ Mark → now other ≡ files other) → Knows files keeper changes → Knows now keeper changes
+knows_on files now keeper changes same h = record {
+  log = ap (take keeper.log.end) (same (log_file keeper.log.number) (no_mark keeper.log.number)) ∙ h.log;
+  system = h.system;
+  count = h.count;
+}

@@ -1,0 +1,195 @@
+-- The first items of an input are the front of all its items, and so are their replies.
+use Rattle.std.proofs.Common.{◌≡◌, ◌⊎◌, inl, inr, ℕ, ◌≤◌, List, [], ◌∷◌, ◌++◌, length, take, drop, refl, sym, ap, subst, ◌∙◌, Option, Some, None, Bool, true, false, append_assoc, arith, length-append, take-append-drop}
+use Rattle.std.proofs.lemmas.List.{append-nil}
+use Rattle.s80_chunk.specs.declared.item.Item.{Item}
+use Rattle.s80_chunk.specs.declared.item.Role.TheVariants.{Plain}
+use Rattle.s80_chunk.specs.Chunks.{Reads, IsBlank, item_of}
+use Rattle.s80_chunk.proofs.Reading.{one_reading}
+use Rattle.s80_chunk.proofs.Stopping.{reads_prefix}
+use Rattle.s80_block.specs.declared.change.Change.{Change}
+use Rattle.s80_disk.specs.Image.{Image}
+use Rattle.s80_machine.specs.Came.{RanValue}
+use Rattle.s80_model.specs.declared.item.SessionItem.{SessionItem}
+use Rattle.s80_model.specs.declared.item.SessionItem.TheVariants.{Chunk, Unended, Query}
+use Rattle.s80_model.specs.Asked.{Ask, evaluates}
+use Rattle.s80_session.specs.Ending.{Faults}
+use Rattle.s80_model.specs.Replies.{AllAsk, Work, reply_to, reply_text, work_after, work_after_all, replies}
+use Rattle.s80_session.specs.Run.{Shown, chunks, ItemsOf, FirstItemsOf, AsksOf, BrokeOff, FirstAsksOf, WholeAsksOf, Finished, Unanswered, Unevaluated, input_limit}
+use Rattle.s80_session.proofs.Taking.{first_of}
+use Rattle.s80_program.specs.declared.status.Status.{Status}
+use Rattle.s80_program.specs.declared.status.Status.TheVariants as status
+use Rattle.s80_program.specs.Command.{Command, Run, Do, Tell, behind_separators}
+use Rattle.s80_program.specs.Ending.{NoFault, StatusHasReason, IsWhole}
+use Rattle.s80_program.specs.Leaves.{AllAsksFor, AsksFirst, IsAnswered, IsWithin, ItemLeaves, Leaves, LeavesFor, PutsFront, RunLeaves, beginning}
+use Rattle.s80_program.proofs.Again.{goes_on_asking}
+
+chunks_append : (given more : List Item) → chunks (given ++ more) ≡ chunks given ++ chunks more
+chunks_append [] more = refl
+chunks_append (item ∷ given) more = ap (λ l. Chunk item ∷ l) (chunks_append given more)
+
+replies_append : (work : Work) (asks more : List Ask) → replies work (asks ++ more) ≡ replies work asks ++ replies (work_after_all work asks) more
+replies_append work [] more = refl
+replies_append work (ask ∷ asks) more =
+    ap (λ l. reply_text (reply_to work ask) ++ l) (replies_append (work_after work ask) asks more)
+    ∙ sym (append_assoc (reply_text (reply_to work ask)) (replies (work_after work ask) asks) (replies (work_after_all (work_after work ask) asks) more))
+
+abbrev Begins : {A : Type 0} → List A → List A → Type 0
+Begins {A} items all = (others : List A) × (all ≡ items ++ others)
+
+-- the items that a front reads as are the first of all
+reading_first : (input : List ℕ) (given : List Item) (rest : List ℕ) (all : List SessionItem) → Reads true false input given rest → ItemsOf input all → Begins (chunks given) all
+reading_first input given rest all reads (whole, end, reading, inl (blank, is)) =
+    let p = reads_prefix true false input whole given end rest reading.reads reading.stops reads in
+    (chunks p.0, is ∙ ap chunks p.1 ∙ chunks_append given p.0)
+reading_first input given rest all reads (whole, end, reading, inr (not, is)) =
+    let p = reads_prefix true false input whole given end rest reading.reads reading.stops reads in
+    (chunks p.0 ++ Unended ∷ [], is ∙ ap (λ l. chunks l ++ Unended ∷ []) p.1 ∙ ap (λ l. l ++ Unended ∷ []) (chunks_append given p.0) ∙ append_assoc (chunks given) (chunks p.0) (Unended ∷ []))
+
+-- an input has one list of items
+pub one_list : (input : List ℕ) (items all : List SessionItem) → ItemsOf input items → ItemsOf input all → items ≡ all
+one_list input items all (given, rest, reading, inl (blank, is)) (other, end, again, inl (too, are)) = is ∙ ap chunks (one_reading input given other rest end reading again).0 ∙ sym are
+one_list input items all (given, rest, reading, inr (not, is)) (other, end, again, inr (nor, are)) = is ∙ ap (λ l. chunks l ++ Unended ∷ []) (one_reading input given other rest end reading again).0 ∙ sym are
+one_list input items all (given, rest, reading, inl (blank, is)) (other, end, again, inr (nor, are)) =
+    let P : List ℕ → Type 0 = λ l. IsBlank l in absurd (nor (subst P (one_reading input given other rest end reading again).1 blank))
+one_list input items all (given, rest, reading, inr (not, is)) (other, end, again, inl (too, are)) =
+    let P : List ℕ → Type 0 = λ l. IsBlank l in absurd (not (subst P (sym (one_reading input given other rest end reading again).1) too))
+
+first_items : (input : List ℕ) (items all : List SessionItem) → FirstItemsOf input items → ItemsOf input all → Begins items all
+first_items input items all (inl (given, rest, reads, is)) whole =
+    let P : List SessionItem → Type 0 = λ l. Begins l all in subst P (sym is) (reading_first input given rest all reads whole)
+first_items input items all (inr list) whole = ([], sym (one_list input items all list whole) ∙ sym (append-nil items))
+
+whole_first : (work : Work) (got left input : List ℕ) (asks : List Ask) → WholeAsksOf work got asks → input ≡ got ++ left → FirstAsksOf work input asks
+whole_first work got left input asks (items, (given, rest, reads, none, is), asked) input_is =
+    let P : List SessionItem → Type 0 = λ l. FirstItemsOf input l in
+    (items, subst P (sym is) (first_of false got left input given (rest, reads) input_is (λ e. cc)), asked)
+
+-- where all items ask something, they can ask first what the first items do
+first_asks : (work : Work) (input : List ℕ) (asks all : List Ask) → FirstAsksOf work input asks → AsksOf work input all → (more : List Ask) × AsksOf work input (asks ++ more)
+first_asks work input asks all (items, first, asked) (list, whole, all_asked) =
+    let begins = first_items input items list first whole in
+    let P : List SessionItem → Type 0 = λ l. AllAsk work l all in
+    let rest = goes_on_asking work items begins.0 asks all asked (subst P begins.1 all_asked) in
+    let Q : List SessionItem → Type 0 = λ l. AllAsk work l (asks ++ rest.0) in
+    (rest.0, (list, whole, subst Q (sym begins.1) rest.1))
+
+-- all that is asked, so that these bytes were put, a front of the replies
+abbrev IsFront : Option SessionItem → Shown → List Change → List ℕ → List ℕ → Type 0
+IsFront item now changes input before = (again : List Ask) × AllAsksFor item changes input again × PutsFront now.taken changes before again
+
+front_put : (now : Shown) (changes : List Change) (before : List ℕ) (asks more : List Ask) → now.taken ≡ Some (before ++ replies (beginning changes) asks) → PutsFront now.taken changes before (asks ++ more)
+front_put now changes before asks more taken = (replies (beginning changes) asks, replies (work_after_all (beginning changes) asks) more, taken, replies_append (beginning changes) asks more)
+
+-- the last reply was put in part
+part_put : (now : Shown) (changes : List Change) (before : List ℕ) (asks : List Ask) (last : Ask) (count : ℕ) (more : List Ask)
+    → now.taken ≡ Some ((before ++ replies (beginning changes) asks) ++ take count (reply_text (reply_to (work_after_all (beginning changes) asks) last))) → PutsFront now.taken changes before ((asks ++ last ∷ []) ++ more)
+part_put now changes before asks last count more taken =
+    let line = reply_text (reply_to (work_after_all (beginning changes) asks) last) in
+    let after = replies (work_after (work_after_all (beginning changes) asks) last) more in
+    let rest = drop count line ++ after in
+    let whole : replies (beginning changes) ((asks ++ last ∷ []) ++ more) ≡ replies (beginning changes) asks ++ (line ++ after) =
+    ap (replies (beginning changes)) (append_assoc asks (last ∷ []) more) ∙ replies_append (beginning changes) asks (last ∷ more) in
+    let cut : line ++ after ≡ take count line ++ rest =
+    ap (λ (l : List ℕ). l ++ after) (sym (take-append-drop count line)) ∙ append_assoc (take count line) (drop count line) after in (
+      replies (beginning changes) asks ++ take count line,
+      rest,
+      taken ∙ ap Some (append_assoc before (replies (beginning changes) asks) (take count line)),
+      whole ∙ ap (λ (l : List ℕ). replies (beginning changes) asks ++ l) cut ∙ sym (append_assoc (replies (beginning changes) asks) (take count line) rest),
+    )
+
+-- a run that answered the first of its items
+first_front : (now : Shown) (changes : List Change) (input before : List ℕ) (asks all : List Ask) → FirstAsksOf (beginning changes) input asks → now.taken ≡ Some (before ++ replies (beginning changes) asks) → AsksOf (beginning changes) input all → IsFront None now changes input before
+first_front now changes input before asks all first taken whole =
+    let rest = first_asks (beginning changes) input asks all first whole in
+    (asks ++ rest.0, rest.1, front_put now changes before asks rest.0 taken)
+
+unanswered_front : (may_leave : Image → Type 0) (now : Shown) (changes : List Change) (input before : List ℕ) (all : List Ask) → Unanswered may_leave now (beginning changes) input before → AsksOf (beginning changes) input all → IsFront None now changes input before
+unanswered_front may_leave now changes input before all h whole =
+    let rest = first_asks (beginning changes) input (h.asks ++ h.last ∷ []) all h.first whole in
+    ((h.asks ++ h.last ∷ []) ++ rest.0, rest.1, part_put now changes before h.asks h.last h.count rest.0 h.taken)
+
+-- the last doIt was kept, and not evaluated
+unevaluated_front : (may_leave : Image → Type 0) (now : Shown) (changes : List Change) (input before : List ℕ) (all : List Ask) → Unevaluated may_leave now (beginning changes) input before → AsksOf (beginning changes) input all → IsFront None now changes input before
+unevaluated_front may_leave now changes input before all h whole =
+    let last = evaluates h.text h.ran h.told in
+    let rest = first_asks (beginning changes) input (h.asks ++ last ∷ []) all h.first whole in
+    let P : List Ask → Type 0 = λ l. AsksOf (beginning changes) input l in
+    (h.asks ++ last ∷ rest.0, subst P (append_assoc h.asks (last ∷ []) rest.0) rest.1, front_put now changes before h.asks (last ∷ rest.0) h.taken)
+
+broke_off_front : (may_leave : Image → Type 0) (now : Shown) (changes : List Change) (input before : List ℕ) (all : List Ask) → BrokeOff may_leave now (beginning changes) input before ⊎ Unevaluated may_leave now (beginning changes) input before → AsksOf (beginning changes) input all → IsFront None now changes input before
+broke_off_front may_leave now changes input before all (inl h) whole = first_front now changes input before h.asks all h.first h.answered.taken whole
+broke_off_front may_leave now changes input before all (inr h) whole = unevaluated_front may_leave now changes input before all h whole
+
+finished_front : (may_leave : Image → Type 0) (now : Shown) (changes : List Change) (input before : List ℕ) (troubled : Bool) (ran : Option RanValue) → Finished may_leave now (beginning changes) input before troubled ran → IsFront None now changes input before
+finished_front may_leave now changes input before troubled ran h =
+    (h.asks, h.all, (replies (beginning changes) h.asks, [], h.answered.taken, sym (append-nil (replies (beginning changes) h.asks))))
+
+-- whatever the status of a run, a front of all replies was put
+run_front : (s : Status) (may_leave : Image → Type 0) (now : Shown) (changes : List Change) (input before : List ℕ) (all : List Ask) → RunLeaves s may_leave now changes input before → AsksOf (beginning changes) input all → IsFront None now changes input before
+run_front status.Done may_leave now changes input before all h whole = finished_front may_leave now changes input before false h.0 h.1
+run_front status.DoneWithRefusals may_leave now changes input before all h whole = finished_front may_leave now changes input before true h.0 h.1
+run_front status.Usage may_leave now changes input before all h whole = absurd h
+run_front status.ReadFault may_leave now changes input before all h whole = first_front now changes input before h.asks all (whole_first (beginning changes) h.got h.left input h.asks h.whole h.input_is) h.answered.taken whole
+run_front status.WriteFault may_leave now changes input before all h whole = unanswered_front may_leave now changes input before all h whole
+run_front status.DiskFault may_leave now changes input before all h whole = first_front now changes input before h.asks all h.first h.taken whole
+run_front status.Damaged may_leave now changes input before all h whole = absurd h
+run_front status.OutOfMemory may_leave now changes input before all h whole = broke_off_front may_leave now changes input before all h whole
+run_front status.InputTooLong may_leave now changes input before all h whole = first_front now changes input before h.asks all (whole_first (beginning changes) h.got (h.next ∷ h.left) input h.asks h.whole h.input_is) h.answered.taken whole
+
+-- the same where one item is worked
+answered_front : (may_leave : Image → Type 0) (now : Shown) (changes : List Change) (item : SessionItem) (ask : Ask) (input before : List ℕ) → AsksFirst changes item ask → IsAnswered may_leave now changes ask before → IsFront (Some item) now changes input before
+answered_front may_leave now changes item ask input before asked h = (ask ∷ [], (asked, tt), front_put now changes before (ask ∷ []) [] h.taken)
+
+nothing_put : (now : Shown) (changes : List Change) (item : SessionItem) (input before : List ℕ) (all : List Ask) → now.taken ≡ Some before → AllAsk (beginning changes) (item ∷ []) all → IsFront (Some item) now changes input before
+nothing_put now changes item input before all taken whole = (all, whole, front_put now changes before [] all (taken ∙ ap Some (sym (append-nil before))))
+
+item_front : (s : Status) (may_leave : Image → Type 0) (now : Shown) (changes : List Change) (item : SessionItem) (input before : List ℕ) (all : List Ask) → ItemLeaves s may_leave now changes item before → AllAsk (beginning changes) (item ∷ []) all → IsFront (Some item) now changes input before
+item_front status.Done may_leave now changes item input before all (ask, asked, h, calm) whole = answered_front may_leave now changes item ask input before asked h
+item_front status.DoneWithRefusals may_leave now changes item input before all (ask, asked, h, calm) whole = answered_front may_leave now changes item ask input before asked h
+item_front status.Usage may_leave now changes item input before all h whole = absurd h
+item_front status.ReadFault may_leave now changes item input before all h whole = absurd h
+item_front status.WriteFault may_leave now changes item input before all (ask, asked, count, stands, taken) whole =
+    let line = reply_text (reply_to (beginning changes) ask) in
+    (ask ∷ [], (asked, tt), (take count line, drop count line, taken, append-nil line ∙ sym (take-append-drop count line)))
+item_front status.DiskFault may_leave now changes item input before all h whole = nothing_put now changes item input before all h whole
+item_front status.Damaged may_leave now changes item input before all h whole = absurd h
+item_front status.OutOfMemory may_leave now changes item input before all (inl h) whole = nothing_put now changes item input before all (h.taken ∙ ap Some (append-nil before)) whole
+item_front status.OutOfMemory may_leave now changes item input before all (inr (text, ran, told, asked, stands, taken)) whole = nothing_put now changes item input before all taken whole
+item_front status.InputTooLong may_leave now changes item input before all h whole = absurd h
+
+-- whatever is worked and the status, a front of all replies was put
+pub front_of : (item : Option SessionItem) (s : Status) (may_leave : Image → Type 0) (now : Shown) (changes : List Change) (input before : List ℕ) (all : List Ask) → LeavesFor item s may_leave now changes input before → AllAsksFor item changes input all → IsFront item now changes input before
+front_of None s may_leave now changes input before all h whole = run_front s may_leave now changes input before all h whole
+front_of (Some item) s may_leave now changes input before all h whole = item_front s may_leave now changes item input before all h.0 whole
+
+longer : (got left : List ℕ) (next : ℕ) (input : List ℕ) → input ≡ got ++ next ∷ left → length got ≡ input_limit → length input ≤ input_limit → ⊥
+longer got left next input is limit within =
+    let size = ap length is ∙ length-append got (next ∷ left) in omega (arith, size, limit, within)
+
+-- with no fault and a short input, all of a run is done or memory is wanting
+run_whole : (s : Status) (old new : Faults) (may_leave : Image → Type 0) (now : Shown) (changes : List Change) (input before : List ℕ) → RunLeaves s may_leave now changes input before → StatusHasReason old new s → NoFault old new → length input ≤ input_limit → IsWhole s
+run_whole status.Done old new may_leave now changes input before h reason none within = tt
+run_whole status.DoneWithRefusals old new may_leave now changes input before h reason none within = tt
+run_whole status.Usage old new may_leave now changes input before h reason none within = absurd h
+run_whole status.ReadFault old new may_leave now changes input before h reason none within = absurd (none.read reason)
+run_whole status.WriteFault old new may_leave now changes input before h reason none within = absurd (none.write reason)
+run_whole status.DiskFault old new may_leave now changes input before h reason none within = absurd (none.disk reason)
+run_whole status.Damaged old new may_leave now changes input before h reason none within = absurd h
+run_whole status.OutOfMemory old new may_leave now changes input before h reason none within = tt
+run_whole status.InputTooLong old new may_leave now changes input before h reason none within = absurd (longer h.got h.left h.next input h.input_is h.limit within)
+
+item_whole : (s : Status) (old new : Faults) (may_leave : Image → Type 0) (now : Shown) (changes : List Change) (item : SessionItem) (before : List ℕ) → ItemLeaves s may_leave now changes item before → StatusHasReason old new s → NoFault old new → IsWhole s
+item_whole status.Done old new may_leave now changes item before h reason none = tt
+item_whole status.DoneWithRefusals old new may_leave now changes item before h reason none = tt
+item_whole status.Usage old new may_leave now changes item before h reason none = absurd h
+item_whole status.ReadFault old new may_leave now changes item before h reason none = absurd h
+item_whole status.WriteFault old new may_leave now changes item before h reason none = absurd (none.write reason)
+item_whole status.DiskFault old new may_leave now changes item before h reason none = absurd (none.disk reason)
+item_whole status.Damaged old new may_leave now changes item before h reason none = absurd h
+item_whole status.OutOfMemory old new may_leave now changes item before h reason none = tt
+item_whole status.InputTooLong old new may_leave now changes item before h reason none = absurd h
+
+pub whole_without_fault : (command : Command) (s : Status) (old new : Faults) (may_leave : Image → Type 0) (now : Shown) (changes : List Change) (input before : List ℕ) → Leaves command s may_leave now changes input before → StatusHasReason old new s → NoFault old new → IsWithin command input → IsWhole s
+whole_without_fault Run s old new may_leave now changes input before h reason none within = run_whole s old new may_leave now changes input before h reason none within
+whole_without_fault (Do text) s old new may_leave now changes input before h reason none within = item_whole s old new may_leave now changes (Chunk (item_of Plain (behind_separators text))) before h.0 reason none
+whole_without_fault (Tell query) s old new may_leave now changes input before h reason none within = item_whole s old new may_leave now changes (Query query) before h.0 reason none

@@ -1,0 +1,117 @@
+-- What the program leaves: on its disk, of its input and in its output.
+use Rattle.std.specs.Prelude.{◌≡◌, ◌⊎◌, ◌≤◌, ℕ, true, false, List, [], ◌∷◌, ◌++◌, length, take, Option, Some, None}
+use Rattle.s80_block.specs.declared.change.Change.{Change}
+use Rattle.s80_disk.specs.Image.{Image}
+use Rattle.s80_keeper.specs.Standing.{ReadsFor}
+use Rattle.s80_model.specs.declared.reply.Reply.{Reply}
+use Rattle.s80_machine.specs.Came.{RanValue}
+use Rattle.s80_model.specs.declared.item.SessionItem.{SessionItem}
+use Rattle.s80_model.specs.Asked.{Ask, evaluates}
+use Rattle.s80_model.specs.Replies.{AllAsk, AsksIn, Work, begun, is_trouble, replies, reply_text, reply_to, work_after}
+use Rattle.s80_session.specs.Run.{Shown, ShownFor, Answered, Finished, CutOff, TooLong, BrokeOff, Unanswered, Unevaluated, LostDisk, Keeps, AsksOf, input_limit}
+use Rattle.s80_session.specs.Working.{StepLeaves}
+use Rattle.s80_program.specs.declared.status.Status.{Status}
+use Rattle.s80_program.specs.declared.status.Status.TheVariants as status
+use Rattle.s80_program.specs.Command.{Command, Run, Do, Tell, default_budget, item_for}
+
+-- an outside that tells its contents: what its disk reads stands for this list, this input is left, and these bytes were taken
+pub record StartsWith (may_leave : Image → Type 0) (o : Shown) (changes : List Change) (input before : List ℕ) : Type 0 where
+  pub reads : ReadsFor o.tells o.files may_leave changes
+  pub left : o.left ≡ Some input
+  pub taken : o.taken ≡ Some before
+  pub told : o.told ≡ length before
+
+-- before the first item, under the budget of the program
+abbrev pub beginning : List Change → Work
+beginning changes = begun default_budget changes
+
+-- what a run leaves, by its status
+abbrev pub RunLeaves : Status → (Image → Type 0) → Shown → List Change → List ℕ → List ℕ → Type 0
+RunLeaves status.Done may_leave now changes input before = (ran : Option RanValue) × Finished may_leave now (beginning changes) input before false ran
+RunLeaves status.DoneWithRefusals may_leave now changes input before = (ran : Option RanValue) × Finished may_leave now (beginning changes) input before true ran
+RunLeaves status.Usage may_leave now changes input before = ⊥
+RunLeaves status.ReadFault may_leave now changes input before = CutOff may_leave now (beginning changes) input before
+RunLeaves status.WriteFault may_leave now changes input before = Unanswered may_leave now (beginning changes) input before
+RunLeaves status.DiskFault may_leave now changes input before = LostDisk now (beginning changes) input before
+RunLeaves status.Damaged may_leave now changes input before = ⊥
+RunLeaves status.OutOfMemory may_leave now changes input before = BrokeOff may_leave now (beginning changes) input before ⊎ Unevaluated may_leave now (beginning changes) input before
+RunLeaves status.InputTooLong may_leave now changes input before = TooLong may_leave now (beginning changes) input before
+
+-- what is answered first, and the list afterwards
+abbrev pub first_reply : List Change → Ask → Reply
+first_reply changes ask = reply_to (beginning changes) ask
+
+abbrev pub list_after : List Change → Ask → List Change
+list_after changes ask = (work_after (beginning changes) ask).changes
+
+-- an item asks this as the first
+abbrev pub AsksFirst : List Change → SessionItem → Ask → Type 0
+AsksFirst changes item ask = AsksIn (beginning changes) item ask
+
+-- what one item asks was worked, and answered
+abbrev pub IsAnswered : (Image → Type 0) → Shown → List Change → Ask → List ℕ → Type 0
+IsAnswered may_leave now changes ask before = Answered may_leave now (beginning changes) before (ask ∷ [])
+
+-- the doIt that an item asks to evaluate was kept, and memory was wanting to evaluate it
+abbrev pub IsUnevaluated : (Image → Type 0) → Shown → List Change → SessionItem → List ℕ → Type 0
+IsUnevaluated may_leave now changes item before =
+    (text : List ℕ) × (ran : RanValue) × (told : List ℕ) × AsksFirst changes item (evaluates text ran told) × ShownFor may_leave now (list_after changes (evaluates text ran told))
+    × (now.taken ≡ Some before)
+
+-- what is left where one item is worked, by the status
+abbrev pub ItemLeaves : Status → (Image → Type 0) → Shown → List Change → SessionItem → List ℕ → Type 0
+ItemLeaves status.Done may_leave now changes item before =
+    (ask : Ask) × AsksFirst changes item ask × IsAnswered may_leave now changes ask before × (is_trouble (first_reply changes ask) ≡ false)
+ItemLeaves status.DoneWithRefusals may_leave now changes item before =
+    (ask : Ask) × AsksFirst changes item ask × IsAnswered may_leave now changes ask before × (is_trouble (first_reply changes ask) ≡ true)
+ItemLeaves status.Usage may_leave now changes item before = ⊥
+ItemLeaves status.ReadFault may_leave now changes item before = ⊥
+ItemLeaves status.WriteFault may_leave now changes item before =
+    (ask : Ask) × AsksFirst changes item ask × (count : ℕ) × ShownFor may_leave now (list_after changes ask)
+    × (now.taken ≡ Some (before ++ take count (reply_text (first_reply changes ask))))
+ItemLeaves status.DiskFault may_leave now changes item before = now.taken ≡ Some before
+ItemLeaves status.Damaged may_leave now changes item before = ⊥
+ItemLeaves status.OutOfMemory may_leave now changes item before = Answered may_leave now (beginning changes) before [] ⊎ IsUnevaluated may_leave now changes item before
+ItemLeaves status.InputTooLong may_leave now changes item before = ⊥
+
+-- what a command leaves, by the status: a run works the input, and each other command one item, and takes no input
+abbrev pub LeavesFor : Option SessionItem → Status → (Image → Type 0) → Shown → List Change → List ℕ → List ℕ → Type 0
+LeavesFor None status may_leave now changes input before = RunLeaves status may_leave now changes input before
+LeavesFor (Some item) status may_leave now changes input before = ItemLeaves status may_leave now changes item before × (now.left ≡ Some input)
+
+abbrev pub Leaves : Command → Status → (Image → Type 0) → Shown → List Change → List ℕ → List ℕ → Type 0
+Leaves command = LeavesFor (item_for command)
+
+-- what a crash leaves at a moment at which so many bytes are told: files that stand for the list after the first items, up to one at least
+-- whose reply is among the bytes told
+abbrev pub KeepsFor : Option SessionItem → List Change → List ℕ → List ℕ → ℕ → Image → Type 0
+KeepsFor None changes input before told c = Keeps (beginning changes) input before told c
+KeepsFor (Some item) changes input before told c = StepLeaves (beginning changes) before item told c
+
+abbrev pub CommandKeeps : Command → List Change → List ℕ → List ℕ → ℕ → Image → Type 0
+CommandKeeps command = KeepsFor (item_for command)
+
+-- all that a command asks
+abbrev pub AllAsksFor : Option SessionItem → List Change → List ℕ → List Ask → Type 0
+AllAsksFor None changes input all = AsksOf (beginning changes) input all
+AllAsksFor (Some item) changes input all = AllAsk (beginning changes) (item ∷ []) all
+
+abbrev pub AllAsks : Command → List Change → List ℕ → List Ask → Type 0
+AllAsks command = AllAsksFor (item_for command)
+
+-- these bytes were put behind those before, a front of the replies to this
+abbrev pub PutsFront : Option (List ℕ) → List Change → List ℕ → List Ask → Type 0
+PutsFront taken changes before asks = (put more : List ℕ) × (taken ≡ Some (before ++ put)) × (replies (beginning changes) asks ≡ put ++ more)
+
+-- the input isn't too long for the command
+abbrev pub IsWithin : Command → List ℕ → Type 0
+IsWithin Run input = length input ≤ input_limit
+IsWithin (Do text) input = Unit {0}
+IsWithin (Tell query) input = Unit {0}
+
+-- where the files at entry are damaged, this is answered, or memory is wanting or a call of the disk fails
+abbrev pub TellsDamage : Status → Type 0
+TellsDamage status.Damaged = Unit {0}
+TellsDamage status.OutOfMemory = Unit {0}
+TellsDamage status.DiskFault = Unit {0}
+TellsDamage _ = ⊥

@@ -1,0 +1,13 @@
+-- The command that a task is.
+use Rattle.s80_model.specs.declared.item.Query.TheVariants.{Recover, Classes, Browse, Source}
+use Rattle.s80_program.specs.declared.words.Task.{Task}
+use Rattle.s80_program.specs.declared.words.Task.TheVariants as tasks
+use Rattle.s80_program.specs.Command.{Command, Run, Do, Tell}
+
+abbrev pub command_of : Task → Command
+command_of tasks.Run = Run
+command_of (tasks.Do text) = Do text.now
+command_of tasks.Recover = Tell Recover
+command_of tasks.Classes = Tell Classes
+command_of (tasks.Browse name) = Tell (Browse name.now)
+command_of (tasks.Source spec selector) = Tell (Source spec.now selector.now)

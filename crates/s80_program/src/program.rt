@@ -1,0 +1,272 @@
+// What the program does with its words.
+ghost use Rattle.std.specs.Prelude.{◌≡◌, ◌≢◌, ◌++◌, ℕ, List, [], length, IsTrue, false, Some, IfOk, IfErr, IfSome};
+ghost use Rattle.s80_block.specs.declared.change.Change.{Change};
+ghost use Rattle.s80_chunk.specs.Chunks.{item_of};
+ghost use Rattle.s80_disk.specs.declared.disk.FileId.{FileId};
+ghost use Rattle.s80_disk.specs.Moments.{LeavesOnly};
+ghost use Rattle.s80_keeper.specs.declared.start.Damage.{Damage};
+ghost use Rattle.s80_keeper.specs.Standing.{StandsFor};
+ghost use Rattle.s80_keeper.specs.Start.{IsDamage};
+ghost use Rattle.s80_keeper.specs.Keeper.{Knows};
+ghost use Rattle.s80_model.specs.Asked.{Ask};
+ghost use Rattle.s80_session.specs.Ending.{faults, Counts, MeetsNoDamage, SourceCounts};
+ghost use Rattle.s80_session.specs.Putting.{IsAsBefore};
+ghost use Rattle.s80_session.specs.Run.{shown, Keeps};
+ghost use Rattle.s80_session.specs.Session.{keeper_of, troubled_of, IsFaultless};
+ghost use Rattle.s80_session.specs.Working.{IsAt, IsReadable, StepLeaves};
+ghost use Rattle.s80_program.specs.Ending.{IsDiskEnd, NoFault, StatusHasReason, status_after, IsWhole};
+ghost use Rattle.s80_program.specs.Leaves.{StartsWith, Leaves, RunLeaves, ItemLeaves, CommandKeeps, AllAsks, IsWithin, PutsFront, TellsDamage, beginning};
+ghost use Rattle.s80_program.specs.Command.{Command, IsUseful, behind_separators, item_for};
+ghost use Rattle.s80_program.specs.Words.{Asks};
+ghost use Rattle.s80_program.specs.Task.{command_of};
+
+use crate::outside::attach;
+use crate::status::Status;
+use crate::words::{Task, behind_separators, request_of};
+use s80_base::{OutOfMemory, Text};
+use s80_chunk::{Item, LONGEST, Role};
+use s80_disk::Outside;
+use s80_model::{Query, SessionItem};
+use s80_session::{Session, SessionEnd};
+use std::alloc::Global;
+
+/// How many ticks a doIt may take.
+const DEFAULT_BUDGET: u64 = 1_000_000;
+
+/// Does what the words ask for: the program's name, a folder and a command. `run` keeps each chunk of the input that is a definition of a
+/// class, a method or a doIt in the folder, on the disk, and then answers it: a doIt with what it wrote and what it comes to, and else by a
+/// line. `do TEXT` does so with one text; `classes` names all classes, `browse NAME` shows one, `source SPEC SELECTOR` shows a method, and
+/// `recover` says how much there is.
+pub fn st80<O: Outside>(alloc: Global, words: &[Text], outside: &mut O) -> Status
+    // Bad usage is answered exactly where the words ask for nothing, and then the outside isn't called.
+    ensures usage { result ≡ Status.Usage
+        → ((folder : List ℕ) (command : Command) → Asks words.now folder command → ⊥) × (outside.new ≡ outside.old) }
+    ensures lawful { result ≢ Status.Usage → (folder : List ℕ) × (command : Command) × Asks words.now folder command }
+
+    // A fault is answered only where its count rose in this call.
+    ensures reason { StatusHasReason (faults O.read_faults O.write_faults O.disk_faults outside.old)
+        (faults O.read_faults O.write_faults O.disk_faults outside.new) result }
+
+    // From a disk that stands for a list of changes, the bytes written are the model keeper's replies to the items of the command.
+    ensures leaves { (folder : List ℕ) (command : Command) (changes : List Change) (input before : List ℕ)
+        → Asks words.now folder command
+        → StartsWith (O.may_leave outside.old) (shown O.tells O.reads O.left O.taken O.told outside.old) changes input before
+        → Leaves command result (O.may_leave outside.new)
+        (shown O.tells O.reads O.left O.taken O.told outside.new) changes input before }
+
+    // A crash at any moment, inside a write too, leaves files that stand for the list after the first items, and no change is lost that
+    // was answered by then.
+    ensures any_moment { (folder : List ℕ) (command : Command) (changes : List Change) (input before : List ℕ)
+        → Asks words.now folder command
+        → StartsWith (O.may_leave outside.old) (shown O.tells O.reads O.left O.taken O.told outside.old) changes input before
+        → StandsFor (O.tells outside.old) (O.reads outside.old) (O.may_leave outside.old) changes
+        → LeavesOnly O.moment O.left_since outside.old outside.new (CommandKeeps command changes input before) }
+
+    // However it ends, what it wrote is a front of the replies to all that the command asks. What a doIt asks has its run in it, so where
+    // all can be asked there may be several ways.
+    ensures front { (folder : List ℕ) (command : Command) (changes : List Change) (input before : List ℕ) (asks : List Ask)
+        → Asks words.now folder command
+        → StartsWith (O.may_leave outside.old) (shown O.tells O.reads O.left O.taken O.told outside.old) changes input before
+        → AllAsks command changes input asks
+        → (again : List Ask) × AllAsks command changes input again × PutsFront (O.taken outside.new) changes before again }
+
+    // With no fault and an input within the limit it comes to the end, or memory is wanting.
+    ensures complete { (folder : List ℕ) (command : Command) (changes : List Change) (input before : List ℕ)
+        → Asks words.now folder command
+        → StartsWith (O.may_leave outside.old) (shown O.tells O.reads O.left O.taken O.told outside.old) changes input before
+        → IsWithin command input
+        → NoFault (faults O.read_faults O.write_faults O.disk_faults outside.old)
+        (faults O.read_faults O.write_faults O.disk_faults outside.new)
+        → IsWhole result }
+
+    // Damage is answered only where the files have one. Where they have one nothing is put, and no file changes.
+    ensures found { result ≡ Status.Damaged → IsTrue (O.tells outside.old)
+        → (damage : Damage) × IsDamage (O.reads outside.old) damage }
+    ensures damaged { (folder : List ℕ) (command : Command) (damage : Damage) → Asks words.now folder command
+        → IsTrue (O.tells outside.old) → IsDamage (O.reads outside.old) damage
+        → TellsDamage result × (shown O.tells O.reads O.left O.taken O.told outside.new
+        ≡ record (shown O.tells O.reads O.left O.taken O.told outside.old) { files = O.reads outside.new })
+        × ((file : FileId) → O.reads outside.new file ≡ O.reads outside.old file) }
+{
+    match request_of(words) {
+        Some(request) => status_of(work(alloc, request.folder, request.task, outside)),
+        None => Status::Usage,
+    }
+}
+
+/// Does a task in a folder. Says whether some item was refused or stopped.
+fn work<O: Outside>(
+    alloc: Global,
+    folder: &Text,
+    task: Task<'_>,
+    outside: &mut O,
+) -> Result<bool, SessionEnd>
+    requires { IsUseful (command_of task) }
+    ensures worked { (changes : List Change) (input before : List ℕ)
+        → StartsWith (O.may_leave outside.old) (shown O.tells O.reads O.left O.taken O.told outside.old) changes input before
+        → Leaves (command_of task.entry) (status_after result) (O.may_leave outside.new)
+        (shown O.tells O.reads O.left O.taken O.told outside.new) changes input before }
+    ensures any_moment { (changes : List Change) (input before : List ℕ)
+        → StartsWith (O.may_leave outside.old) (shown O.tells O.reads O.left O.taken O.told outside.old) changes input before
+        → StandsFor (O.tells outside.old) (O.reads outside.old) (O.may_leave outside.old) changes
+        → LeavesOnly O.moment O.left_since outside.old outside.new (CommandKeeps (command_of task.entry) changes input before) }
+    ensures found { status_after result ≡ Status.Damaged → IsTrue (O.tells outside.old)
+        → (damage : Damage) × IsDamage (O.reads outside.old) damage }
+    ensures damaged { (damage : Damage) → IsTrue (O.tells outside.old) → IsDamage (O.reads outside.old) damage
+        → TellsDamage (status_after result) × (shown O.tells O.reads O.left O.taken O.told outside.new
+        ≡ record (shown O.tells O.reads O.left O.taken O.told outside.old) { files = O.reads outside.new })
+        × ((file : FileId) → O.reads outside.new file ≡ O.reads outside.old file) }
+    ensures reason { StatusHasReason (faults O.read_faults O.write_faults O.disk_faults outside.old)
+        (faults O.read_faults O.write_faults O.disk_faults outside.new) (status_after result) }
+    ensures useful { status_after result ≢ Status.Usage }
+{
+    open_folder(outside, folder)?;
+    let mut session = Session::start(alloc, outside, DEFAULT_BUDGET)?;
+    do_task(&mut session, alloc, task, outside)
+}
+
+/// Chooses the folder.
+fn open_folder<O: Outside>(outside: &mut O, folder: &Text) -> Result<(), SessionEnd>
+    ensures shown { shown O.tells O.reads O.left O.taken O.told outside.new
+        ≡ shown O.tells O.reads O.left O.taken O.told outside.old }
+    ensures counts { Counts (faults O.read_faults O.write_faults O.disk_faults outside.old)
+        (faults O.read_faults O.write_faults O.disk_faults outside.new) result }
+    ensures disk { IfErr result IsDiskEnd }
+    ensures images { (c : FileId → List ℕ) → O.may_leave outside.new c → O.may_leave outside.old c }
+    ensures any_moment { LeavesOnly O.moment O.left_since outside.old outside.new
+        (IsAsBefore (O.may_leave outside.old) (O.told outside.old) 0) }
+{
+    attach(outside, folder).map_err(SessionEnd::Disk)?;
+    Ok(())
+}
+
+/// Does a task in a session that has begun.
+fn do_task<O: Outside>(
+    session: &mut Session,
+    alloc: Global,
+    task: Task<'_>,
+    outside: &mut O,
+) -> Result<bool, SessionEnd>
+    requires faultless { IsFaultless session.old }
+    requires useful { IsUseful (command_of task) }
+    ensures worked { (changes : List Change) (input before : List ℕ) → O.left outside.old ≡ Some input
+        → troubled_of session.old ≡ false
+        → IsAt (O.may_leave outside.old)
+        (shown O.tells O.reads O.left O.taken O.told outside.old) session.old (beginning changes) before
+        → Leaves (command_of task.entry) (status_after result) (O.may_leave outside.new)
+        (shown O.tells O.reads O.left O.taken O.told outside.new) changes input before }
+    ensures any_moment { (changes : List Change) (input before : List ℕ) → O.left outside.old ≡ Some input
+        → troubled_of session.old ≡ false
+        → IsAt (O.may_leave outside.old)
+        (shown O.tells O.reads O.left O.taken O.told outside.old) session.old (beginning changes) before
+        → LeavesOnly O.moment O.left_since outside.old outside.new (CommandKeeps (command_of task.entry) changes input before) }
+    ensures sound { IsTrue (O.tells outside.old) → (changes : List Change) → Knows (O.reads outside.old) (keeper_of session.old) changes → MeetsNoDamage result }
+    ensures counts { SourceCounts (faults O.read_faults O.write_faults O.disk_faults outside.old)
+        (faults O.read_faults O.write_faults O.disk_faults outside.new) result }
+{
+    match item_for(alloc, task)? {
+        None => run_input(session, alloc, outside),
+        Some(item) => answer_item(session, alloc, item, outside),
+    }
+}
+
+/// The one item that a task works, if it is no run.
+fn item_for(alloc: Global, task: Task<'_>) -> Result<Option<SessionItem>, OutOfMemory>
+    requires { IsUseful (command_of task) }
+    ensures item { IfOk result (λ item. item ≡ item_for (command_of task.entry)) }
+    ensures readable { IfOk result (λ item. IfSome item IsReadable) }
+{
+    let query = match task {
+        Task::Run => return Ok(None),
+        Task::Do(text) => return Ok(Some(SessionItem::Chunk(chunk_of(alloc, text)?))),
+        Task::Recover => Query::Recover,
+        Task::Classes => Query::Classes,
+        Task::Browse(name) => Query::Browse(name.copy(alloc)?),
+        Task::Source(spec, selector) => Query::Source(spec.copy(alloc)?, selector.copy(alloc)?),
+    };
+    Ok(Some(SessionItem::Query(query)))
+}
+
+/// The plain chunk of what stands behind a text's separators.
+fn chunk_of(alloc: Global, text: &Text) -> Result<Item, OutOfMemory>
+    requires { behind_separators text.now ≢ [] }
+    ensures item { IfOk result (λ item. item ≡ item_of Role.Plain (behind_separators text.now)) }
+    ensures readable { IfOk result (λ item. IsReadable (SessionItem.Chunk item)) }
+{
+    let bytes = behind_separators(text);
+    if bytes.len() > LONGEST {
+        return Ok(Item::TooLong {
+            role: Role::Plain,
+            length: bytes.len() as u64,
+        });
+    }
+    Ok(Item::Plain(Text::from_bytes(alloc, bytes)?))
+}
+
+/// Works the input to its end. Says whether some item was refused or stopped.
+fn run_input<O: Outside>(
+    session: &mut Session,
+    alloc: Global,
+    outside: &mut O,
+) -> Result<bool, SessionEnd>
+    requires faultless { IsFaultless session.old }
+    ensures worked { (changes : List Change) (input before : List ℕ) → O.left outside.old ≡ Some input
+        → troubled_of session.old ≡ false
+        → IsAt (O.may_leave outside.old)
+        (shown O.tells O.reads O.left O.taken O.told outside.old) session.old (beginning changes) before
+        → RunLeaves (status_after result) (O.may_leave outside.new)
+        (shown O.tells O.reads O.left O.taken O.told outside.new) changes input before }
+    ensures any_moment { (changes : List Change) (input before : List ℕ) → O.left outside.old ≡ Some input
+        → troubled_of session.old ≡ false
+        → IsAt (O.may_leave outside.old)
+        (shown O.tells O.reads O.left O.taken O.told outside.old) session.old (beginning changes) before
+        → LeavesOnly O.moment O.left_since outside.old outside.new (Keeps (beginning changes) input before) }
+    ensures counts { Counts (faults O.read_faults O.write_faults O.disk_faults outside.old)
+        (faults O.read_faults O.write_faults O.disk_faults outside.new) result }
+{
+    session.run_items(alloc, outside)?;
+    Ok(session.troubled())
+}
+
+/// Works and answers one item. Says whether it was refused or stopped.
+fn answer_item<O: Outside>(
+    session: &mut Session,
+    alloc: Global,
+    item: SessionItem,
+    outside: &mut O,
+) -> Result<bool, SessionEnd>
+    requires faultless { IsFaultless session.old }
+    requires readable { IsReadable item }
+    ensures worked { (changes : List Change) (before : List ℕ) → troubled_of session.old ≡ false
+        → IsAt (O.may_leave outside.old)
+        (shown O.tells O.reads O.left O.taken O.told outside.old) session.old (beginning changes) before
+        → ItemLeaves (status_after result) (O.may_leave outside.new)
+        (shown O.tells O.reads O.left O.taken O.told outside.new) changes item before }
+    ensures any_moment { (changes : List Change) (before : List ℕ)
+        → IsAt (O.may_leave outside.old)
+        (shown O.tells O.reads O.left O.taken O.told outside.old) session.old (beginning changes) before
+        → LeavesOnly O.moment O.left_since outside.old outside.new (StepLeaves (beginning changes) before item) }
+    ensures left { O.left outside.new ≡ O.left outside.old }
+    ensures sound { IsTrue (O.tells outside.old) → (changes : List Change) → Knows (O.reads outside.old) (keeper_of session.old) changes → MeetsNoDamage result }
+    ensures counts { SourceCounts (faults O.read_faults O.write_faults O.disk_faults outside.old)
+        (faults O.read_faults O.write_faults O.disk_faults outside.new) result }
+{
+    session.step(alloc, item, outside)?;
+    Ok(session.troubled())
+}
+
+/// The status of work that ended so.
+fn status_of(ended: Result<bool, SessionEnd>) -> Status
+    ensures { result ≡ status_after ended }
+{
+    match ended {
+        Ok(false) => Status::Done,
+        Ok(true) => Status::DoneWithRefusals,
+        Err(SessionEnd::Memory) => Status::OutOfMemory,
+        Err(SessionEnd::Read(_)) => Status::ReadFault,
+        Err(SessionEnd::Write(_)) => Status::WriteFault,
+        Err(SessionEnd::Disk(_)) => Status::DiskFault,
+        Err(SessionEnd::Damaged(_)) => Status::Damaged,
+        Err(SessionEnd::TooLong) => Status::InputTooLong,
+    }
+}
