@@ -1,5 +1,5 @@
 -- How the program ends, and what its counts of faults say of that.
-use Rattle.std.specs.Prelude.{ℕ, Bool, true, false, Result, Ok, Err}
+use Rattle.std.specs.Prelude.{ℕ, List, Bool, true, false, Option, Some, None, Result, Ok, Err, codes}
 use Rattle.s80_base.specs.Causes.{Rose}
 use Rattle.s80_session.specs.declared.end.SessionEnd.{SessionEnd}
 use Rattle.s80_session.specs.declared.end.SessionEnd.TheVariants as ends
@@ -58,3 +58,15 @@ number_of status.DiskFault = 5
 number_of status.Damaged = 6
 number_of status.OutOfMemory = 7
 number_of status.InputTooLong = 8
+
+-- the line that standard error gets
+abbrev pub message_of : Status → Option (List ℕ)
+message_of status.Done = None
+message_of status.DoneWithRefusals = None
+message_of status.Usage = Some (codes "st80: usage: st80 [--budget N] FOLDER COMMAND [ARGUMENTS]")
+message_of status.ReadFault = Some (codes "st80: read fault")
+message_of status.WriteFault = Some (codes "st80: write fault")
+message_of status.DiskFault = Some (codes "st80: disk fault")
+message_of status.Damaged = Some (codes "st80: damaged")
+message_of status.OutOfMemory = Some (codes "st80: out of memory")
+message_of status.InputTooLong = Some (codes "st80: input too long")

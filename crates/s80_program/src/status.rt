@@ -1,6 +1,6 @@
 // How the program ends.
-ghost use Rattle.std.specs.Prelude.{◌≡◌};
-ghost use Rattle.s80_program.specs.Ending.{number_of};
+ghost use Rattle.std.specs.Prelude.{◌≡◌, option_map};
+ghost use Rattle.s80_program.specs.Ending.{message_of, number_of};
 
 /// How `st80` ends. The number of a status is the program's exit status.
 #[derive(Clone, Copy, Debug, PartialEq, Eq)]
@@ -30,7 +30,9 @@ impl Status {
     }
 
     /// The line that standard error gets, if any.
-    pub fn message(self) -> Option<&'static str> {
+    pub fn message(self) -> Option<&'static str>
+        ensures { option_map (λ line. line.now) result ≡ message_of self }
+    {
         match self {
             Status::Done | Status::DoneWithRefusals => None,
             Status::Usage => Some("st80: usage: st80 [--budget N] FOLDER COMMAND [ARGUMENTS]"),
