@@ -42,7 +42,7 @@ pub struct MemSource {
 }
 
 impl MemSource {
-    ghost use Rattle.s80_base.specs.Memory.{left_in_memory, failing_takes, takes_made, takes_failed};
+    ghost use Rattle.s80_base.specs.Memory.{left_in_memory, failing_takes, piece_of, takes_made, takes_failed};
 
     /// A source of these bytes that gives at most `piece` of them a call.
     pub fn make(
@@ -53,7 +53,7 @@ impl MemSource {
     ) -> Result<Self, OutOfMemory>
         requires { 0 < piece }
         ensures left { IfOk result (λ source. left_in_memory source ≡ bytes.now) }
-        ensures plan { IfOk result (λ source. failing_takes source ≡ failing.now) }
+        ensures plan { IfOk result (λ source. (failing_takes source ≡ failing.now) × (piece_of source ≡ piece)) }
         ensures unused { IfOk result (λ source. (takes_made source ≡ 0) × (takes_failed source ≡ 0)) }
     {
         let bytes = bytes.to_vec(alloc)?;
@@ -70,19 +70,22 @@ impl MemSource {
 }
 
 impl Source for MemSource {
-    ghost use Rattle.s80_base.specs.Memory.{left_in_memory, takes_made, takes_failed, next_call, FailsNext};
+    ghost use Rattle.s80_base.specs.Memory.{left_in_memory, piece_of, takes_made, takes_failed, next_call, SameTakes, FailsNext};
 
     ghost left = { λ s. Some (left_in_memory s) };
 
     ghost read_faults = { takes_failed };
 
-    ghost take_keeps = { λ _ _. Unit {0} };
+    ghost take_keeps = { SameTakes };
 
     fn take(&mut self, buf: &mut [u8]) -> Result<usize, Failed>
         ensures bound { ReadsAtMost result buf.new }
         ensures bytes { ReadConsumes (Some (left_in_memory self.old)) (Some (left_in_memory self.new)) result buf.new }
         ensures cause { HasCause (takes_failed self.old) (takes_failed self.new) result }
         ensures named { Names Call.Take result }
+        ensures keeps { SameTakes self.old self.new }
+        ensures amount { IfOk result (λ count. count ≡ min (min (length buf.new) (piece_of self.old)) (length (left_in_memory self.old))) }
+        ensures progress { 0 < length buf.new → 0 < length (left_in_memory self.old) → IfOk result (λ count. 0 < count) }
         ensures counted { takes_made self.new ≡ next_call (takes_made self.old) }
         ensures planned { IsErr result ↔ FailsNext self.old }
     {
@@ -104,29 +107,31 @@ pub struct RepeatSource {
 }
 
 impl RepeatSource {
-    ghost use Rattle.s80_base.specs.Memory.{repeated};
+    ghost use Rattle.s80_base.specs.Memory.{byte_of, repeated};
 
     pub fn make(byte: u8, count: u64) -> Self
-        ensures { repeated result ≡ replicate count byte }
+        ensures left { repeated result ≡ replicate count byte }
+        ensures byte { byte_of result ≡ byte }
     {
         RepeatSource { byte, left: count }
     }
 }
 
 impl Source for RepeatSource {
-    ghost use Rattle.s80_base.specs.Memory.{repeated};
+    ghost use Rattle.s80_base.specs.Memory.{byte_of, repeated};
 
     ghost left = { λ s. Some (repeated s) };
 
     ghost read_faults = { λ _. 0 };
 
-    ghost take_keeps = { λ _ _. Unit {0} };
+    ghost take_keeps = { λ s t. byte_of t ≡ byte_of s };
 
     fn take(&mut self, buf: &mut [u8]) -> Result<usize, Failed>
         ensures bound { ReadsAtMost result buf.new }
         ensures bytes { ReadConsumes (Some (repeated self.old)) (Some (repeated self.new)) result buf.new }
         ensures cause { HasCause 0 0 result }
         ensures named { Names Call.Take result }
+        ensures keeps { byte_of self.new ≡ byte_of self.old }
         ensures never_fails { IfOk result (λ count. count ≡ min (length buf.new) self.old.left) }
     {
         let count = self.left.min(buf.len() as u64);
@@ -178,7 +183,7 @@ impl MemSink {
 }
 
 impl Sink for MemSink {
-    ghost use Rattle.s80_base.specs.Memory.{bytes_of, puts_made, puts_failed, next_call, RefusesNext};
+    ghost use Rattle.s80_base.specs.Memory.{bytes_of, puts_made, puts_failed, next_call, SamePuts, RefusesNext};
 
     ghost taken = { λ s. Some (bytes_of s) };
 
@@ -186,7 +191,7 @@ impl Sink for MemSink {
 
     ghost write_faults = { puts_failed };
 
-    ghost put_keeps = { λ _ _. Unit {0} };
+    ghost put_keeps = { SamePuts };
 
     fn put(&mut self, piece: &[u8]) -> Result<usize, Failed>
         ensures bound { WritesAtMost result piece.now }
@@ -195,6 +200,8 @@ impl Sink for MemSink {
         ensures told { MatchResult result (λ count. length (bytes_of self.new) ≡ length (bytes_of self.old) + count) (λ _. length (bytes_of self.new) ≡ length (bytes_of self.old)) }
         ensures cause { HasCause (puts_failed self.old) (puts_failed self.new) result }
         ensures named { Names Call.Put result }
+        ensures keeps { SamePuts self.old self.new }
+        ensures whole { IfOk result (λ count. count ≡ length piece.now) }
         ensures counted { puts_made self.new ≡ next_call (puts_made self.old) }
         ensures planned { IsErr result ↔ RefusesNext self.old piece.now }
     {
