@@ -10,6 +10,7 @@ pub data Event : Type 0 where
   PieceAt : FileId → ℕ → List ℕ → Event
   CutTo : FileId → ℕ → Event
   Synced : FileId → Event
+  -- so many bytes more are told
   Counted : ℕ → Event
 
 -- what a recorded call did, where the pieces of all writes stand one after another
@@ -60,7 +61,7 @@ told_after [] = 0
 told_after (PieceAt file at piece ∷ events) = told_after events
 told_after (CutTo file to ∷ events) = told_after events
 told_after (Synced file ∷ events) = told_after events
-told_after (Counted count ∷ events) = count
+told_after (Counted count ∷ events) = told_after events + count
 
 -- how many bytes were written in all
 abbrev pub written : List Event → ℕ

@@ -106,10 +106,3 @@ reads_one first (Counted count ∷ events) = reads_one first events
 
 pub reads_left : (first now : Image) (events : List Event) → ((file : FileId) → now file ≡ contents first events file) → leaves first events now
 reads_left first now events same = let e : contents first events ≡ now = λ i file. sym (same file) i in subst (leaves first events) e (reads_one first events)
-
--- the same, where the number of bytes told is known by another name
-pub counts_told : (first : Image) (events : List Event) (n t : ℕ) (c : Image) → told_after events ≡ n → t ≤ length events → leaves first events c → left_in first events t n c
-counts_told first events n t c is le left = let P : ℕ → Type 0 = λ k. left_in first events t k c in subst P is (counts first events t c le left)
-
-pub only_told : (first : Image) (events : List Event) (n told : ℕ) (c : Image) → told_after events ≡ n → left_in first events (length events) told c → leaves first events c × (told ≡ n)
-only_told first events n told c is left = let h = only first events told c left in (h.0, h.1 ∙ is)

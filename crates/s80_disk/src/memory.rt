@@ -101,7 +101,7 @@ impl MemDisk {
         self.calls.len() == self.most_calls
     }
 
-    /// Records how many bytes are told.
+    /// Records that so many bytes more are told.
     pub(crate) fn note_told(&mut self, count: usize)
         requires { ¬ IsRecordFull self.old }
         ensures events { events_of self.new ≡ Counted count ∷ events_of self.old }

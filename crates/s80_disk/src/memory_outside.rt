@@ -1,11 +1,10 @@
 // The outside in memory.
-ghost use Rattle.std.specs.Prelude.{◌≡◌, ◌+◌, ◌≤◌, ℕ, List, Some, true, length, refl};
+ghost use Rattle.std.specs.Prelude.{◌≡◌, ◌+◌, ◌≤◌, ℕ, List, Some, true, refl};
 ghost use Rattle.std.proofs.Common.{ap};
 ghost use Rattle.s80_base.specs.Memory.{bytes_of, puts_failed};
 ghost use Rattle.s80_disk.specs.declared.disk.FileId.{FileId};
-ghost use Rattle.s80_disk.specs.History.{history, told_after};
 ghost use Rattle.s80_disk.specs.Memory.{events_of, first_files, files_of, images_of, images_since, moment_of, told_by, calls_failed, Tells};
-ghost use Rattle.s80_disk.specs.Laws.{reads_left, counts_told, only_told};
+ghost use Rattle.s80_disk.specs.Laws.{reads_left, counts, only};
 ghost use Rattle.s80_disk.specs.Tell.{files_stay, no_moment, told_by_itself};
 
 mod calls;
@@ -22,7 +21,6 @@ pub struct MemOutside<S: Source + Drop> {
     sink: MemSink,
     clock: FixedClock,
     refused: u64,
-    ghost counted: { told_after (history disk.pieces.items disk.calls.items) ≡ length (bytes_of sink) },
 }
 
 impl<S: Source + Drop> MemOutside<S> {
@@ -30,10 +28,8 @@ impl<S: Source + Drop> MemOutside<S> {
     ghost use Rattle.s80_disk.specs.Image.{Image};
     ghost use Rattle.s80_disk.specs.Outside.{disk_of, source_of, sink_of, clock_of, puts_refused};
 
-    /// An outside of these parts. The disk has told as many bytes as the sink has taken, as a new disk and a
-    /// new sink have, and the parts of another outside.
+    /// An outside of these parts. It has told what the disk has told, and each put adds to that.
     pub fn make(disk: MemDisk, source: S, sink: MemSink, clock: FixedClock) -> Self
-        requires { told_by disk ≡ length (bytes_of sink) }
         ensures whole { (disk_of result ≡ disk) × (source_of result ≡ source) × (sink_of result ≡ sink) × (clock_of result ≡ clock) × (puts_refused result ≡ 0) }
 
         // what it tells is what its parts tell
@@ -88,18 +84,18 @@ impl<S: Source + Drop> MemOutside<S> {
 impl<S: Source + Drop> Outside for MemOutside<S> {
     ghost beside_is = { λ o. refl };
 
-    ghost take_keeps_files = { λ o p h. files_stay (λ x. x.disk) (λ x. Self.beside x) o p (told_by_itself o.disk p.disk h.0) p.counted };
+    ghost take_keeps_files = { λ o p h. files_stay (λ x. x.disk) (λ x. Self.beside x) o p (told_by_itself o.disk p.disk h.0) refl };
 
     ghost take_keeps_moment = { λ o p h. no_moment (λ x. x.disk) o p h.0 };
 
     ghost take_keeps_output = { λ o p h. record {
       taken = ap (λ x. Some (bytes_of x)) h.1;
-      told = ap (λ x. length (bytes_of x)) h.1;
+      told = ap told_by h.0;
       write_faults = λ i. puts_failed (h.1 i) + h.3 i;
       seconds = ap (λ x. Some x.seconds) h.2;
     } };
 
-    ghost put_keeps_files = { λ o p h. files_stay (λ x. x.disk) (λ x. Self.beside x) o p h.0 p.counted };
+    ghost put_keeps_files = { λ o p h. files_stay (λ x. x.disk) (λ x. Self.beside x) o p h.0 refl };
 
     ghost put_keeps_input = { λ o p h. record {
       left = ap S.left h.1;
@@ -107,7 +103,7 @@ impl<S: Source + Drop> Outside for MemOutside<S> {
       seconds = ap (λ x. Some x.seconds) h.2;
     } };
 
-    ghost now_keeps_files = { λ o p h. files_stay (λ x. x.disk) (λ x. Self.beside x) o p (told_by_itself o.disk p.disk (ap (λ x. x.disk) h)) p.counted };
+    ghost now_keeps_files = { λ o p h. files_stay (λ x. x.disk) (λ x. Self.beside x) o p (told_by_itself o.disk p.disk (ap (λ x. x.disk) h)) refl };
 
     ghost now_keeps_moment = { λ o p h. no_moment (λ x. x.disk) o p (ap (λ x. x.disk) h) };
 

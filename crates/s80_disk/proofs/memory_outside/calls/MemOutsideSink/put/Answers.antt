@@ -7,4 +7,5 @@ returns-clause-keeps g c =
       record { first = note.uncounted.settings.first_files_same; current = note.current; faults = note.uncounted.failed; events = inr (_, note.events) },
       refl,
       refl,
+      c.put.ensures.keeps,
     )
