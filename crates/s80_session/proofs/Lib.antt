@@ -6,6 +6,7 @@ pub mod Finishing
 pub mod Keeping
 pub mod Lasting
 pub mod Lawful
+pub mod Marking
 pub mod Reading
 pub mod Stepping
 pub mod Taking

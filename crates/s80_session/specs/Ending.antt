@@ -46,6 +46,15 @@ abbrev pub MeetsNoDamage : {T : Type 0} → Result T SessionEnd → Type 0
 MeetsNoDamage (Err (ends.Damaged damage)) = ⊥
 MeetsNoDamage _ = Unit {0}
 
+-- work ends so before its answer: no byte was to be taken or put
+abbrev pub IsWorkEnd : SessionEnd → Type 0
+IsWorkEnd ends.Memory = Unit {0}
+IsWorkEnd (ends.Disk failed) = Unit {0}
+IsWorkEnd (ends.Damaged damage) = Unit {0}
+IsWorkEnd (ends.Read failed) = ⊥
+IsWorkEnd (ends.Write failed) = ⊥
+IsWorkEnd ends.TooLong = ⊥
+
 -- the same where a source is read: it may be damaged
 abbrev pub EndsForReasonOrDamage : {T : Type 0} → Faults → Faults → Result T SessionEnd → Type 0
 EndsForReasonOrDamage before now (Err (ends.Damaged damage)) = Unit {0}

@@ -1,8 +1,19 @@
 -- What a session holds.
-use Rattle.std.specs.Prelude.{◌≡◌, ℕ, Bool, Option, None}
+use Rattle.std.specs.Prelude.{◌≡◌, ◌⊎◌, ◌||◌, ℕ, Bool, List, Option, None, Some, Result, Ok, Err, take}
+use Rattle.std.specs.Io.KnownBytes.{Appends}
+use Rattle.s80_change.specs.Definition.{IsNoDefinition}
+use Rattle.s80_chunk.specs.declared.item.Item.TheVariants as items
+use Rattle.s80_doit.specs.DoIt.{Fits, IsRunOf}
 use Rattle.s80_keeper.specs.Keeper.{KeeperState}
 use Rattle.s80_machine.specs.Came.{RanValue}
+use Rattle.s80_model.specs.declared.item.SessionItem.{SessionItem}
+use Rattle.s80_model.specs.declared.item.SessionItem.TheVariants.{Chunk, Unended, Query}
+use Rattle.s80_model.specs.declared.reply.Reply.{Reply}
 use Rattle.s80_model.specs.declared.section.Section.{Section}
+use Rattle.s80_model.specs.declared.section.Section.TheVariants.{Top}
+use Rattle.s80_model.specs.Replies.{is_trouble, reply_text}
+use Rattle.s80_session.specs.declared.end.SessionEnd.{SessionEnd}
+use Rattle.s80_session.specs.declared.end.SessionEnd.TheVariants as ends
 use Rattle.s80_session.specs.declared.session.Session.{Session}
 
 abbrev pub keeper_of : Session → KeeperState
@@ -27,3 +38,48 @@ troubled_of session = session.troubled
 -- no call of the disk has failed in it
 abbrev pub IsFaultless : Session → Type 0
 IsFaultless session = session.keeper.fault ≡ None
+
+-- it stands at the top level of its input, a doIt may take so many ticks in it, and none was evaluated yet
+pub record HasBegun (ticks : ℕ) (session : Session) : Type 0 where
+  pub section : section_of session ≡ Top
+  pub budget : budget_of session ≡ ticks
+  pub last_run : last_run_of session ≡ None
+
+-- this text is a doIt, and its run among the classes and methods that there are is the last
+abbrev pub HasRun : List ℕ → Session → Type 0
+HasRun text session = Fits text × IsNoDefinition text × (ran : RanValue) × IsRunOf (keeper_of session).system text (budget_of session) ran × (last_run_of session ≡ Some ran)
+
+-- the last run is another one only after a doIt that was evaluated
+abbrev pub RunAfter : SessionItem → Session → Session → Type 0
+RunAfter (Chunk (items.Plain text)) before now = (last_run_of now ≡ last_run_of before) ⊎ HasRun text now
+RunAfter (Chunk (items.Head text)) before now = last_run_of now ≡ last_run_of before
+RunAfter (Chunk (items.Method text)) before now = last_run_of now ≡ last_run_of before
+RunAfter (Chunk items.SectionEnd) before now = last_run_of now ≡ last_run_of before
+RunAfter (Chunk (items.TooLong role length)) before now = last_run_of now ≡ last_run_of before
+RunAfter Unended before now = last_run_of now ≡ last_run_of before
+RunAfter (Query query) before now = last_run_of now ≡ last_run_of before
+
+-- after a line was to be put: the output took it, or a front of it
+abbrev pub TakesLine : {T : Type 0} → Result T SessionEnd → Option (List ℕ) → Option (List ℕ) → List ℕ → Type 0
+TakesLine (Ok done) before now line = Appends before now line
+TakesLine (Err (ends.Write failed)) before now line = (count : ℕ) × Appends before now (take count line)
+TakesLine (Err ends.Memory) before now line = ⊥
+TakesLine (Err (ends.Read failed)) before now line = ⊥
+TakesLine (Err (ends.Disk failed)) before now line = ⊥
+TakesLine (Err (ends.Damaged damage)) before now line = ⊥
+TakesLine (Err ends.TooLong) before now line = ⊥
+
+-- a reply was put, and something was refused or stopped if it was so before, or this reply says so
+abbrev pub HasReplied : {T : Type 0} → Result T SessionEnd → Option (List ℕ) → Option (List ℕ) → Session → Session → Type 0
+HasReplied result taken_before taken_now before now =
+    (reply : Reply) × TakesLine result taken_before taken_now (reply_text reply) × (troubled_of now ≡ (troubled_of before || is_trouble reply))
+
+-- after an item, with what the output took: where none is put, no trouble is noted
+abbrev pub TroubleAfter : {T : Type 0} → Result T SessionEnd → Option (List ℕ) → Option (List ℕ) → Session → Session → Type 0
+TroubleAfter (Ok done) taken_before taken_now before now = HasReplied (Ok done) taken_before taken_now before now
+TroubleAfter (Err (ends.Write failed)) taken_before taken_now before now = HasReplied {T = Unit {0}} (Err (ends.Write failed)) taken_before taken_now before now
+TroubleAfter (Err ends.Memory) taken_before taken_now before now = troubled_of now ≡ troubled_of before
+TroubleAfter (Err (ends.Read failed)) taken_before taken_now before now = troubled_of now ≡ troubled_of before
+TroubleAfter (Err (ends.Disk failed)) taken_before taken_now before now = troubled_of now ≡ troubled_of before
+TroubleAfter (Err (ends.Damaged damage)) taken_before taken_now before now = troubled_of now ≡ troubled_of before
+TroubleAfter (Err ends.TooLong) taken_before taken_now before now = troubled_of now ≡ troubled_of before

@@ -1,5 +1,5 @@
 // A session works items: it keeps what they change, and answers them.
-ghost use Rattle.std.specs.Prelude.{◌≡◌, ◌≢◌, ◌<◌, ◌≤◌, ℕ, false, List, ◌++◌, length, option_map, Some, IsTrue, IfOk, OnOk};
+ghost use Rattle.std.specs.Prelude.{◌≡◌, ◌≢◌, ◌<◌, ◌≤◌, ℕ, false, List, ◌++◌, length, option_map, Some, IsTrue, IfErr, IfOk, OnOk};
 ghost use Rattle.s80_block.specs.declared.change.Change.{Change};
 ghost use Rattle.s80_chunk.specs.declared.item.Item.TheVariants as items;
 ghost use Rattle.s80_disk.specs.declared.disk.FileId.{FileId};
@@ -13,6 +13,7 @@ ghost use Rattle.s80_model.specs.Replies.{Work};
 ghost use Rattle.s80_model.specs.Section.{section_or};
 ghost use Rattle.s80_session.specs.Ending.{faults, Counts, CountsFor, MeetsNoDamage, NoFewer, SourceCounts, StartsForReason};
 ghost use Rattle.s80_session.specs.Run.{shown, HasKept};
+ghost use Rattle.s80_session.specs.Session.{TakesLine};
 ghost use Rattle.s80_session.specs.Working.{AnswerPut};
 
 use crate::end::SessionEnd;
@@ -53,7 +54,8 @@ impl Session {
     ghost use Rattle.s80_change.specs.Definition.{IsNoDefinition};
     ghost use Rattle.s80_chunk.specs.Chunks.{IsChunkText, longest};
     ghost use Rattle.s80_doit.specs.DoIt.{Fits, IsDoItCode};
-    ghost use Rattle.s80_session.specs.Session.{keeper_of, last_run_of, section_of, troubled_of, IsFaultless};
+    ghost use Rattle.s80_session.specs.Ending.{IsWorkEnd};
+    ghost use Rattle.s80_session.specs.Session.{keeper_of, last_run_of, section_of, troubled_of, HasBegun, IsFaultless, RunAfter, TroubleAfter};
     ghost use Rattle.s80_session.specs.Working.{Evaluates, IsAt, IsLawfulFor, IsReadable, IsSessionStart, Kept, KeepLeaves, Replied, Starts, Worked, WorkLeaves, Stepped, StepLeaves};
 
     /// A session on the folder that was attached, at the top level of its input. A doIt may take at most `budget` ticks.
@@ -77,6 +79,7 @@ impl Session {
             ≡ record (shown O.tells O.reads O.left O.taken O.told outside.old) { files = O.reads outside.new } }
         ensures faultless { IfOk result IsFaultless }
         ensures untroubled { IfOk result (λ session. troubled_of session ≡ false) }
+        ensures begun { IfOk result (HasBegun budget) }
         ensures later { NoFewer (faults O.read_faults O.write_faults O.disk_faults outside.old)
             (faults O.read_faults O.write_faults O.disk_faults outside.new) }
         ensures reason { StartsForReason (faults O.read_faults O.write_faults O.disk_faults outside.old)
@@ -124,6 +127,8 @@ impl Session {
             (shown O.tells O.reads O.left O.taken O.told outside.old) self.old work put
             → LeavesOnly O.moment O.left_since outside.old outside.new (StepLeaves work put item) }
         ensures sound { IsTrue (O.tells outside.old) → (changes : List Change) → Knows (O.reads outside.old) (keeper_of self.old) changes → MeetsNoDamage result }
+        ensures troubled { TroubleAfter result (O.taken outside.old) (O.taken outside.new) self.old self.new }
+        ensures last_run { RunAfter item self.old self.new }
         ensures faultless { OnOk result (IsFaultless self.new) }
         ensures left { O.left outside.new ≡ O.left outside.old }
         ensures counts { CountsFor item (faults O.read_faults O.write_faults O.disk_faults outside.old)
@@ -186,8 +191,11 @@ impl Session {
             → LeavesOnly O.moment O.left_since outside.old outside.new (WorkLeaves work put item) }
         ensures sound { IsTrue (O.tells outside.old) → (changes : List Change) → Knows (O.reads outside.old) (keeper_of self.old) changes → MeetsNoDamage result }
         ensures troubled { troubled_of self.new ≡ troubled_of self.old }
+        ensures last_run { RunAfter item self.old self.new }
         ensures faultless { OnOk result (IsFaultless self.new) }
         ensures left { O.left outside.new ≡ O.left outside.old }
+        ensures taken { O.taken outside.new ≡ O.taken outside.old }
+        ensures ends { IfErr result IsWorkEnd }
         ensures counts { CountsFor item (faults O.read_faults O.write_faults O.disk_faults outside.old)
             (faults O.read_faults O.write_faults O.disk_faults outside.new) result }
     {
@@ -232,8 +240,11 @@ impl Session {
             (shown O.tells O.reads O.left O.taken O.told outside.old) self.old work put
             → LeavesOnly O.moment O.left_since outside.old outside.new (WorkLeaves work put (SessionItem.Chunk (items.Plain text))) }
         ensures troubled { troubled_of self.new ≡ troubled_of self.old }
+        ensures last_run { RunAfter (SessionItem.Chunk (items.Plain text)) self.old self.new }
         ensures faultless { OnOk result (IsFaultless self.new) }
         ensures left { O.left outside.new ≡ O.left outside.old }
+        ensures taken { O.taken outside.new ≡ O.taken outside.old }
+        ensures ends { IfErr result IsWorkEnd }
         ensures counts { Counts (faults O.read_faults O.write_faults O.disk_faults outside.old)
             (faults O.read_faults O.write_faults O.disk_faults outside.new) result }
     {
@@ -273,8 +284,11 @@ impl Session {
             (shown O.tells O.reads O.left O.taken O.told outside.old) self.old work put
             → LeavesOnly O.moment O.left_since outside.old outside.new (WorkLeaves work put (SessionItem.Chunk (items.Plain text))) }
         ensures troubled { troubled_of self.new ≡ troubled_of self.old }
+        ensures last_run { IsNoDefinition text → RunAfter (SessionItem.Chunk (items.Plain text)) self.old self.new }
         ensures faultless { OnOk result (IsFaultless self.new) }
         ensures left { O.left outside.new ≡ O.left outside.old }
+        ensures taken { O.taken outside.new ≡ O.taken outside.old }
+        ensures ends { IfErr result IsWorkEnd }
         ensures counts { Counts (faults O.read_faults O.write_faults O.disk_faults outside.old)
             (faults O.read_faults O.write_faults O.disk_faults outside.new) result }
     {
@@ -318,8 +332,11 @@ impl Session {
             (shown O.tells O.reads O.left O.taken O.told outside.old) self.old work put
             → LeavesOnly O.moment O.left_since outside.old outside.new (WorkLeaves work put (SessionItem.Chunk (items.Method source))) }
         ensures troubled { troubled_of self.new ≡ troubled_of self.old }
+        ensures last_run { last_run_of self.new ≡ last_run_of self.old }
         ensures faultless { OnOk result (IsFaultless self.new) }
         ensures left { O.left outside.new ≡ O.left outside.old }
+        ensures taken { O.taken outside.new ≡ O.taken outside.old }
+        ensures ends { IfErr result IsWorkEnd }
         ensures counts { Counts (faults O.read_faults O.write_faults O.disk_faults outside.old)
             (faults O.read_faults O.write_faults O.disk_faults outside.new) result }
     {
@@ -360,6 +377,8 @@ impl Session {
         ensures rest { self.new ≡ record self.old { keeper = keeper_of self.new } }
         ensures faultless { OnOk result (IsFaultless self.new) }
         ensures left { O.left outside.new ≡ O.left outside.old }
+        ensures taken { O.taken outside.new ≡ O.taken outside.old }
+        ensures ends { IfErr result IsWorkEnd }
         ensures counts { Counts (faults O.read_faults O.write_faults O.disk_faults outside.old)
             (faults O.read_faults O.write_faults O.disk_faults outside.new) result }
     {
@@ -393,8 +412,11 @@ impl Session {
             → LeavesOnly O.moment O.left_since outside.old outside.new (HasKept work.changes (length put)) }
         ensures sound { IsTrue (O.tells outside.old) → (changes : List Change) → Knows (O.reads outside.old) (keeper_of self.old) changes → MeetsNoDamage result }
         ensures troubled { troubled_of self.new ≡ troubled_of self.old }
+        ensures last_run { last_run_of self.new ≡ last_run_of self.old }
         ensures faultless { OnOk result (IsFaultless self.new) }
         ensures left { O.left outside.new ≡ O.left outside.old }
+        ensures taken { O.taken outside.new ≡ O.taken outside.old }
+        ensures ends { IfErr result IsWorkEnd }
         ensures counts { CountsFor (SessionItem.Query query) (faults O.read_faults O.write_faults O.disk_faults outside.old)
             (faults O.read_faults O.write_faults O.disk_faults outside.new) result }
     {
@@ -427,8 +449,11 @@ impl Session {
             → LeavesOnly O.moment O.left_since outside.old outside.new (HasKept work.changes (length put)) }
         ensures sound { IsTrue (O.tells outside.old) → (changes : List Change) → Knows (O.reads outside.old) (keeper_of self.old) changes → MeetsNoDamage result }
         ensures troubled { troubled_of self.new ≡ troubled_of self.old }
+        ensures last_run { last_run_of self.new ≡ last_run_of self.old }
         ensures faultless { OnOk result (IsFaultless self.new) }
         ensures left { O.left outside.new ≡ O.left outside.old }
+        ensures taken { O.taken outside.new ≡ O.taken outside.old }
+        ensures ends { IfErr result IsWorkEnd }
         ensures counts { SourceCounts (faults O.read_faults O.write_faults O.disk_faults outside.old)
             (faults O.read_faults O.write_faults O.disk_faults outside.new) result }
     {
@@ -453,6 +478,7 @@ impl Session {
 fn answer<O: Outside>(outside: &mut O, line: &[u8]) -> Result<(), SessionEnd>
     ensures put { (put : List ℕ) → O.taken outside.old ≡ Some put → O.told outside.old ≡ length put
         → AnswerPut result (O.taken outside.new) (O.told outside.new) put line.now }
+    ensures taken { TakesLine result (O.taken outside.old) (O.taken outside.new) line.now }
     ensures images { (c : FileId → List ℕ) → O.may_leave outside.new c → O.may_leave outside.old c }
     ensures any_moment { (changes : List Change) (put : List ℕ)
         → ((c : FileId → List ℕ) → O.may_leave outside.old c → FilesStandFor c changes)

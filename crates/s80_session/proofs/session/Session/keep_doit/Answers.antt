@@ -1,4 +1,4 @@
-use Rattle.std.proofs.Common.{inr, ℕ, List, Option, None, Some, Ok, ap, sym, subst, ◌∙◌}
+use Rattle.std.proofs.Common.{inl, inr, ℕ, List, Option, None, Some, Ok, ap, sym, subst, ◌∙◌}
 use Rattle.std.proofs.lemmas.Result.{err_from_is_err_and}
 use Rattle.s80_block.specs.declared.change.Change.TheVariants.{DoIt}
 use Rattle.s80_change.specs.Definition.{IsNoDefinition}
@@ -15,10 +15,12 @@ use Rattle.s80_model.specs.declared.item.SessionItem.TheVariants.{Chunk}
 use Rattle.s80_model.specs.Asked.{evaluates}
 use Rattle.s80_model.specs.Replies.{AsksIn, Work}
 use Rattle.s80_session.specs.Run.{shown}
+use Rattle.s80_session.specs.Session.{last_run_of}
 use Rattle.s80_session.specs.Working.{IsAt, IsLawfulFor, Kept, WorkLeaves}
 use Rattle.s80_session.proofs.Asking.{doit_lawful}
 use Rattle.s80_session.proofs.Evaluating.{asks_doit, doit_lasts, replied_evaluated, replied_unkept, unevaluated}
 use Rattle.s80_session.proofs.Lasting.{nothing_happens, work_still}
+use Rattle.s80_session.proofs.Marking.{ran_last}
 use Rattle.s80_session.proofs.Stepping.{unreplied}
 use Rattle.s80_session.proofs.session.Session.keep_doit.Goals as goal
 use Rattle.s80_session.proofs.session.Session.keep_doit.Goals.{After-keep}
@@ -88,3 +90,17 @@ returns-clause-replied g c = λ work put chunk none at.
 
 pub returns-clause-any_moment : goal.returns-clause-any_moment
 returns-clause-any_moment g c = run g (goal.at.returns-clause-any_moment g c).After-keep
+
+pub returns-in_err-keep-clause-last_run : goal.returns-in_err-keep-clause-last_run
+returns-in_err-keep-clause-last_run g c = λ none. inl (ap last_run_of c.keep.ensures.rest)
+
+pub returns-in_err-evaluate-in-None-clause-last_run : goal.returns-in_err-evaluate-in-None-clause-last_run
+returns-in_err-evaluate-in-None-clause-last_run g c = λ none.
+    inl (c.in_err-evaluate-in-None.ensures.evaluated c.args.text c.in_ok-code.ensures.code ∙ ap last_run_of c.keep.ensures.rest)
+
+pub returns-in-None-clause-last_run : goal.returns-in-None-clause-last_run
+returns-in-None-clause-last_run g c = λ none.
+    ran_last c.args.self.now c.keep.new.self c.evaluate.new.self c.args.text c.in_ok-evaluate-in-None.field-0 c.requires.fits none (c.in_ok-evaluate-in-None.ensures.evaluated c.args.text c.in_ok-code.ensures.code) c.evaluate.ensures.rest
+
+pub returns-clause-last_run : goal.returns-clause-last_run
+returns-clause-last_run g c = λ none. inl (ap last_run_of c.keep.ensures.rest)

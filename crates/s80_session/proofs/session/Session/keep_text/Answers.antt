@@ -1,4 +1,4 @@
-use Rattle.std.proofs.Common.{ℕ, List, ap, sym, subst, ◌∙◌, Ok, Err}
+use Rattle.std.proofs.Common.{inl, ℕ, List, ap, sym, subst, ◌∙◌, Ok, Err}
 use Rattle.std.proofs.lemmas.Result.{err_from_is_err_and}
 use Rattle.s80_block.specs.declared.change.Change.TheVariants.{Define}
 use Rattle.s80_change.specs.Definition.{IsNoDefinition}
@@ -12,6 +12,7 @@ use Rattle.s80_model.specs.Replies.{Work}
 use Rattle.s80_session.specs.declared.plain.Plain.{Plain}
 use Rattle.s80_session.specs.Plain.{IsPlain}
 use Rattle.s80_session.specs.Run.{shown}
+use Rattle.s80_session.specs.Session.{last_run_of, RunAfter}
 use Rattle.s80_session.specs.Working.{IsAt, Replied, WorkLeaves}
 use Rattle.s80_session.proofs.Lasting.{nothing_happens, work_still}
 use Rattle.s80_session.proofs.Lawful.{definition_lawful}
@@ -72,3 +73,16 @@ returns-in-Err-Refusal-clause-any_moment g c = λ work put chunk short at.
 pub returns-in-Err-Memory-clause-any_moment : goal.returns-in-Err-Memory-clause-any_moment
 returns-in-Err-Memory-clause-any_moment g c = λ work put chunk short at.
     work_still g.O.Disk.moment g.O.Disk.left_since c.args.outside.now c.args.outside.now work put (Chunk (items.Plain c.args.text)) (nothing_happens g.O.Disk.moment g.O.Disk.left_since _ (shown g.O.Disk.tells g.O.Disk.reads g.O.Source.left g.O.Sink.taken g.O.Sink.told c.args.outside.now) _ c.args.outside.now work put (λ told image left. let x = g.met.O.Disk.only_now c.args.outside.now told image left in (x.0, x.1 ∙ ap (λ b. b.told) (g.met.O.Outside.beside_is c.args.outside.now))) at)
+
+pub returns-in-Ok-Evaluate-clause-last_run : goal.returns-in-Ok-Evaluate-clause-last_run
+returns-in-Ok-Evaluate-clause-last_run g c =
+    let P : Plain → Type 0 = λ x. IsPlain c.args.text (Ok x) in
+    let is = subst P c.in-Ok-Evaluate.field-0-is c.in-Ok-Evaluate.ensures in
+    let Q : List ℕ → Type 0 = λ t. RunAfter (Chunk (items.Plain t)) c.args.self.now c.keep_doit.new.self in
+    subst Q is.0 (c.keep_doit.ensures.last_run (subst IsNoDefinition (sym is.0) is.2))
+
+pub returns-in_ok-refusal-in-Ok-Define-clause-last_run : goal.returns-in_ok-refusal-in-Ok-Define-clause-last_run
+returns-in_ok-refusal-in-Ok-Define-clause-last_run g c = inl (ap last_run_of c.keep.ensures.rest)
+
+pub returns-in_err-refusal-in-Ok-Define-clause-last_run : goal.returns-in_err-refusal-in-Ok-Define-clause-last_run
+returns-in_err-refusal-in-Ok-Define-clause-last_run g c = inl (ap last_run_of c.keep.ensures.rest)

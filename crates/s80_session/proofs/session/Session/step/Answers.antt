@@ -1,5 +1,6 @@
-use Rattle.std.proofs.Common.{inl, true, sym, ap, ◌∙◌, ◌||◌}
+use Rattle.std.proofs.Common.{inl, true, refl, sym, ap, ◌∙◌, ◌||◌}
 use Rattle.std.proofs.lemmas.Result.{err_from_is_err_and}
+use Rattle.s80_model.specs.declared.reply.Reply.TheVariants.{Silent, Accepted, Refused, Evaluated, Told}
 use Rattle.s80_model.specs.Replies.{reply_text, work_after, reply_to, is_trouble}
 use Rattle.s80_session.specs.declared.session.Session.{Session}
 use Rattle.s80_session.specs.Run.{shown}
@@ -7,6 +8,7 @@ use Rattle.s80_session.specs.Session.{troubled_of}
 use Rattle.s80_session.specs.Working.{staying}
 use Rattle.s80_session.proofs.Keeping.{keeps_leaves}
 use Rattle.s80_session.proofs.Lasting.{step_lasts, work_lasts}
+use Rattle.s80_session.proofs.Marking.{broken_trouble, put_trouble, run_on, silent_trouble}
 use Rattle.s80_session.proofs.Stepping.{worked_err, refused_is_at, at_calm, entered, answered, silent, still_troubled, now_troubled, troubled_so}
 use Rattle.s80_session.proofs.session.Session.step.Goals as goal
 
@@ -97,3 +99,51 @@ returns-in-Told-clause-any_moment g c = λ work put readable at.
     let w = c.in_ok-reply.ensures.worked work put readable at in
     let r = w.2.0 in
     step_lasts g.O.Disk.moment g.O.Disk.left_since _ _ _ work put _ c.args.item w.0 w.1 (c.bytes-in-Told.ensures ∙ ap reply_text (sym c.in-Told.is ∙ r)) (c.work.ensures.any_moment work put readable at) (c.answer-in-Told.ensures.any_moment (work_after work w.0).changes put (keeps_leaves _ _ _ _ _ w.3.keeps) w.3.told)
+
+-- ---- the last run, and trouble
+
+pub returns-in_err-reply-clause-last_run : goal.returns-in_err-reply-clause-last_run
+returns-in_err-reply-clause-last_run g c = c.work.ensures.last_run
+
+pub returns-in_err-reply-clause-troubled : goal.returns-in_err-reply-clause-troubled
+returns-in_err-reply-clause-troubled g c =
+    let p = err_from_is_err_and c.from_residual.result c.from_residual.ensures.1 in
+    rw (p.1, p.2) (broken_trouble _ _ _ c.args.self.now c.work.new.self c.in_err-reply.ensures.ends c.work.ensures.troubled)
+
+pub returns-in_err-line-in-Refused-clause-last_run : goal.returns-in_err-line-in-Refused-clause-last_run
+returns-in_err-line-in-Refused-clause-last_run g c = c.work.ensures.last_run
+
+pub returns-in_err-line-in-Refused-clause-troubled : goal.returns-in_err-line-in-Refused-clause-troubled
+returns-in_err-line-in-Refused-clause-troubled g c =
+    let p = err_from_is_err_and c.from_residual-in_err-line-in-Refused.result c.from_residual-in_err-line-in-Refused.ensures.1 in
+    rw (p.1, p.2) c.work.ensures.troubled
+
+pub returns-in-Silent-clause-last_run : goal.returns-in-Silent-clause-last_run
+returns-in-Silent-clause-last_run g c = run_on c.args.item c.args.self.now c.work.new.self _ c.work.new.self.troubled c.enter.ensures.rest c.work.ensures.last_run
+
+pub returns-in-Silent-clause-troubled : goal.returns-in-Silent-clause-troubled
+returns-in-Silent-clause-troubled g c = silent_trouble _ _ c.args.self.now _ c.work.ensures.taken (still_troubled _ _ Silent refl (ap troubled_of c.enter.ensures.rest ∙ c.work.ensures.troubled))
+
+pub returns-in-Accepted-clause-last_run : goal.returns-in-Accepted-clause-last_run
+returns-in-Accepted-clause-last_run g c = run_on c.args.item c.args.self.now c.work.new.self _ c.work.new.self.troubled c.enter-in-Accepted.ensures.rest c.work.ensures.last_run
+
+pub returns-in-Accepted-clause-troubled : goal.returns-in-Accepted-clause-troubled
+returns-in-Accepted-clause-troubled g c = put_trouble c.answer.result Accepted _ _ _ _ c.args.self.now _ c.answer.ensures.taken refl c.work.ensures.taken (still_troubled _ _ Accepted refl (ap troubled_of c.enter-in-Accepted.ensures.rest ∙ c.work.ensures.troubled))
+
+pub returns-in_ok-line-in-Refused-clause-last_run : goal.returns-in_ok-line-in-Refused-clause-last_run
+returns-in_ok-line-in-Refused-clause-last_run g c = run_on c.args.item c.args.self.now c.work.new.self _ true c.enter-in-Refused.ensures.rest c.work.ensures.last_run
+
+pub returns-in_ok-line-in-Refused-clause-troubled : goal.returns-in_ok-line-in-Refused-clause-troubled
+returns-in_ok-line-in-Refused-clause-troubled g c = put_trouble c.answer-in-Refused.result (Refused c.in-Refused.refusal) _ _ _ _ c.args.self.now _ c.answer-in-Refused.ensures.taken (c.bytes.ensures ∙ c.in_ok-line-in-Refused.ensures) c.work.ensures.taken (now_troubled _ _ (Refused c.in-Refused.refusal) refl (ap troubled_of c.enter-in-Refused.ensures.rest))
+
+pub returns-in-Evaluated-clause-last_run : goal.returns-in-Evaluated-clause-last_run
+returns-in-Evaluated-clause-last_run g c = run_on c.args.item c.args.self.now c.work.new.self _ (c.work.new.self.troubled || c.in-Evaluated.stopped) c.enter-in-Evaluated.ensures.rest c.work.ensures.last_run
+
+pub returns-in-Evaluated-clause-troubled : goal.returns-in-Evaluated-clause-troubled
+returns-in-Evaluated-clause-troubled g c = put_trouble c.answer-in-Evaluated.result (Evaluated c.in-Evaluated.lines c.in-Evaluated.stopped) _ _ _ _ c.args.self.now _ c.answer-in-Evaluated.ensures.taken c.bytes-in-Evaluated.ensures c.work.ensures.taken (ap troubled_of c.enter-in-Evaluated.ensures.rest ∙ ap (λ b. b || c.in-Evaluated.stopped) c.work.ensures.troubled)
+
+pub returns-in-Told-clause-last_run : goal.returns-in-Told-clause-last_run
+returns-in-Told-clause-last_run g c = run_on c.args.item c.args.self.now c.work.new.self _ c.work.new.self.troubled c.enter-in-Told.ensures.rest c.work.ensures.last_run
+
+pub returns-in-Told-clause-troubled : goal.returns-in-Told-clause-troubled
+returns-in-Told-clause-troubled g c = put_trouble c.answer-in-Told.result (Told c.in-Told.text) _ _ _ _ c.args.self.now _ c.answer-in-Told.ensures.taken c.bytes-in-Told.ensures c.work.ensures.taken (still_troubled _ _ (Told c.in-Told.text) refl (ap troubled_of c.enter-in-Told.ensures.rest ∙ c.work.ensures.troubled))

@@ -11,8 +11,10 @@ use Rattle.s80_model.specs.declared.section.Section.TheVariants.{Top}
 use Rattle.s80_model.specs.Asked.{refuses, closes}
 use Rattle.s80_model.specs.Section.{section_or}
 use Rattle.s80_session.specs.Run.{shown}
+use Rattle.s80_session.specs.Session.{RunAfter}
 use Rattle.s80_session.specs.Working.{IsReadable, Worked, WorkLeaves}
 use Rattle.s80_session.proofs.Lasting.{nothing_happens, work_still}
+use Rattle.s80_session.proofs.Marking.{same_run}
 use Rattle.s80_session.proofs.Stepping.{worked_plain, worked_method, worked_query, worked_head, worked_so, worked_too_long}
 use Rattle.s80_session.proofs.session.Session.work.Goals as goal
 
@@ -101,3 +103,40 @@ returns-in_ok-tell-in-Query-clause-worked g c = λ work put readable at.
 pub returns-in_ok-tell-in-Query-clause-any_moment : goal.returns-in_ok-tell-in-Query-clause-any_moment
 returns-in_ok-tell-in-Query-clause-any_moment g c = λ work put readable at.
     work_still g.O.Disk.moment g.O.Disk.left_since c.args.outside.now c.tell.new.outside work put c.args.item (c.tell.ensures.any_moment work put at)
+
+pub returns-in_ok-keep_text-in-Chunk-Plain-clause-last_run : goal.returns-in_ok-keep_text-in-Chunk-Plain-clause-last_run
+returns-in_ok-keep_text-in-Chunk-Plain-clause-last_run g c =
+    let P : SessionItem → Type 0 = λ i. RunAfter i c.args.self.now c.keep_text.new.self in
+    subst P (sym (c.in-Chunk-Plain.is ∙ ap Chunk c.in-Chunk-Plain.field-0-is)) c.keep_text.ensures.last_run
+
+pub returns-in_err-keep_text-in-Chunk-Plain-clause-last_run : goal.returns-in_err-keep_text-in-Chunk-Plain-clause-last_run
+returns-in_err-keep_text-in-Chunk-Plain-clause-last_run g c =
+    let P : SessionItem → Type 0 = λ i. RunAfter i c.args.self.now c.keep_text.new.self in
+    subst P (sym (c.in-Chunk-Plain.is ∙ ap Chunk c.in-Chunk-Plain.field-0-is)) c.keep_text.ensures.last_run
+
+pub returns-in_ok-head_answer-in-Chunk-Head-clause-last_run : goal.returns-in_ok-head_answer-in-Chunk-Head-clause-last_run
+returns-in_ok-head_answer-in-Chunk-Head-clause-last_run g c = same_run c.args.item c.args.self.now c.args.self.now refl
+
+pub returns-in_err-head_answer-in-Chunk-Head-clause-last_run : goal.returns-in_err-head_answer-in-Chunk-Head-clause-last_run
+returns-in_err-head_answer-in-Chunk-Head-clause-last_run g c = same_run c.args.item c.args.self.now c.args.self.now refl
+
+pub returns-in_ok-keep_method-in-Chunk-Method-clause-last_run : goal.returns-in_ok-keep_method-in-Chunk-Method-clause-last_run
+returns-in_ok-keep_method-in-Chunk-Method-clause-last_run g c = same_run c.args.item c.args.self.now c.keep_method.new.self c.keep_method.ensures.last_run
+
+pub returns-in_err-keep_method-in-Chunk-Method-clause-last_run : goal.returns-in_err-keep_method-in-Chunk-Method-clause-last_run
+returns-in_err-keep_method-in-Chunk-Method-clause-last_run g c = same_run c.args.item c.args.self.now c.keep_method.new.self c.keep_method.ensures.last_run
+
+pub returns-in-Chunk-SectionEnd-clause-last_run : goal.returns-in-Chunk-SectionEnd-clause-last_run
+returns-in-Chunk-SectionEnd-clause-last_run g c = same_run c.args.item c.args.self.now c.args.self.now refl
+
+pub returns-in-Chunk-TooLong-clause-last_run : goal.returns-in-Chunk-TooLong-clause-last_run
+returns-in-Chunk-TooLong-clause-last_run g c = same_run c.args.item c.args.self.now c.args.self.now refl
+
+pub returns-in-Unended-clause-last_run : goal.returns-in-Unended-clause-last_run
+returns-in-Unended-clause-last_run g c = same_run c.args.item c.args.self.now c.args.self.now refl
+
+pub returns-in_ok-tell-in-Query-clause-last_run : goal.returns-in_ok-tell-in-Query-clause-last_run
+returns-in_ok-tell-in-Query-clause-last_run g c = same_run c.args.item c.args.self.now c.tell.new.self c.tell.ensures.last_run
+
+pub returns-in_err-tell-in-Query-clause-last_run : goal.returns-in_err-tell-in-Query-clause-last_run
+returns-in_err-tell-in-Query-clause-last_run g c = same_run c.args.item c.args.self.now c.tell.new.self c.tell.ensures.last_run
