@@ -15,7 +15,7 @@ use Rattle.s80_session.specs.Ending.{Faults, NoFewer, HasReason, EndsForReason, 
 use Rattle.s80_model.specs.declared.item.Query.TheVariants as queries
 use Rattle.s80_model.specs.Replies.{work_after, reply_text, is_trouble}
 use Rattle.s80_session.specs.Session.{keeper_of, troubled_of}
-use Rattle.s80_session.specs.Run.{Shown, Ends}
+use Rattle.s80_session.specs.Run.{Shown, Ends, Finished}
 use Rattle.s80_session.specs.Working.{IsAt, Stepped}
 use Rattle.s80_session.specs.declared.session.Session.{Session}
 use Rattle.s80_session.proofs.Keeping.{keeps_stands}
@@ -24,18 +24,24 @@ use Rattle.s80_program.specs.Ending.{IsDiskEnd, StatusHasReason, status_after}
 use Rattle.s80_program.specs.Leaves.{AsksFirst, IsAnswered, ItemLeaves, RunLeaves, TellsDamage, beginning, first_reply, list_after}
 
 -- a run that came to its end
-pub run_done : {T : Type 0} (done : T) (may_leave : Image → Type 0) (now : Shown) (troubled : Bool) (ran : Option RanValue) (changes : List Change) (input before : List ℕ) → Ends (Ok done) may_leave now troubled ran (beginning changes) input before → RunLeaves (status_after (Ok troubled)) may_leave now changes input before
-run_done done may_leave now true ran changes input before h = (ran, h)
-run_done done may_leave now false ran changes input before h = (ran, h)
+done_so : (may_leave : Image → Type 0) (now : Shown) (troubled : Bool) (ran : Option RanValue) (changes : List Change) (input before : List ℕ) → Finished may_leave now (beginning changes) input before troubled ran → RunLeaves (status_after (Ok troubled)) may_leave now changes input before
+done_so may_leave now true ran changes input before h = (ran, h)
+done_so may_leave now false ran changes input before h = (ran, h)
+
+pub run_done : {T : Type 0} (done : T) (may_leave : Image → Type 0) (now : Shown) (past troubled : Bool) (ran : Option RanValue) (changes : List Change) (input before : List ℕ) → past ≡ false → Ends (Ok done) may_leave now past troubled ran (beginning changes) input before → RunLeaves (status_after (Ok troubled)) may_leave now changes input before
+run_done done may_leave now past troubled ran changes input before calm h =
+    let P : Bool → Type 0 = λ b. Finished may_leave now (beginning changes) input before b ran in
+    let same : troubled ≡ h.0 = h.1 ∙ ap (λ b. b || h.0) calm in
+    done_so may_leave now troubled ran changes input before (subst P (sym same) h.2)
 
 -- a run that broke off
-pub run_ended : (T : Type 0) (end : SessionEnd) (may_leave : Image → Type 0) (now : Shown) (troubled : Bool) (ran : Option RanValue) (changes : List Change) (input before : List ℕ) → Ends {T = T} (Err end) may_leave now troubled ran (beginning changes) input before → RunLeaves (status_after (Err end)) may_leave now changes input before
-run_ended T ends.Memory may_leave now troubled ran changes input before h = h
-run_ended T (ends.Read failed) may_leave now troubled ran changes input before h = h
-run_ended T (ends.Write failed) may_leave now troubled ran changes input before h = h
-run_ended T (ends.Disk failed) may_leave now troubled ran changes input before h = h
-run_ended T (ends.Damaged damage) may_leave now troubled ran changes input before h = absurd h
-run_ended T ends.TooLong may_leave now troubled ran changes input before h = h
+pub run_ended : (T : Type 0) (end : SessionEnd) (may_leave : Image → Type 0) (now : Shown) (past troubled : Bool) (ran : Option RanValue) (changes : List Change) (input before : List ℕ) → Ends {T = T} (Err end) may_leave now past troubled ran (beginning changes) input before → RunLeaves (status_after (Err end)) may_leave now changes input before
+run_ended T ends.Memory may_leave now past troubled ran changes input before h = h
+run_ended T (ends.Read failed) may_leave now past troubled ran changes input before h = h
+run_ended T (ends.Write failed) may_leave now past troubled ran changes input before h = h
+run_ended T (ends.Disk failed) may_leave now past troubled ran changes input before h = h
+run_ended T (ends.Damaged damage) may_leave now past troubled ran changes input before h = absurd h
+run_ended T ends.TooLong may_leave now past troubled ran changes input before h = h
 
 answered_ask : (may_leave : Image → Type 0) (now : Shown) (session : Session) (changes : List Change) (ask : Ask) (before : List ℕ) → IsAt may_leave now session (work_after (beginning changes) ask) (before ++ reply_text (first_reply changes ask)) → IsAnswered may_leave now changes ask before
 answered_ask may_leave now session changes ask before h = record {

@@ -156,7 +156,6 @@ fn do_task<O: Outside>(
         → Leaves (command_of task.entry) (status_after result) (O.may_leave outside.new)
         (shown O.tells O.reads O.left O.taken O.told outside.new) changes input before }
     ensures any_moment { (changes : List Change) (input before : List ℕ) → O.left outside.old ≡ Some input
-        → troubled_of session.old ≡ false
         → IsAt (O.may_leave outside.old)
         (shown O.tells O.reads O.left O.taken O.told outside.old) session.old (beginning changes) before
         → LeavesOnly O.moment O.left_since outside.old outside.new (CommandKeeps (command_of task.entry) changes input before) }
@@ -217,7 +216,6 @@ fn run_input<O: Outside>(
         → RunLeaves (status_after result) (O.may_leave outside.new)
         (shown O.tells O.reads O.left O.taken O.told outside.new) changes input before }
     ensures any_moment { (changes : List Change) (input before : List ℕ) → O.left outside.old ≡ Some input
-        → troubled_of session.old ≡ false
         → IsAt (O.may_leave outside.old)
         (shown O.tells O.reads O.left O.taken O.told outside.old) session.old (beginning changes) before
         → LeavesOnly O.moment O.left_since outside.old outside.new (Keeps (beginning changes) input before) }

@@ -74,19 +74,21 @@ pub list_more : (may_leave : Image → Type 0) (now : Shown) (session : Session)
 list_more may_leave now session work put asks ask h = let P : Work → Type 0 = λ w. IsAt may_leave now session w put in subst P (sym (work_after_more work asks ask)) h
 
 -- whether something was refused or stopped by then
-pub troubled_by_now : (work : Work) (asks : List Ask) (ask : Ask) (was troubled : Bool) → was ≡ any_trouble work asks → troubled ≡ (was || is_trouble (reply_to (work_after_all work asks) ask)) → troubled ≡ any_trouble work (asks ++ ask ∷ [])
-troubled_by_now work asks ask was troubled before is = is ∙ ap (λ b. b || is_trouble (reply_to (work_after_all work asks) ask)) before ∙ sym (trouble_more work asks ask)
+pub troubled_by_now : (past : Bool) (work : Work) (asks : List Ask) (ask : Ask) (was troubled : Bool) → was ≡ (past || any_trouble work asks) → troubled ≡ (was || is_trouble (reply_to (work_after_all work asks) ask)) → troubled ≡ (past || any_trouble work (asks ++ ask ∷ []))
+troubled_by_now past work asks ask was troubled before is =
+    let trouble = is_trouble (reply_to (work_after_all work asks) ask) in
+    is ∙ ap (λ b. b || trouble) before ∙ sym (or_assoc past (any_trouble work asks) trouble) ∙ ap (λ b. past || b) (sym (trouble_more work asks ask))
 
 -- an item more that a reader gave is worked and answered
-pub worked_on : (was_left may_leave : Image → Type 0) (mid now : Shown) (at_work session : Session) (had reader : Held) (work : Work) (before bytes : List ℕ) (given : List Item) (item : Item) → (w : IsWorking was_left mid at_work had work before bytes given) → HasRead reader bytes (given ++ item ∷ [])
+pub worked_on : (was_left may_leave : Image → Type 0) (mid now : Shown) (at_work session : Session) (had reader : Held) (past : Bool) (work : Work) (before bytes : List ℕ) (given : List Item) (item : Item) → (w : IsWorking was_left mid at_work had past work before bytes given) → HasRead reader bytes (given ++ item ∷ [])
     → Stepped {T = Unit {0}} (Ok tt) may_leave now session (troubled_of at_work) (work_after_all work w.asks) (before ++ replies work w.asks) (Chunk item)
-    → IsWorking may_leave now session reader work before bytes (given ++ item ∷ [])
-worked_on was_left may_leave mid now at_work session had reader work before bytes given item w read h = record {
+    → IsWorking may_leave now session reader past work before bytes (given ++ item ∷ [])
+worked_on was_left may_leave mid now at_work session had reader past work before bytes given item w read h = record {
   asks = w.asks ++ h.0 ∷ [];
   read = read;
   asked = given_asks_more work given w.asks item h.0 w.asked h.1;
   at = is_at_more may_leave now session work before w.asks h.0 h.3;
-  troubled = troubled_by_now work w.asks h.0 (troubled_of at_work) (troubled_of session) w.troubled h.2;
+  troubled = troubled_by_now past work w.asks h.0 (troubled_of at_work) (troubled_of session) w.troubled h.2;
 }
 
 pub begins : (reader : Held) (ended : Bool) (bytes : List ℕ) (given : List Item) → reader.ended ≡ ended → HasRead reader bytes given → BeginsWith ended bytes given

@@ -1,5 +1,5 @@
 -- What a run leaves: on its disk, of its input and in its output.
-use Rattle.std.specs.Prelude.{◌≡◌, ◌⊎◌, ℕ, ◌^◌, ◌≤◌, Bool, true, false, List, [], ◌∷◌, ◌++◌, length, map, take, Option, Some, Result, Ok, Err}
+use Rattle.std.specs.Prelude.{◌≡◌, ◌⊎◌, ℕ, ◌^◌, ◌≤◌, ◌||◌, Bool, true, false, List, [], ◌∷◌, ◌++◌, length, map, take, Option, Some, Result, Ok, Err}
 use Rattle.s80_chunk.specs.declared.item.Item.{Item}
 use Rattle.s80_chunk.specs.Chunks.{Reads, IsReading, IsBlank}
 use Rattle.s80_chunk.specs.Held.{HoldsNoMore}
@@ -134,15 +134,16 @@ pub record LostDisk (now : Shown) (work : Work) (input before : List ℕ) : Type
   pub first : FirstAsksOf work input asks
   pub taken : now.taken ≡ Some (before ++ replies work asks)
 
--- what a run leaves, by how it ends
-abbrev pub Ends : {T : Type 0} → Result T SessionEnd → (Image → Type 0) → Shown → Bool → Option RanValue → Work → List ℕ → List ℕ → Type 0
-Ends (Ok done) may_leave now troubled ran work input before = Finished may_leave now work input before troubled ran
-Ends (Err ends.Memory) may_leave now troubled ran work input before = BrokeOff may_leave now work input before ⊎ Unevaluated may_leave now work input before
-Ends (Err (ends.Read failed)) may_leave now troubled ran work input before = CutOff may_leave now work input before
-Ends (Err (ends.Write failed)) may_leave now troubled ran work input before = Unanswered may_leave now work input before
-Ends (Err (ends.Disk failed)) may_leave now troubled ran work input before = LostDisk now work input before
-Ends (Err (ends.Damaged damage)) may_leave now troubled ran work input before = ⊥
-Ends (Err ends.TooLong) may_leave now troubled ran work input before = TooLong may_leave now work input before
+-- what a run leaves, by how it ends, with whether something was refused or stopped before it
+abbrev pub Ends : {T : Type 0} → Result T SessionEnd → (Image → Type 0) → Shown → Bool → Bool → Option RanValue → Work → List ℕ → List ℕ → Type 0
+Ends (Ok done) may_leave now past troubled ran work input before =
+    (trouble : Bool) × (troubled ≡ (past || trouble)) × Finished may_leave now work input before trouble ran
+Ends (Err ends.Memory) may_leave now past troubled ran work input before = BrokeOff may_leave now work input before ⊎ Unevaluated may_leave now work input before
+Ends (Err (ends.Read failed)) may_leave now past troubled ran work input before = CutOff may_leave now work input before
+Ends (Err (ends.Write failed)) may_leave now past troubled ran work input before = Unanswered may_leave now work input before
+Ends (Err (ends.Disk failed)) may_leave now past troubled ran work input before = LostDisk now work input before
+Ends (Err (ends.Damaged damage)) may_leave now past troubled ran work input before = ⊥
+Ends (Err ends.TooLong) may_leave now past troubled ran work input before = TooLong may_leave now work input before
 
 -- What a crash leaves at a moment at which so many bytes are told: files that stand for the list after the first items of the input, up
 -- to one at least whose reply is among the bytes told. So no change is answered that a crash takes.

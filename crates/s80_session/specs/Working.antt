@@ -131,13 +131,14 @@ Stepped (Err ends.TooLong) may_leave now session was work put item = ⊥
 abbrev pub HasReadSome : Held → Type 0
 HasReadSome reader = (bytes : List ℕ) × (given : List Item) × HasRead reader bytes given
 
--- of these bytes the reader gave these items, and what each asks was worked and answered
-pub record IsWorking (may_leave : Image → Type 0) (o : Shown) (session : Session) (reader : Held) (work : Work) (before bytes : List ℕ) (given : List Item) : Type 0 where
+-- of these bytes the reader gave these items, and what each asks was worked and answered; past says whether something was refused or stopped
+-- before
+pub record IsWorking (may_leave : Image → Type 0) (o : Shown) (session : Session) (reader : Held) (past : Bool) (work : Work) (before bytes : List ℕ) (given : List Item) : Type 0 where
   pub asks : List Ask
   pub read : HasRead reader bytes given
   pub asked : AllAsk work (chunks given) asks
   pub at : IsAt may_leave o session (work_after_all work asks) (before ++ replies work asks)
-  pub troubled : troubled_of session ≡ any_trouble work asks
+  pub troubled : troubled_of session ≡ (past || any_trouble work asks)
 
 -- these are the first items of the bytes
 abbrev pub BeginsWith : Bool → List ℕ → List Item → Type 0
@@ -163,10 +164,10 @@ BreaksOff (ends.Damaged damage) may_leave now session ended work before bytes = 
 BreaksOff ends.TooLong may_leave now session ended work before bytes = ⊥
 
 -- after all whole items that a reader holds were to be answered
-abbrev pub AnswersAll : {T : Type 0} → Result T SessionEnd → (Image → Type 0) → Shown → Session → Held → Work → List ℕ → List ℕ → Type 0
-AnswersAll (Ok done) may_leave now session reader work before bytes =
-    (given : List Item) × IsWorking may_leave now session reader work before bytes given × HoldsNoMore reader.ended bytes given
-AnswersAll (Err end) may_leave now session reader work before bytes = BreaksOff end may_leave now session reader.ended work before bytes
+abbrev pub AnswersAll : {T : Type 0} → Result T SessionEnd → (Image → Type 0) → Shown → Session → Held → Bool → Work → List ℕ → List ℕ → Type 0
+AnswersAll (Ok done) may_leave now session reader past work before bytes =
+    (given : List Item) × IsWorking may_leave now session reader past work before bytes given × HoldsNoMore reader.ended bytes given
+AnswersAll (Err end) may_leave now session reader past work before bytes = BreaksOff end may_leave now session reader.ended work before bytes
 
 -- after a piece of the input was to be taken: it was fed, and with no byte the input is at its end
 abbrev pub Takes : Result ℕ SessionEnd → Shown → ℕ → Held → List ℕ → List ℕ → List Item → Type 0
@@ -181,15 +182,15 @@ Takes (Err (ends.Disk failed)) now fed reader left bytes given = ⊥
 Takes (Err (ends.Damaged damage)) now fed reader left bytes given = ⊥
 
 -- after the whole input was to be taken: all of it was fed, and what is whole before its end is answered
-pub record AtEnd (may_leave : Image → Type 0) (now : Shown) (session : Session) (reader : Held) (work : Work) (input before : List ℕ) : Type 0 where
+pub record AtEnd (may_leave : Image → Type 0) (now : Shown) (session : Session) (reader : Held) (past : Bool) (work : Work) (input before : List ℕ) : Type 0 where
   pub given : List Item
-  pub working : IsWorking may_leave now session reader work before input given
+  pub working : IsWorking may_leave now session reader past work before input given
   pub left : now.left ≡ Some []
   pub within : length input ≤ input_limit
 
-abbrev pub TakesAll : {T : Type 0} → Result T SessionEnd → (Image → Type 0) → Shown → Session → Held → Work → List ℕ → List ℕ → Type 0
-TakesAll (Ok done) may_leave now session reader work input before = AtEnd may_leave now session reader work input before
-TakesAll (Err end) may_leave now session reader work input before = Ends {T = Unit {0}} (Err end) may_leave now (troubled_of session) (last_run_of session) work input before
+abbrev pub TakesAll : {T : Type 0} → Result T SessionEnd → (Image → Type 0) → Shown → Session → Held → Bool → Work → List ℕ → List ℕ → Type 0
+TakesAll (Ok done) may_leave now session reader past work input before = AtEnd may_leave now session reader past work input before
+TakesAll (Err end) may_leave now session reader past work input before = Ends {T = Unit {0}} (Err end) may_leave now past (troubled_of session) (last_run_of session) work input before
 
 -- what a crash leaves while a change is kept
 abbrev pub KeepLeaves : Work → List ℕ → Change → ℕ → Image → Type 0

@@ -1,5 +1,5 @@
 // The input of a run, taken in pieces and worked item by item.
-ghost use Rattle.std.specs.Prelude.{◌≡◌, ◌+◌, ◌≤◌, ◌<◌, ℕ, List, [], false, true, length, Some, IfOk, OnOk};
+ghost use Rattle.std.specs.Prelude.{◌≡◌, ◌+◌, ◌≤◌, ◌<◌, Bool, ℕ, List, [], false, true, length, Some, IfOk, OnOk};
 ghost use Rattle.s80_chunk.specs.declared.item.Item.{Item};
 ghost use Rattle.s80_chunk.specs.Held.{HasRead, IsSpent, fed};
 ghost use Rattle.s80_session.specs.Ending.{faults, Counts};
@@ -69,14 +69,14 @@ impl Session {
     ) -> Result<(), SessionEnd>
         requires faultless { IsFaultless self.old }
         requires reading { HasReadSome reader.old }
-        ensures answered { (work : Work) (before bytes : List ℕ) (given : List Item)
+        ensures answered { (past : Bool) (work : Work) (before bytes : List ℕ) (given : List Item)
             → IsWorking (O.may_leave outside.old)
-            (shown O.tells O.reads O.left O.taken O.told outside.old) self.old reader.old work before bytes given
+            (shown O.tells O.reads O.left O.taken O.told outside.old) self.old reader.old past work before bytes given
             → AnswersAll result (O.may_leave outside.new)
-            (shown O.tells O.reads O.left O.taken O.told outside.new) self.new reader.new work before bytes }
-        ensures any_moment { (work : Work) (before bytes : List ℕ) (given : List Item)
+            (shown O.tells O.reads O.left O.taken O.told outside.new) self.new reader.new past work before bytes }
+        ensures any_moment { (past : Bool) (work : Work) (before bytes : List ℕ) (given : List Item)
             → IsWorking (O.may_leave outside.old)
-            (shown O.tells O.reads O.left O.taken O.told outside.old) self.old reader.old work before bytes given
+            (shown O.tells O.reads O.left O.taken O.told outside.old) self.old reader.old past work before bytes given
             → LeavesOnly O.moment O.left_since outside.old outside.new (AnswersLeave reader.old.ended work before bytes) }
         ensures left { O.left outside.new ≡ O.left outside.old }
         ensures counts { Counts (faults O.read_faults O.write_faults O.disk_faults outside.old)
@@ -105,14 +105,14 @@ impl Session {
         requires open { reader.old.ended ≡ false }
         requires room { reader.old.room ≡ 4096 }
         requires counted { fed reader.old ≡ 0 }
-        ensures took { (work : Work) (input before : List ℕ) → O.left outside.old ≡ Some input
+        ensures took { (past : Bool) (work : Work) (input before : List ℕ) → O.left outside.old ≡ Some input
             → IsWorking (O.may_leave outside.old)
-            (shown O.tells O.reads O.left O.taken O.told outside.old) self.old reader.old work before [] []
+            (shown O.tells O.reads O.left O.taken O.told outside.old) self.old reader.old past work before [] []
             → TakesAll result (O.may_leave outside.new)
-            (shown O.tells O.reads O.left O.taken O.told outside.new) self.new reader.new work input before }
-        ensures any_moment { (work : Work) (input before : List ℕ) → O.left outside.old ≡ Some input
+            (shown O.tells O.reads O.left O.taken O.told outside.new) self.new reader.new past work input before }
+        ensures any_moment { (past : Bool) (work : Work) (input before : List ℕ) → O.left outside.old ≡ Some input
             → IsWorking (O.may_leave outside.old)
-            (shown O.tells O.reads O.left O.taken O.told outside.old) self.old reader.old work before [] []
+            (shown O.tells O.reads O.left O.taken O.told outside.old) self.old reader.old past work before [] []
             → LeavesOnly O.moment O.left_since outside.old outside.new (Keeps work input before) }
         ensures counts { Counts (faults O.read_faults O.write_faults O.disk_faults outside.old)
             (faults O.read_faults O.write_faults O.disk_faults outside.new) result }
@@ -142,13 +142,11 @@ impl Session {
     ) -> Result<(), SessionEnd>
         requires faultless { IsFaultless self.old }
         ensures ran { (work : Work) (input before : List ℕ) → O.left outside.old ≡ Some input
-            → troubled_of self.old ≡ false
             → IsAt (O.may_leave outside.old)
             (shown O.tells O.reads O.left O.taken O.told outside.old) self.old work before
             → Ends result (O.may_leave outside.new)
-            (shown O.tells O.reads O.left O.taken O.told outside.new) (troubled_of self.new) (last_run_of self.new) work input before }
+            (shown O.tells O.reads O.left O.taken O.told outside.new) (troubled_of self.old) (troubled_of self.new) (last_run_of self.new) work input before }
         ensures any_moment { (work : Work) (input before : List ℕ) → O.left outside.old ≡ Some input
-            → troubled_of self.old ≡ false
             → IsAt (O.may_leave outside.old)
             (shown O.tells O.reads O.left O.taken O.told outside.old) self.old work before
             → LeavesOnly O.moment O.left_since outside.old outside.new (Keeps work input before) }

@@ -18,7 +18,7 @@ returns-in_err-item_for-clause-worked g c = λ changes input before left calm at
     rw (p.1, p.2) (no_memory (item_for (command_of c.args.task)) (g.O.Disk.may_leave c.args.outside.now) (shown g.O.Disk.tells g.O.Disk.reads g.O.Source.left g.O.Sink.taken g.O.Sink.told c.args.outside.now) _ changes input before at left)
 
 pub returns-in_err-item_for-clause-any_moment : goal.returns-in_err-item_for-clause-any_moment
-returns-in_err-item_for-clause-any_moment g c = λ changes input before left calm at.
+returns-in_err-item_for-clause-any_moment g c = λ changes input before left at.
     session_begins g.O.Disk.moment g.O.Disk.left_since (item_for (command_of c.args.task)) changes input before (length before) c.args.outside.now c.args.outside.now refl (nothing_happens g.O.Disk.moment g.O.Disk.left_since _ (shown g.O.Disk.tells g.O.Disk.reads g.O.Source.left g.O.Sink.taken g.O.Sink.told c.args.outside.now) _ c.args.outside.now (beginning changes) before (λ told image left. let x = g.met.O.Disk.only_now c.args.outside.now told image left in (x.0, x.1 ∙ ap (λ b. b.told) (g.met.O.Outside.beside_is c.args.outside.now))) at)
 
 pub returns-in-None-clause-worked : goal.returns-in-None-clause-worked
@@ -27,9 +27,9 @@ returns-in-None-clause-worked g c = λ changes input before left calm at.
     subst P (sym c.in-None.is ∙ c.in_ok-item_for.ensures.item) (c.run_input.ensures.worked changes input before left calm at)
 
 pub returns-in-None-clause-any_moment : goal.returns-in-None-clause-any_moment
-returns-in-None-clause-any_moment g c = λ changes input before left calm at.
+returns-in-None-clause-any_moment g c = λ changes input before left at.
     let P : Option SessionItem → Type 0 = λ i. LeavesOnly g.O.Disk.moment g.O.Disk.left_since c.args.outside.now c.run_input.new.outside (KeepsFor i changes input before) in
-    subst P (sym c.in-None.is ∙ c.in_ok-item_for.ensures.item) (c.run_input.ensures.any_moment changes input before left calm at)
+    subst P (sym c.in-None.is ∙ c.in_ok-item_for.ensures.item) (c.run_input.ensures.any_moment changes input before left at)
 
 pub returns-in-Some-clause-worked : goal.returns-in-Some-clause-worked
 returns-in-Some-clause-worked g c = λ changes input before left calm at.
@@ -37,7 +37,7 @@ returns-in-Some-clause-worked g c = λ changes input before left calm at.
     subst P (sym c.in-Some.is ∙ c.in_ok-item_for.ensures.item) (c.answer_item.ensures.worked changes before calm at, c.answer_item.ensures.left ∙ left)
 
 pub returns-in-Some-clause-any_moment : goal.returns-in-Some-clause-any_moment
-returns-in-Some-clause-any_moment g c = λ changes input before left calm at.
+returns-in-Some-clause-any_moment g c = λ changes input before left at.
     let P : Option SessionItem → Type 0 = λ i. LeavesOnly g.O.Disk.moment g.O.Disk.left_since c.args.outside.now c.answer_item.new.outside (KeepsFor i changes input before) in
     subst P (sym c.in-Some.is ∙ c.in_ok-item_for.ensures.item) (c.answer_item.ensures.any_moment changes before at)
 

@@ -105,7 +105,7 @@ returns-clause-any_moment g c = λ changes input before start stands.
     let at = starts_mid g after changes input before start in
     let same = c.start.ensures.shown in
     goes_on g.O.Disk.moment g.O.Disk.left_since (item_for (command_of c.args.task)) changes input before c.args.outside.now c.start.new.outside c.do_task.new.outside (started g after changes input before start stands)
-    (c.do_task.ensures.any_moment changes input before (ap (λ (o : Shown). o.left) same ∙ at.left) c.in_ok-session.ensures.untroubled (c.in_ok-session.ensures.started changes before at.reads at.taken at.told))
+    (c.do_task.ensures.any_moment changes input before (ap (λ (o : Shown). o.left) same ∙ at.left) (c.in_ok-session.ensures.started changes before at.reads at.taken at.told))
 
 pub returns-clause-found : goal.returns-clause-found
 returns-clause-found g c = λ is tells.

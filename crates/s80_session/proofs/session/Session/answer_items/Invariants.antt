@@ -1,4 +1,4 @@
-use Rattle.std.proofs.Common.{◌≡◌, ℕ, List}
+use Rattle.std.proofs.Common.{Bool, ◌≡◌, ℕ, List}
 use Rattle.s80_chunk.specs.declared.item.Item.{Item}
 use Rattle.s80_chunk.specs.Held.{fed, work_of}
 use Rattle.s80_model.specs.Replies.{Work}
@@ -11,9 +11,9 @@ use Rattle.s80_session.proofs.session.Session.answer_items.Given as goal
 
 abbrev pub invariant-loop-item : goal.invariant-loop-item
 invariant-loop-item g l = record {
-  working : (work : Work) (before bytes : List ℕ) (given : List Item) → IsWorking (g.O.Disk.may_leave l.fn.outside) (shown g.O.Disk.tells g.O.Disk.reads g.O.Source.left g.O.Sink.taken g.O.Sink.told l.fn.outside) l.fn.self l.fn.reader work before bytes given
-      → (now : List Item) × IsWorking (g.O.Disk.may_leave l.outside) (shown g.O.Disk.tells g.O.Disk.reads g.O.Source.left g.O.Sink.taken g.O.Sink.told l.outside) l.self l.reader work before bytes now;
-  run : (work : Work) (before bytes : List ℕ) (given : List Item) → IsWorking (g.O.Disk.may_leave l.fn.outside) (shown g.O.Disk.tells g.O.Disk.reads g.O.Source.left g.O.Sink.taken g.O.Sink.told l.fn.outside) l.fn.self l.fn.reader work before bytes given
+  working : (past : Bool) (work : Work) (before bytes : List ℕ) (given : List Item) → IsWorking (g.O.Disk.may_leave l.fn.outside) (shown g.O.Disk.tells g.O.Disk.reads g.O.Source.left g.O.Sink.taken g.O.Sink.told l.fn.outside) l.fn.self l.fn.reader past work before bytes given
+      → (now : List Item) × IsWorking (g.O.Disk.may_leave l.outside) (shown g.O.Disk.tells g.O.Disk.reads g.O.Source.left g.O.Sink.taken g.O.Sink.told l.outside) l.self l.reader past work before bytes now;
+  run : (past : Bool) (work : Work) (before bytes : List ℕ) (given : List Item) → IsWorking (g.O.Disk.may_leave l.fn.outside) (shown g.O.Disk.tells g.O.Disk.reads g.O.Source.left g.O.Sink.taken g.O.Sink.told l.fn.outside) l.fn.self l.fn.reader past work before bytes given
       → LeavesOnly g.O.Disk.moment g.O.Disk.left_since l.fn.outside l.outside (AnswersLeave l.fn.reader.ended work before bytes);
   reading : HasReadSome l.reader;
   left : g.O.Source.left l.outside ≡ g.O.Source.left l.fn.outside;
