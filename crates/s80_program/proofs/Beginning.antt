@@ -8,7 +8,7 @@ use Rattle.s80_disk.specs.Image.{Image}
 use Rattle.s80_disk.specs.Moments.{LeavesOnly}
 use Rattle.s80_disk.proofs.Run.{joined, weaker}
 use Rattle.s80_mark.specs.Mark.{valid_mark}
-use Rattle.s80_mark.specs.Found.{longer_log}
+use Rattle.s80_mark.specs.Found.{AreLogsEmpty, longer_log}
 use Rattle.s80_keeper.specs.declared.start.Damage.{Damage}
 use Rattle.s80_keeper.specs.declared.start.Damage.TheVariants as damages
 use Rattle.s80_block.specs.Block.{blocks}
@@ -17,7 +17,7 @@ use Rattle.s80_disk.specs.declared.disk.FileId.TheVariants.{Mark, Log0, Log1}
 use Rattle.s80_log.specs.Log.{log_file}
 use Rattle.s80_keeper.specs.Keeper.{KeeperState, Knows}
 use Rattle.s80_keeper.specs.Standing.{FilesStandFor, StandsFor, ReadsFor}
-use Rattle.s80_keeper.specs.Start.{IsDamage}
+use Rattle.s80_keeper.specs.Start.{IsDamage, StartLeaves}
 use Rattle.s80_session.specs.declared.end.SessionEnd.{SessionEnd}
 use Rattle.s80_session.specs.declared.end.SessionEnd.TheVariants as ends
 use Rattle.s80_session.specs.Putting.{IsAsBefore}
@@ -136,6 +136,22 @@ damaged_has_log files (damages.BadMark value) (inr h) = h.1.some
 damaged_has_log files (damages.LogShort marked found) h = h.1.some
 damaged_has_log files (damages.BadBlock place) h = h.3.has_mark.some
 damaged_has_log files (damages.Replay place number) h = h.5.has_mark.some
+
+no_log : (files : Image) → 0 < longer_log files → AreLogsEmpty files → ⊥
+no_log files some empty =
+    let first = ap (λ (l : List ℕ). length l) empty.0 in
+    let second = ap (λ (l : List ℕ). length l) empty.1 in
+    omega (arith, some, first, second)
+
+-- so a crash leaves what it might have left before, while a session starts on them
+pub damaged_lasts : {D : Type 0} (moment : D → ℕ) (left_since : D → ℕ → ℕ → Image → Type 0) (files : Image) (damage : Damage) (before mid_leaves : Image → Type 0) (told_before told_mid : ℕ) (old mid new : D) → IsDamage files damage → ((c : Image) → mid_leaves c → before c) → told_mid ≡ told_before
+    → LeavesOnly moment left_since old mid (IsAsBefore before told_before 0) → LeavesOnly moment left_since mid new (StartLeaves files mid_leaves told_mid) → LeavesOnly moment left_since old new (IsAsBefore before told_before 0)
+damaged_lasts moment left_since files damage before mid_leaves told_before told_mid old mid new damaged less same first second =
+    joined moment left_since old mid new (IsAsBefore before told_before 0) (StartLeaves files mid_leaves told_mid) first second (λ told c h. record {
+      no_fewer = omega (arith, h.told_is, same);
+      no_more = omega (arith, h.told_is, same);
+      was = ⊎_elim (λ was. less c was) (λ empty. absurd (no_log files (damaged_has_log files damage damaged) empty.0)) h.files;
+    })
 
 -- a session that doesn't start on damaged files
 pub tells_damage : (files : Image) (end : SessionEnd) → IsSessionStart files (Err end) → TellsDamage (status_after (Err end))

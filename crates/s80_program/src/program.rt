@@ -79,14 +79,16 @@ pub fn st80<O: Outside>(alloc: Global, words: &[Text], outside: &mut O) -> Statu
         (faults O.read_faults O.write_faults O.disk_faults outside.new)
         → IsWhole result }
 
-    // Damage is answered only where the files have one. Where they have one nothing is put, and no file changes.
+    // Damage is answered only where the files have one. Where they have one nothing is put, no file changes, and a crash at any moment
+    // leaves what it might have left before.
     ensures found { result ≡ Status.Damaged → IsTrue (O.tells outside.old)
         → (damage : Damage) × IsDamage (O.reads outside.old) damage }
     ensures damaged { (folder : List ℕ) (command : Command) (damage : Damage) → Asks words.now folder command
         → IsTrue (O.tells outside.old) → IsDamage (O.reads outside.old) damage
         → TellsDamage result × (shown O.tells O.reads O.left O.taken O.told outside.new
         ≡ record (shown O.tells O.reads O.left O.taken O.told outside.old) { files = O.reads outside.new })
-        × ((file : FileId) → O.reads outside.new file ≡ O.reads outside.old file) }
+        × ((file : FileId) → O.reads outside.new file ≡ O.reads outside.old file)
+        × LeavesOnly O.moment O.left_since outside.old outside.new (IsAsBefore (O.may_leave outside.old) (O.told outside.old) 0) }
 {
     match request_of(words) {
         Some(request) => status_of(work(alloc, request.folder, request.task, outside)),
@@ -115,7 +117,8 @@ fn work<O: Outside>(
     ensures damaged { (damage : Damage) → IsTrue (O.tells outside.old) → IsDamage (O.reads outside.old) damage
         → TellsDamage (status_after result) × (shown O.tells O.reads O.left O.taken O.told outside.new
         ≡ record (shown O.tells O.reads O.left O.taken O.told outside.old) { files = O.reads outside.new })
-        × ((file : FileId) → O.reads outside.new file ≡ O.reads outside.old file) }
+        × ((file : FileId) → O.reads outside.new file ≡ O.reads outside.old file)
+        × LeavesOnly O.moment O.left_since outside.old outside.new (IsAsBefore (O.may_leave outside.old) (O.told outside.old) 0) }
     ensures reason { StatusHasReason (faults O.read_faults O.write_faults O.disk_faults outside.old)
         (faults O.read_faults O.write_faults O.disk_faults outside.new) (status_after result) }
     ensures useful { status_after result ≢ Status.Usage }

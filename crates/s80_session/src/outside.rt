@@ -15,7 +15,7 @@ ghost use Rattle.s80_disk.specs.Moments.{LeavesOnly};
 ghost use Rattle.s80_mark.specs.Found.{longer_log};
 ghost use Rattle.s80_keeper.specs.Keeper.{Keeps, Knows};
 ghost use Rattle.s80_keeper.specs.Standing.{ReadsFor, StandsFor, LeavesEither};
-ghost use Rattle.s80_keeper.specs.Start.{IsStart, Started, IfStartDisk};
+ghost use Rattle.s80_keeper.specs.Start.{IsStart, Started, StartLeaves, IfStartDisk};
 ghost use Rattle.s80_keeper.specs.Answers.{AfterKeeping, IsFor, Kept, IfKeepDisk};
 ghost use Rattle.s80_keeper.specs.Source.{IsThis, after_reading};
 ghost use Rattle.s80_state.specs.List.{state_of};
@@ -44,6 +44,8 @@ pub(crate) fn start_keeper<O: Outside>(alloc: Global, outside: &mut O) -> Result
         ≡ record (faults O.read_faults O.write_faults O.disk_faults outside.old) { disk = O.disk_faults outside.new } }
     ensures any_moment { (changes : List Change) → StandsFor (O.tells outside.old) (O.reads outside.old) (O.may_leave outside.old) changes
         → LeavesOnly O.moment O.left_since outside.old outside.new (HasKept changes (O.told outside.old)) }
+    ensures leaves { IsTrue (O.tells outside.old) → LeavesOnly O.moment O.left_since outside.old outside.new
+        (StartLeaves (O.reads outside.old) (O.may_leave outside.old) (O.told outside.old)) }
     ensures later { O.disk_faults outside.old ≤ O.disk_faults outside.new }
     ensures cause { IfStartDisk result (λ failed. Rose (O.disk_faults outside.old) (O.disk_faults outside.new)) }
 {

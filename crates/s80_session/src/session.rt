@@ -9,6 +9,7 @@ ghost use Rattle.s80_mark.specs.Found.{longer_log};
 ghost use Rattle.s80_state.specs.System.{IsChecked};
 ghost use Rattle.s80_keeper.specs.Keeper.{Knows};
 ghost use Rattle.s80_keeper.specs.Standing.{FilesStandFor, ReadsFor, StandsFor};
+ghost use Rattle.s80_keeper.specs.Start.{StartLeaves};
 ghost use Rattle.s80_model.specs.Replies.{Work};
 ghost use Rattle.s80_model.specs.Section.{section_or};
 ghost use Rattle.s80_session.specs.Ending.{faults, Counts, CountsFor, MeetsNoDamage, NoFewer, SourceCounts, StartsForReason};
@@ -72,6 +73,9 @@ impl Session {
         ensures any_moment { (changes : List Change)
             → StandsFor (O.tells outside.old) (O.reads outside.old) (O.may_leave outside.old) changes
             → LeavesOnly O.moment O.left_since outside.old outside.new (HasKept changes (O.told outside.old)) }
+        // Also where the files are damaged: only of logs that read empty a crash may leave more than before, and then empty ones.
+        ensures leaves { IsTrue (O.tells outside.old) → LeavesOnly O.moment O.left_since outside.old outside.new
+            (StartLeaves (O.reads outside.old) (O.may_leave outside.old) (O.told outside.old)) }
         ensures untouched { IsTrue (O.tells outside.old) → 0 < longer_log (O.reads outside.old)
             → (file : FileId) → O.reads outside.new file ≡ O.reads outside.old file }
         ensures others { (other : FileId) → other ≢ Mark → O.reads outside.new other ≡ O.reads outside.old other }

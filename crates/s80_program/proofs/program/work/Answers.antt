@@ -11,7 +11,7 @@ use Rattle.s80_session.specs.Run.{Shown, shown}
 use Rattle.s80_program.specs.Command.{item_for}
 use Rattle.s80_program.specs.Leaves.{StartsWith, KeepsFor}
 use Rattle.s80_program.specs.Task.{command_of}
-use Rattle.s80_program.proofs.Beginning.{starts_on, stands_on, lost_at_start, no_session, chosen, goes_on, session_begins, damaged_has_log, tells_damage, damage_found, knows_on, shown_but_files, shown_through}
+use Rattle.s80_program.proofs.Beginning.{starts_on, stands_on, lost_at_start, no_session, chosen, goes_on, session_begins, damaged_has_log, damaged_lasts, tells_damage, damage_found, knows_on, shown_but_files, shown_through}
 use Rattle.s80_program.proofs.Ends.{reason_err, later_reason, starts_reason, undamaged, never_usage, disk_undamaged, disk_tells, no_fewer}
 use Rattle.s80_program.proofs.program.work.Goals as goal
 use Rattle.s80_program.proofs.program.work.Goals.{After-open_folder, After-start}
@@ -38,7 +38,7 @@ pub returns-in_err-open_folder-clause-damaged : goal.returns-in_err-open_folder-
 returns-in_err-open_folder-clause-damaged g c = λ damage tells h.
     let p = err_from_is_err_and c.from_residual.result c.from_residual.ensures.1 in
     let same = c.open_folder.ensures.shown in
-    (rw (p.1, p.2) (disk_tells _ c.in_err-open_folder.ensures.disk), shown_but_files (shown g.O.Disk.tells g.O.Disk.reads g.O.Source.left g.O.Sink.taken g.O.Sink.told c.args.outside.now) (shown g.O.Disk.tells g.O.Disk.reads g.O.Source.left g.O.Sink.taken g.O.Sink.told c.open_folder.new.outside) same, λ file. ap (λ (o : Shown). o.files file) same)
+    (rw (p.1, p.2) (disk_tells _ c.in_err-open_folder.ensures.disk), shown_but_files (shown g.O.Disk.tells g.O.Disk.reads g.O.Source.left g.O.Sink.taken g.O.Sink.told c.args.outside.now) (shown g.O.Disk.tells g.O.Disk.reads g.O.Source.left g.O.Sink.taken g.O.Sink.told c.open_folder.new.outside) same, λ file. ap (λ (o : Shown). o.files file) same, c.open_folder.ensures.any_moment)
 
 pub returns-in_err-open_folder-clause-reason : goal.returns-in_err-open_folder-clause-reason
 returns-in_err-open_folder-clause-reason g c =
@@ -83,7 +83,7 @@ returns-in_err-session-clause-damaged g c = λ damage tells h.
     let told = ap (λ (o : Shown). o.tells) same ∙ tells in
     let P : Image → Type 0 = λ files. IsDamage files damage in
     let damaged = subst P (sym (ap (λ (o : Shown). o.files) same)) h in
-    (rw (p.1, p.2) (tells_damage (g.O.Disk.reads c.open_folder.new.outside) c.in_err-session.field-0.0 (c.in_err-session.ensures.answer told)), shown_through (shown g.O.Disk.tells g.O.Disk.reads g.O.Source.left g.O.Sink.taken g.O.Sink.told c.args.outside.now) (shown g.O.Disk.tells g.O.Disk.reads g.O.Source.left g.O.Sink.taken g.O.Sink.told c.open_folder.new.outside) (shown g.O.Disk.tells g.O.Disk.reads g.O.Source.left g.O.Sink.taken g.O.Sink.told c.start.new.outside) same c.start.ensures.shown, λ file. c.start.ensures.untouched told (damaged_has_log (g.O.Disk.reads c.open_folder.new.outside) damage damaged) file ∙ ap (λ (o : Shown). o.files file) same)
+    (rw (p.1, p.2) (tells_damage (g.O.Disk.reads c.open_folder.new.outside) c.in_err-session.field-0.0 (c.in_err-session.ensures.answer told)), shown_through (shown g.O.Disk.tells g.O.Disk.reads g.O.Source.left g.O.Sink.taken g.O.Sink.told c.args.outside.now) (shown g.O.Disk.tells g.O.Disk.reads g.O.Source.left g.O.Sink.taken g.O.Sink.told c.open_folder.new.outside) (shown g.O.Disk.tells g.O.Disk.reads g.O.Source.left g.O.Sink.taken g.O.Sink.told c.start.new.outside) same c.start.ensures.shown, λ file. c.start.ensures.untouched told (damaged_has_log (g.O.Disk.reads c.open_folder.new.outside) damage damaged) file ∙ ap (λ (o : Shown). o.files file) same, damaged_lasts g.O.Disk.moment g.O.Disk.left_since (g.O.Disk.reads c.open_folder.new.outside) damage _ (g.O.Disk.may_leave c.open_folder.new.outside) _ _ c.args.outside.now c.open_folder.new.outside c.start.new.outside damaged c.open_folder.ensures.images (ap (λ (o : Shown). o.told) same) c.open_folder.ensures.any_moment (c.start.ensures.leaves told))
 
 pub returns-in_err-session-clause-reason : goal.returns-in_err-session-clause-reason
 returns-in_err-session-clause-reason g c =
