@@ -17,6 +17,3 @@ fn main(rt: HostRuntime) -> Result<()> {
     }
     Ok(())
 }
-
-#[cfg(test)]
-mod tests;

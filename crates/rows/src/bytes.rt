@@ -1,10 +1,11 @@
-// Bytes as rows spell them: `\n`, `\r`, `\t`, `\f`, `\\` and `\xHH`, and each other character by itself.
-use anyhow::{Result, bail};
+// Bytes as rows spell them: `\n`, `\r`, `\t`, `\f`, `\\` and `\xHH`, `\{N:PART\}` for a part so many times, and each other character by
+// itself.
+use anyhow::{Context, Result, bail};
 use s80_base::{OutOfMemory, Text};
 use std::alloc::Global;
 
 /// The value of a hexadecimal digit.
-fn digit(byte: u8) -> Option<u8> {
+pub(crate) fn digit(byte: u8) -> Option<u8> {
     match byte {
         b'0'..=b'9' => Some(byte - b'0'),
         b'A'..=b'F' => Some(byte - b'A' + 10),
@@ -32,6 +33,22 @@ fn escaped(rest: &[u8]) -> Option<(u8, &[u8])> {
 /// The bytes that a row spells.
 pub(crate) fn read(alloc: Global, spelled: &str) -> Result<Text> {
     let mut bytes = Vec::new(alloc);
+    let mut pieces = spelled.split("\\{");
+    add(&mut bytes, pieces.next().unwrap_or(""))?;
+    for piece in pieces {
+        let (repeated, behind) = piece.split_once("\\}").context("no end of a part")?;
+        let (count, part) = repeated.split_once(':').context("no count of a part")?;
+        let count: u64 = count.parse().with_context(|| count)?;
+        for _ in 0..count {
+            add(&mut bytes, part)?;
+        }
+        add(&mut bytes, behind)?;
+    }
+    Ok(Text::from_vec(bytes))
+}
+
+/// Appends the bytes that a row spells without repeated parts.
+fn add(bytes: &mut Vec<u8>, spelled: &str) -> Result<()> {
     let mut rest = spelled.as_bytes();
     for _ in 0..spelled.len() {
         match rest {
@@ -49,7 +66,7 @@ pub(crate) fn read(alloc: Global, spelled: &str) -> Result<Text> {
             }
         }
     }
-    Ok(Text::from_bytes(alloc, &bytes)?)
+    Ok(())
 }
 
 /// Appends bytes as rows spell them.

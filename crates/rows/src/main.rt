@@ -6,6 +6,7 @@ mod bytes;
 mod changes;
 mod code;
 mod disks;
+mod keepers;
 mod sweeps;
 mod texts;
 mod trial;

@@ -1,8 +1,10 @@
 // Runs that are stopped at each of their calls on the disk, and what is found after crashes.
-use crate::disks::{Ran, planned, run, words};
-use anyhow::{Context, Result, ensure};
+use crate::bytes;
+use crate::disks::{Ran, contents, empty, planned, run, words};
+use anyhow::{Context, Result, bail, ensure};
 use s80_base::{MemSource, Text};
-use s80_disk::{FaultPlan, MemDisk};
+use s80_disk::{FaultPlan, FileId, MemDisk};
+use s80_keeper::Keeper;
 use s80_program::Status;
 use std::alloc::Global;
 
@@ -23,7 +25,18 @@ fn count(alloc: Global, disk: &MemDisk, choice: u64) -> Result<u64> {
 
 /// Runs the chunks of an input over a folder whose calls fail from this one on.
 fn stopped(alloc: Global, disk: &MemDisk, room: usize, call: u64, input: &Text) -> Result<Ran> {
-    let disk = planned(alloc, disk, room, FaultPlan::From(call))?;
+    run_planned(alloc, disk, room, FaultPlan::From(call), input)
+}
+
+/// Runs the chunks of an input over a folder whose calls fail by this plan.
+fn run_planned(
+    alloc: Global,
+    disk: &MemDisk,
+    room: usize,
+    plan: FaultPlan,
+    input: &Text,
+) -> Result<Ran> {
+    let disk = planned(alloc, disk, room, plan)?;
     let source = MemSource::make(alloc, input.bytes(), 4096, &[])?;
     let asked = words(alloc, "st80|F|run")?;
     run(alloc, disk, source, &[], &asked)
@@ -94,4 +107,59 @@ pub(crate) fn sweep_again(
         status = ended;
     }
     Ok((tried, status))
+}
+
+/// What a run writes whose call of some number fails, and a run whose later calls fail too, and how they end: the same for each number
+/// from the first to the last.
+pub(crate) fn faults(
+    alloc: Global,
+    disk: &MemDisk,
+    room: usize,
+    first: u64,
+    last: u64,
+    input: &Text,
+) -> Result<(Text, Status)> {
+    let alone = run_planned(alloc, disk, room, FaultPlan::One(first), input)?;
+    for call in first..=last {
+        for plan in [FaultPlan::One(call), FaultPlan::From(call)] {
+            let ran = run_planned(alloc, disk, room, plan, input)?;
+            ensure!(
+                ran.status == alone.status && ran.written.bytes() == alone.written.bytes(),
+                "call {call} is answered otherwise"
+            );
+        }
+    }
+    Ok((alone.written, alone.status))
+}
+
+/// How many changes are found on the disk that a run in a new folder left, whose one call failed, as it was killed: at a start, and then
+/// after each crash.
+pub(crate) fn killed(alloc: Global, room: usize, call: u64, input: &Text) -> Result<Text> {
+    let disk = empty(alloc, room, FaultPlan::One(call))?;
+    let source = MemSource::make(alloc, input.bytes(), 4096, &[])?;
+    let mut ran = run(alloc, disk, source, &[], &words(alloc, "st80|F|run")?)?;
+    ensure!(ran.status == Status::DiskFault, "no call of the disk fails");
+    let Ok(keeper) = Keeper::start(alloc, &mut ran.disk) else {
+        bail!("no keeper starts");
+    };
+    let found = keeper.count();
+    let line = format!(in alloc; "a start finds {found}, and crashes leave")?;
+    let mut out = Text::from_bytes(alloc, line.as_bytes())?;
+    for choice in CHOICES {
+        let left = count(alloc, &ran.disk, choice)?;
+        out.append(format!(in alloc; " {left}")?.as_bytes())?;
+    }
+    Ok(out)
+}
+
+/// What each crash leaves in a file.
+pub(crate) fn crashes_of(alloc: Global, disk: &MemDisk, room: usize, file: FileId) -> Result<Text> {
+    let mut out = Text::empty(alloc);
+    for choice in CHOICES {
+        out.append(format!(in alloc; "{choice}: ")?.as_bytes())?;
+        let left = disk.crash(alloc, choice)?;
+        bytes::spell(alloc, &mut out, &contents(alloc, &left, room, file)?)?;
+        out.append(b"\n")?;
+    }
+    Ok(out)
 }

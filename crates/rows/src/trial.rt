@@ -1,7 +1,7 @@
 // A folder in memory on which rows work one after the other.
-use crate::bytes;
 use crate::disks::{Ran, contents, empty, file_named, planned, run, words};
-use crate::sweeps::{sweep, sweep_again};
+use crate::sweeps::{crashes_of, faults, killed, sweep, sweep_again};
+use crate::{bytes, keepers};
 use anyhow::{Context, Result, bail};
 use s80_base::{FixedClock, MemSink, MemSource, RepeatSource, Text};
 use s80_disk::{Disk, FaultPlan, FileId, MemDisk, MemOutside};
@@ -51,6 +51,31 @@ fn plan_of(text: &str) -> Result<FaultPlan> {
         Some(("from", number)) => Ok(FaultPlan::From(number.parse()?)),
         _ => bail!("no plan: {text}"),
     }
+}
+
+/// Appends a piece, with a number in place of each `%`.
+fn add_piece(alloc: Global, out: &mut Text, piece: &[u8], number: u64) -> Result<()> {
+    for byte in piece {
+        match byte {
+            b'%' => out.append(format!(in alloc; "{number}")?.as_bytes())?,
+            _ => out.append(&[*byte])?,
+        }
+    }
+    Ok(())
+}
+
+/// A text that repeats a piece: its front, the piece with its number from 0 in place of each `%`, and its end, parted by `|`.
+fn repeated(alloc: Global, count: u64, spelled: &str) -> Result<Text> {
+    let fields = words(alloc, spelled)?;
+    let [front, piece, end] = fields.as_slice() else {
+        bail!("a text has a front, a piece and an end");
+    };
+    let mut text = front.copy(alloc)?;
+    for number in 0..count {
+        add_piece(alloc, &mut text, piece.bytes(), number)?;
+    }
+    text.append(end.bytes())?;
+    Ok(text)
 }
 
 /// Appends what was written, and a `\` behind a last line without its end.
@@ -109,6 +134,8 @@ impl Trial {
             "write" => self.write(alloc, rest)?,
             "mark" => self.mark(alloc, rest)?,
             "cut" => self.cut(alloc, rest)?,
+            "zeros" => self.zeros(alloc, rest)?,
+            "call" => self.call(alloc, rest)?,
             "crash" => {
                 self.disk = self.disk.crash(alloc, number(rest)?.0)?;
             }
@@ -129,14 +156,32 @@ impl Trial {
                 self.run(alloc, &asked, "5!")
             }
             "words" => self.run(alloc, rest, "5!"),
+            "repeat" => self.repeat(alloc, rest),
             "spaces" => self.spaces(alloc, number(rest)?.0),
             "budget" => self.session(alloc, rest),
             "start" => self.start(alloc),
             "show" => self.show(alloc, file_named(rest)?),
+            "length" => self.length(alloc, file_named(rest)?),
             "slot" => self.slot(alloc, number(rest)?.0),
+            _ => self.tried(alloc, word, rest),
+        }
+    }
+
+    /// What a row shows that leaves the folder as it is.
+    fn tried(&self, alloc: Global, word: &str, rest: &str) -> Result<Text> {
+        match word {
             "sweep" => self.sweep(alloc, rest),
             "resweep" => self.resweep(alloc, rest),
-            _ => bail!("no row: {word}"),
+            "faults" => self.faults(alloc, rest),
+            "killed" => {
+                let (call, spelled) = number(rest)?;
+                killed(alloc, self.room, call, &bytes::read(alloc, spelled)?)
+            }
+            "crashes" => crashes_of(alloc, &self.disk, self.room, file_named(rest)?),
+            _ => match keepers::row(alloc, &self.disk, word, rest)? {
+                Some(lines) => Ok(lines),
+                None => bail!("no row: {word}"),
+            },
         }
     }
 
@@ -155,10 +200,34 @@ impl Trial {
     /// Runs the program with these words on this input.
     fn run(&mut self, alloc: Global, asked: &str, input: &str) -> Result<Text> {
         let input = bytes::read(alloc, input)?;
+        self.run_words(alloc, &words(alloc, asked)?, &input)
+    }
+
+    fn run_words(&mut self, alloc: Global, asked: &[Text], input: &Text) -> Result<Text> {
         let disk = planned(alloc, &self.disk, self.room, self.plan)?;
         let source = MemSource::make(alloc, input.bytes(), self.piece.max(1), &self.takes)?;
-        let ran = run(alloc, disk, source, &self.puts, &words(alloc, asked)?)?;
+        let ran = run(alloc, disk, source, &self.puts, asked)?;
         self.end(alloc, ran)
+    }
+
+    /// Works a text that repeats a piece: how often, what is done with it (`run`, `do` or a file's name), and its front, the piece and
+    /// its end, parted by `|`.
+    fn repeat(&mut self, alloc: Global, rest: &str) -> Result<Text> {
+        let (count, rest) = number(rest)?;
+        let (place, spelled) = rest.split_once(' ').context("no place")?;
+        let text = repeated(alloc, count, spelled)?;
+        match place {
+            "run" => self.run_words(alloc, &words(alloc, "st80|F|run")?, &text),
+            "do" => {
+                let mut asked = words(alloc, "st80|F|do")?;
+                asked.push(text)?;
+                self.run_words(alloc, &asked, &Text::empty(alloc))
+            }
+            _ => {
+                self.put(alloc, file_named(place)?, 0, text.bytes())?;
+                Ok(Text::empty(alloc))
+            }
+        }
     }
 
     /// Runs the program on so many spaces.
@@ -216,6 +285,12 @@ impl Trial {
         Ok(out)
     }
 
+    /// How long a file is.
+    fn length(&self, alloc: Global, file: FileId) -> Result<Text> {
+        let length = self.disk.crash(alloc, 1)?.length(file)?;
+        Ok(Text::from_bytes(alloc, format!(in alloc; "{length}")?.as_bytes())?)
+    }
+
     /// Writes bytes to a file, durably: its name, the place, and the bytes.
     fn write(&mut self, alloc: Global, rest: &str) -> Result<()> {
         let (name, rest) = rest.split_once(' ').context("no place")?;
@@ -229,6 +304,31 @@ impl Trial {
         disk.write_at(file, at, bytes)?;
         disk.sync(file)?;
         self.disk = disk;
+        Ok(())
+    }
+
+    /// Writes so many bytes 0 to a file, durably.
+    fn zeros(&mut self, alloc: Global, rest: &str) -> Result<()> {
+        let (name, rest) = rest.split_once(' ').context("no length")?;
+        let zeros = vec![in alloc; 0; number(rest)?.0 as usize]?;
+        self.put(alloc, file_named(name)?, 0, &zeros)
+    }
+
+    /// One call on the disk: `write`, `cut` or `sync`, the file, a place, and the bytes.
+    fn call(&mut self, alloc: Global, rest: &str) -> Result<()> {
+        let (call, rest) = rest.split_once(' ').context("no file")?;
+        let (name, rest) = rest.split_once(' ').context("no place")?;
+        let file = file_named(name)?;
+        let (at, spelled) = number(rest)?;
+        match call {
+            "write" => {
+                let bytes = bytes::read(alloc, spelled)?;
+                self.disk.write_at(file, at, bytes.bytes())?;
+            }
+            "cut" => self.disk.cut(file, at)?,
+            "sync" => self.disk.sync(file)?,
+            _ => bail!("no call: {call}"),
+        }
         Ok(())
     }
 
@@ -267,6 +367,19 @@ impl Trial {
         disk.sync(file)?;
         self.disk = disk;
         Ok(())
+    }
+
+    /// What an input is answered in a run whose call of some number fails, and in one whose later calls fail too, for each number from
+    /// the first to the last.
+    fn faults(&self, alloc: Global, rest: &str) -> Result<Text> {
+        let (first, rest) = number(rest)?;
+        let (last, spelled) = number(rest)?;
+        let input = bytes::read(alloc, spelled)?;
+        let (written, status) = faults(alloc, &self.disk, self.room, first, last, &input)?;
+        let mut out = Text::empty(alloc);
+        add_lines(alloc, &mut out, written.bytes())?;
+        out.append(format!(in alloc; "{status:?}")?.as_bytes())?;
+        Ok(out)
     }
 
     /// Runs an input, stopped at each call up to the last, and tries crashes behind each.

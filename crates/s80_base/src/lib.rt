@@ -12,6 +12,3 @@ pub use memory::{FixedClock, MemSink, MemSource, RepeatSource, copy_from, fault}
 pub use names::{Names, Side};
 pub use outside::{Call, Clock, Failed, Sink, Source};
 pub use text::{OutOfMemory, Text};
-
-#[cfg(test)]
-mod tests;

@@ -11,6 +11,3 @@ pub use block::{block_text, blocks_part_in_one_way, read_change};
 pub use change::{Change, Method};
 pub use first::{FirstBlock, first_block};
 pub use frame::Frame;
-
-#[cfg(test)]
-mod tests;

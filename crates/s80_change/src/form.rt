@@ -51,10 +51,7 @@ pub fn recognise(alloc: Global, tree: &DoItTree) -> Result<Recognised, OutOfMemo
 }
 
 /// The definition whose form a tree is, if it is one.
-pub(crate) fn recognise_definition(
-    alloc: Global,
-    tree: &DoItTree,
-) -> Result<Option<Definition>, OutOfMemory>
+fn recognise_definition(alloc: Global, tree: &DoItTree) -> Result<Option<Definition>, OutOfMemory>
     ensures { IfOk result (IsRecognised (doit_of tree.now)) }
 {
     let Some(form) = only_form(tree) else {

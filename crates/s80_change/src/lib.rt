@@ -16,6 +16,3 @@ pub use name::{is_class_name, is_name};
 pub use names::{joined, split_names};
 pub use read::read_definition;
 pub use refusal::{FitWord, ManyKind, Refusal, Refused, SyntaxKind};
-
-#[cfg(test)]
-mod tests;

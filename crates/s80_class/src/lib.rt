@@ -13,6 +13,3 @@ pub use inherited::{Greatest, Totals};
 pub use laws::{apart_is_not_under, lineage_is_the_line, one_line};
 pub use s80_change::Kind;
 pub use table::ClassTable;
-
-#[cfg(test)]
-mod tests;

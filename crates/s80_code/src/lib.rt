@@ -16,6 +16,3 @@ pub use laws::{
     widths_are_one_to_three,
 };
 pub use listing::disassemble;
-
-#[cfg(test)]
-mod tests;

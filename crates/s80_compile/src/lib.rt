@@ -10,6 +10,3 @@ mod pieces;
 mod special;
 
 pub use method::{compile, compile_doit};
-
-#[cfg(test)]
-mod tests;

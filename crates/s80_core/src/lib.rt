@@ -9,6 +9,3 @@ mod laws;
 pub use core_tree::{Core, CoreMessage, CoreMessages, Cores, Leaf, Variable};
 pub use elaboration::elaborate;
 pub use laws::{a_fitting_tree_has_a_fitting_core, temporaries_are_declarations};
-
-#[cfg(test)]
-mod tests;

@@ -8,8 +8,3 @@ mod table;
 
 pub use dict::{MethodDict, MethodEntry};
 pub use table::MethodTable;
-
-#[cfg(test)]
-mod tests;
-#[cfg(test)]
-mod tests_table;

@@ -19,6 +19,3 @@ pub use memory_outside::MemOutside;
 pub use outside::{Outside, put_output, take_input, time_now};
 pub use plan::FaultPlan;
 pub use real::RealDisk;
-
-#[cfg(test)]
-mod tests;

@@ -5,6 +5,3 @@ mod code;
 mod evaluation;
 
 pub use evaluation::{answer, compile, evaluate, is_stopped};
-
-#[cfg(test)]
-mod tests;

@@ -14,6 +14,3 @@ pub use laws::{
     files_stand_for_one_list,
 };
 pub use start::{Damage, StartFault};
-
-#[cfg(test)]
-mod tests;

@@ -6,6 +6,3 @@ mod text;
 
 pub use rows::{KernelClass, class_rows, is_kernel_class};
 pub use text::kernel_text;
-
-#[cfg(test)]
-mod tests;

@@ -10,6 +10,3 @@ pub use laws::{
     kernel_sources_are_plain, kernel_sources_stand_in_the_text,
 };
 pub use methods::{KernelMethod, find_method, method_rows};
-
-#[cfg(test)]
-mod tests;

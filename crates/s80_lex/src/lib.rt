@@ -19,6 +19,3 @@ pub use laws::one_reading;
 pub use list::{TokenList, tokens};
 pub use number::literal_of_number;
 pub use token::{Token, TokenKind};
-
-#[cfg(test)]
-mod tests;

@@ -8,6 +8,3 @@ mod read;
 pub use laws::{bytes_past_the_mark_say_nothing, files_stand_for_one_list};
 pub use log::{LOG_LIMIT, Log, LogFault};
 pub use read::BlockFault;
-
-#[cfg(test)]
-mod tests;

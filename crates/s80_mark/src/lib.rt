@@ -14,6 +14,3 @@ pub use init::init_mark;
 pub use laws::{mark_stands_in_front, no_mark_where_both_are_closed, one_answer, one_of_two_marks};
 pub use mark::{MarkState, NO_IMAGE};
 pub use read::{Found, MarkFault, read_mark};
-
-#[cfg(test)]
-mod tests;

@@ -8,6 +8,3 @@ mod shape;
 pub use code::compile_source;
 pub use laws::shapes_have_as_many_variables;
 pub use shape::shape_of;
-
-#[cfg(test)]
-mod tests;

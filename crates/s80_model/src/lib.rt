@@ -12,6 +12,3 @@ pub use laws::one_ask;
 pub use reply::{Answer, Reply};
 pub use section::{Section, head_answer, method_of, too_long_answer};
 pub use side::side_named;
-
-#[cfg(test)]
-mod tests;

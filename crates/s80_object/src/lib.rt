@@ -12,6 +12,3 @@ mod value;
 
 pub use objects::Objects;
 pub use value::{BodyKind, ObjectFault, Value};
-
-#[cfg(test)]
-mod tests;

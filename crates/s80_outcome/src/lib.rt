@@ -4,6 +4,3 @@
 mod outcome;
 
 pub use outcome::outcome_text;
-
-#[cfg(test)]
-mod tests;

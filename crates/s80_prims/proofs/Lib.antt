@@ -5,4 +5,3 @@ mod ClassesBodies
 mod PrintFront
 mod PrintBodies
 mod KeptKnown
-mod SeenKnown

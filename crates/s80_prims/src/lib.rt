@@ -15,6 +15,3 @@ pub use integers::{arithmetic, truth};
 pub use laws::primitives_keep_known;
 pub use print::print_value;
 pub use stop::{End, Outcome, Stop};
-
-#[cfg(test)]
-mod tests;

@@ -4,6 +4,3 @@
 mod refusal;
 
 pub use refusal::refusal_text;
-
-#[cfg(test)]
-mod tests;

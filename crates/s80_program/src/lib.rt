@@ -8,6 +8,3 @@ mod words;
 
 pub use program::st80;
 pub use status::Status;
-
-#[cfg(test)]
-mod tests;

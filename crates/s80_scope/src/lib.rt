@@ -15,6 +15,3 @@ pub use names::{
     a_use_has_its_place_alone, bind, places_of_uses_rise, the_innermost_declaration_is_meant,
 };
 pub use shape::{Binding, Bindings, Shape, Where};
-
-#[cfg(test)]
-mod tests;

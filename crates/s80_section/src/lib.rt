@@ -12,6 +12,3 @@ pub use check::{check_source, one_check, size_refusal, syntax_refusal};
 pub use head::{HeadFault, SectionHead, head_of, one_head};
 pub use source_check::{SourceCheck, copy_refusal};
 pub use text::{a_head_text_is_a_head, head_text, one_head_text, read_head};
-
-#[cfg(test)]
-mod tests;

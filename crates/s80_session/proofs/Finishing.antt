@@ -22,15 +22,19 @@ use Rattle.s80_session.proofs.Taking.{answered_all, unevaluated}
 
 -- behind the last item stand separators alone
 clean_end : (may_leave : Image → Type 0) (now : Shown) (session : Session) (reader : Held) (past : Bool) (work : Work) (input before : List ℕ) (given : List Item) → EndsWith rests.Clean input given → IsWorking may_leave now session reader past work before input given → now.left ≡ Some [] → length input ≤ input_limit → Ends {T = Unit {0}} (Ok tt) may_leave now past (troubled_of session) (last_run_of session) work input before
-clean_end may_leave now session reader past work input before given h working left within = (any_trouble work working.asks, working.troubled, record {
-  asks = working.asks;
-  all = (chunks given, (given, h.0, h.1, inl (h.2, refl)), working.asked);
-  within = within;
-  left = left;
-  answered = answered_all may_leave now session work before working.asks working.at;
-  troubled = refl;
-  last_run = sym working.at.last_run;
-})
+clean_end may_leave now session reader past work input before given h working left within = (
+  any_trouble work working.asks,
+  working.troubled,
+  record {
+    asks = working.asks;
+    all = (chunks given, (given, h.0, h.1, inl (h.2, refl)), working.asked);
+    within = within;
+    left = left;
+    answered = answered_all may_leave now session work before working.asks working.at;
+    troubled = refl;
+    last_run = sym working.at.last_run;
+  },
+)
 
 pub ends_clean : (rest : Rest) (may_leave : Image → Type 0) (now : Shown) (session : Session) (reader : Held) (past : Bool) (work : Work) (input before : List ℕ) (given : List Item) → rest ≡ rests.Clean → EndsWith rest input given → IsWorking may_leave now session reader past work before input given → now.left ≡ Some [] → length input ≤ input_limit → Ends {T = Unit {0}} (Ok tt) may_leave now past (troubled_of session) (last_run_of session) work input before
 ends_clean rest may_leave now session reader past work input before given is h = let P : Rest → Type 0 = λ r. EndsWith r input given in clean_end may_leave now session reader past work input before given (subst P is h)
@@ -41,15 +45,19 @@ unended_items input given place h = (given, h.0, h.1, inr (λ blank. blank_only 
 -- within an item
 unended_end : {T : Type 0} (r : Result T SessionEnd) (may_leave : Image → Type 0) (now : Shown) (session : Session) (past was : Bool) (work : Work) (input before : List ℕ) (given : List Item) (asks : List Ask) (place : ℕ) → EndsWith (rests.Unended place) input given → AllAsk work (chunks given) asks → was ≡ (past || any_trouble work asks)
     → Stepped r may_leave now session was (work_after_all work asks) (before ++ replies work asks) Unended → now.left ≡ Some [] → length input ≤ input_limit → Ends r may_leave now past (troubled_of session) (last_run_of session) work input before
-unended_end (Ok done) may_leave now session past was work input before given asks place h asked calm stepped left within = (any_trouble work (asks ++ stepped.0 ∷ []), troubled_by_now past work asks stepped.0 was (troubled_of session) calm stepped.2, record {
-  asks = asks ++ stepped.0 ∷ [];
-  all = (chunks given ++ Unended ∷ [], unended_items input given place h, asks_more work (chunks given) asks Unended stepped.0 asked stepped.1);
-  within = within;
-  left = left;
-  answered = answered_all may_leave now session work before (asks ++ stepped.0 ∷ []) (is_at_more may_leave now session work before asks stepped.0 stepped.3);
-  troubled = refl;
-  last_run = sym (is_at_more may_leave now session work before asks stepped.0 stepped.3).last_run;
-})
+unended_end (Ok done) may_leave now session past was work input before given asks place h asked calm stepped left within = (
+  any_trouble work (asks ++ stepped.0 ∷ []),
+  troubled_by_now past work asks stepped.0 was (troubled_of session) calm stepped.2,
+  record {
+    asks = asks ++ stepped.0 ∷ [];
+    all = (chunks given ++ Unended ∷ [], unended_items input given place h, asks_more work (chunks given) asks Unended stepped.0 asked stepped.1);
+    within = within;
+    left = left;
+    answered = answered_all may_leave now session work before (asks ++ stepped.0 ∷ []) (is_at_more may_leave now session work before asks stepped.0 stepped.3);
+    troubled = refl;
+    last_run = sym (is_at_more may_leave now session work before asks stepped.0 stepped.3).last_run;
+  },
+)
 unended_end (Err ends.Memory) may_leave now session past was work input before given asks place h asked calm (inl at) left within = inl (record {
   asks = asks;
   first = (chunks given, inl (given, h.0, h.1.reads, refl), asked);

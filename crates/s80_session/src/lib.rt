@@ -12,8 +12,3 @@ mod told;
 pub use end::SessionEnd;
 pub use outside::put_all;
 pub use session::Session;
-
-#[cfg(test)]
-mod tests;
-#[cfg(test)]
-mod tests_sections;

@@ -6,6 +6,3 @@ mod unspell;
 
 pub use source::read_source;
 pub use unspell::unspelled;
-
-#[cfg(test)]
-mod tests;

@@ -18,8 +18,3 @@ pub use laws::{
 };
 pub use step::{Placed, PlacedMethod, Step};
 pub use system::System;
-
-#[cfg(test)]
-mod tests_codes;
-#[cfg(test)]
-mod tests_kernel;

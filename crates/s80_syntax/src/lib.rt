@@ -24,6 +24,3 @@ pub use s80_tree::{
     Stmt,
 };
 pub use scope::is_reserved;
-
-#[cfg(test)]
-mod tests;

@@ -6,6 +6,3 @@ mod told;
 
 pub use browse::browse_text;
 pub use told::{classes_text, recovered_text};
-
-#[cfg(test)]
-mod tests;

@@ -8,6 +8,3 @@ mod name;
 pub use expr::{Block, Body, Expr, Exprs, Message, Messages, Primary, Stmt};
 pub use method::{DoItTree, MethodTree};
 pub use name::{NameAt, NamesAt};
-
-#[cfg(test)]
-mod tests;

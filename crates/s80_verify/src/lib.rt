@@ -18,6 +18,3 @@ pub use laws::{depths_verify, one_depth, steps_are_reached, what_is_reached_fits
 pub use selector::parameters_of;
 pub use stack::Stack;
 pub use verified::{Verified, verify};
-
-#[cfg(test)]
-mod tests;

@@ -1,0 +1,128 @@
+// What a keeper has of a folder: the code of its methods, and sources where they stand.
+use crate::bytes;
+use anyhow::{Context, Result, bail};
+use s80_base::{Side, Text};
+use s80_code::Code;
+use s80_dict::MethodEntry;
+use s80_disk::{Disk, FileId, MemDisk};
+use s80_keeper::Keeper;
+use s80_log::Log;
+use s80_source::{read_source, unspelled};
+use s80_state::System;
+use std::alloc::Global;
+
+/// What a row of this module shows, if it is one.
+pub(crate) fn row(alloc: Global, disk: &MemDisk, word: &str, rest: &str) -> Result<Option<Text>> {
+    match word {
+        "code" => Ok(Some(code(alloc, disk, rest)?)),
+        "unspell" => Ok(Some(unspell(alloc, rest)?)),
+        "place" => Ok(Some(place(alloc, disk, rest)?)),
+        "reread" => Ok(Some(reread(alloc, disk, rest)?)),
+        _ => Ok(None),
+    }
+}
+
+/// The class and the side that a word names.
+fn sides(spec: &str) -> (&str, Side) {
+    match spec.strip_suffix(" class") {
+        Some(name) => (name, Side::Class),
+        None => (spec, Side::Instance),
+    }
+}
+
+/// The code of a method, where it is there.
+fn code_at<'a>(
+    system: &'a System,
+    class_name: &Text,
+    side: Side,
+    selector: &Text,
+) -> Option<&'a Code> {
+    let number = system.find(class_name)?;
+    match system.methods().dict(number, side).get(selector) {
+        Some(entry) => Some(entry.code.code()),
+        None => None,
+    }
+}
+
+/// The primitive and the bytes of a method's code: the class and the selector, parted by `|`.
+fn code(alloc: Global, disk: &MemDisk, rest: &str) -> Result<Text> {
+    let (spec, selector) = rest.split_once('|').context("no selector")?;
+    let (name, side) = sides(spec);
+    let name = Text::from_bytes(alloc, name.as_bytes())?;
+    let selector = Text::from_bytes(alloc, selector.as_bytes())?;
+    let Ok(keeper) = Keeper::start(alloc, &mut disk.crash(alloc, 1)?) else {
+        bail!("no keeper starts");
+    };
+    let Some(code) = code_at(keeper.system(), &name, side, &selector) else {
+        return Ok(Text::from_bytes(alloc, b"no method")?);
+    };
+    let line = format!(in alloc; "primitive {}: ", code.primitive)?;
+    let mut out = Text::from_bytes(alloc, line.as_bytes())?;
+    bytes::spell(alloc, &mut out, code.bytes.bytes())?;
+    Ok(out)
+}
+
+/// The text that bytes spell, each of its marks doubled.
+fn unspell(alloc: Global, rest: &str) -> Result<Text> {
+    let mut out = Text::empty(alloc);
+    match unspelled(alloc, bytes::read(alloc, rest)?.bytes())? {
+        Some(text) => bytes::spell(alloc, &mut out, text.bytes())?,
+        None => out.append(b"no text")?,
+    }
+    out.append(b"\n")?;
+    Ok(out)
+}
+
+/// What is read where a source stands: `kernel`, `log0` or `log1`, the place, the size, and how many bytes of the log count.
+fn place(alloc: Global, disk: &MemDisk, rest: &str) -> Result<Text> {
+    let mut fields = rest.split(' ');
+    let file = fields.next().context("no file")?;
+    let position = fields.next().context("no place")?.parse()?;
+    let length = fields.next().context("no size")?.parse()?;
+    let end = fields.next().context("no end")?.parse()?;
+    let log = Log::resume(if file == "log1" { 1 } else { 0 }, end);
+    let entry = MethodEntry {
+        category: Text::empty(alloc),
+        source: Text::empty(alloc),
+        from_kernel: file == "kernel",
+        position,
+        length,
+        code: (),
+    };
+    let mut out = Text::empty(alloc);
+    match read_source(alloc, &mut disk.crash(alloc, 1)?, &log, &entry) {
+        Ok(source) => bytes::spell(alloc, &mut out, source.bytes())?,
+        Err(fault) => out.append(format!(in alloc; "{fault}")?.as_bytes())?,
+    }
+    out.append(b"\n")?;
+    Ok(out)
+}
+
+/// What a keeper that has begun reads of a method's source, once a byte of the first log is another one: the place, the byte, the class
+/// and the selector, parted by `|`.
+fn reread(alloc: Global, disk: &MemDisk, rest: &str) -> Result<Text> {
+    let mut fields = rest.split('|');
+    let at = fields.next().context("no place")?.parse()?;
+    let piece = bytes::read(alloc, fields.next().context("no byte")?)?;
+    let (name, side) = sides(fields.next().context("no class")?);
+    let selector = Text::from_bytes(alloc, fields.next().context("no selector")?.as_bytes())?;
+    let mut disk = disk.crash(alloc, 1)?;
+    let Ok(mut keeper) = Keeper::start(alloc, &mut disk) else {
+        bail!("no keeper starts");
+    };
+    disk.write_at(FileId::Log0, at, piece.bytes())?;
+    let found = keeper
+        .system()
+        .find(&Text::from_bytes(alloc, name.as_bytes())?);
+    let Some(class) = found else {
+        bail!("no class: {name}");
+    };
+    let line = match keeper.source_of(alloc, &mut disk, class, side, &selector) {
+        Ok(Some(source)) => source,
+        Ok(None) => Text::from_bytes(alloc, b"no method")?,
+        Err(fault) => Text::from_bytes(alloc, format!(in alloc; "{fault}")?.as_bytes())?,
+    };
+    let mut out = Text::empty(alloc);
+    bytes::spell(alloc, &mut out, line.bytes())?;
+    Ok(out)
+}

@@ -1,3 +1,0 @@
-// Blocks of changes and the blocks that bytes begin with, by module.
-mod block;
-mod first;

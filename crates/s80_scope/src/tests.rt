@@ -1,3 +1,0 @@
-// What names mean, and what fits, by module.
-mod fit;
-mod names;

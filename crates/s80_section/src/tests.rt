@@ -1,3 +1,0 @@
-// Heads of sections and sources of methods, by module.
-mod heads;
-mod sources;
