@@ -46,7 +46,7 @@ impl Literals {
         }
     }
 
-    /// Adds a literal at the end. After want of memory the list is as before.
+    /// Adds a literal at the end. When out of memory, the list is as before.
     #[tactic(auto, using(crate::proofs::Lists::literals_added))]
     pub fn push(&mut self, literal: Literal) -> Result<(), OutOfMemory>
         ensures ok { OnOk result (literals_of self.new ≡ literals_append (literals_of self.old) (literals (literal_of literal) no_literals)) }

@@ -35,7 +35,7 @@ impl Names {
         }
     }
 
-    /// Adds a name at the end. After want of memory the list is as before.
+    /// Adds a name at the end. When out of memory, the list is as before.
     pub fn push(&mut self, name: Text) -> Result<(), OutOfMemory>
         ensures ok { OnOk result (self.new ≡ self.old ++ name ∷ []) }
         ensures err { OnErr result (self.new ≡ self.old) }

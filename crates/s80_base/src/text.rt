@@ -72,7 +72,7 @@ impl Text {
         &self.bytes
     }
 
-    /// Adds bytes at the end. After want of memory the text is as before.
+    /// Adds bytes at the end. When out of memory, the text is as before.
     pub fn append(&mut self, bytes: &[u8]) -> Result<(), OutOfMemory>
         ensures ok { OnOk result (self.new ≡ self.old ++ bytes.now) }
         ensures err { OnErr result (self.new ≡ self.old) }

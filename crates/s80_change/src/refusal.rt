@@ -110,7 +110,7 @@ impl Refusal {
     }
 }
 
-/// A refusal, or want of memory in place of an answer.
+/// A refusal, or out of memory.
 #[derive(Debug, Drop)]
 pub enum Refused {
     Memory,

@@ -34,7 +34,7 @@ impl Frame {
         }
     }
 
-    /// Adds an entry at the end. After want of memory the frame is as before.
+    /// Adds an entry at the end. When out of memory, the frame is as before.
     pub fn push(&mut self, entry: Entry) -> Result<(), OutOfMemory>
         ensures ok { OnOk result (entries_of self.new ≡ entries_of self.old ++ entry_of entry ∷ []) }
         ensures err { OnErr result (entries_of self.new ≡ entries_of self.old) }

@@ -242,7 +242,7 @@ impl Cores {
         }
     }
 
-    /// Adds a tree at the end. After want of memory the list is as before.
+    /// Adds a tree at the end. When out of memory, the list is as before.
     #[tactic(auto, using(crate::proofs::OpenCores::cores_added))]
     pub(crate) fn push(&mut self, core: Core) -> Result<(), OutOfMemory>
         ensures ok { OnOk result (cores_of self.new ≡ cores_append (cores_of self.old) (cores (core_of core) no_cores)) }
@@ -285,7 +285,7 @@ impl CoreMessages {
         }
     }
 
-    /// Adds a message at the end. After want of memory the list is as before.
+    /// Adds a message at the end. When out of memory, the list is as before.
     #[tactic(auto, using(crate::proofs::OpenCores::sends_added))]
     pub(crate) fn push(&mut self, message: CoreMessage) -> Result<(), OutOfMemory>
         ensures ok { OnOk result (sends_of self.new ≡ sends_append (sends_of self.old) (sends (send_of message).0 (send_of message).1 no_sends)) }

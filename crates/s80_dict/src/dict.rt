@@ -86,7 +86,7 @@ impl<C> MethodDict<C> {
 }
 
 impl<C: Drop> MethodDict<C> {
-    /// Gives a selector room, and leaves the methods. After want of memory nothing is changed.
+    /// Gives a selector room, and leaves the methods. When out of memory, nothing is changed.
     pub fn make_room(&mut self, selector: Text) -> Result<(), OutOfMemory>
         ensures methods { self.new.methods ≡ self.old.methods }
         ensures ok { OnOk result (HasRoom self.new.room selector) }

@@ -49,7 +49,7 @@ impl<C> MethodSides<C> {
 }
 
 impl<C: Drop> MethodSides<C> {
-    /// Gives a selector room on one side. After want of memory nothing is changed.
+    /// Gives a selector room on one side. When out of memory, nothing is changed.
     pub(crate) fn make_room(&mut self, side: Side, selector: Text) -> Result<(), OutOfMemory>
         ensures methods { (s : Side) → (on_side self.new s).methods ≡ (on_side self.old s).methods }
         ensures ok { OnOk result (HasRoom (on_side self.new side).room selector) }

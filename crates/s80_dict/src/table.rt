@@ -74,7 +74,7 @@ impl<C> MethodTable<C> {
 }
 
 impl<C: Drop> MethodTable<C> {
-    /// Makes room for this many more classes. After want of memory nothing is changed.
+    /// Makes room for this many more classes. When out of memory, nothing is changed.
     pub fn reserve(&mut self, n: usize) -> Result<(), OutOfMemory>
         ensures sides { self.new.sides ≡ self.old.sides }
         ensures ok { OnOk result (n ≤ self.new.spare) }
@@ -89,7 +89,7 @@ impl<C: Drop> MethodTable<C> {
         Ok(())
     }
 
-    /// Gives a selector room on one side of a class, and leaves the methods. After want of memory nothing is changed.
+    /// Gives a selector room on one side of a class, and leaves the methods. When out of memory, nothing is changed.
     pub fn make_room(&mut self, number: u32, side: Side, selector: Text) -> Result<(), OutOfMemory>
         requires { number < length self.old.sides }
         ensures count { length self.new.sides ≡ length self.old.sides }

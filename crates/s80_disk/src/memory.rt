@@ -15,7 +15,7 @@ use s80_base::OutOfMemory;
 use std::alloc::Global;
 
 /// A disk in memory. It records each write, cut and sync that it does, and in a `MemOutside` each put.
-/// Its room and its record are taken at once, so no later call wants memory: a write past the room fails,
+/// Its room and its record are taken at once, so no later call allocates: a write past the room fails,
 /// and so does a call that the record has no place for.
 #[derive(Drop)]
 pub struct MemDisk {

@@ -17,7 +17,7 @@ use s80_syntax::{DoItTree, ParseFault, no_fault_beside_a_tree, parse_doit};
 use s80_verify::Verified;
 use std::alloc::Global;
 
-/// The code of a text that fits: nothing but want of memory is in the way.
+/// The code of a text that fits: this fails only when out of memory.
 pub(crate) fn doit_code(alloc: Global, text: &Text) -> Result<Verified, OutOfMemory>
     requires short { length text.now ≤ 65535 }
     requires fits { Fits text.now }

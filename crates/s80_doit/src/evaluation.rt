@@ -22,7 +22,7 @@ use s80_suits::{doit_code_suits, method_code_suits};
 use s80_verify::Verified;
 use std::alloc::Global;
 
-/// The code of a doIt's text: nothing but want of memory is in the way. Among these classes and methods it comes to an end under every
+/// The code of a doIt's text: this fails only when out of memory. Among these classes and methods it comes to an end under every
 /// budget.
 pub fn compile(alloc: Global, system: &System, text: &Text) -> Result<Verified, OutOfMemory>
     requires short { length text.now ≤ 65535 }

@@ -111,7 +111,7 @@ IsTemporarySet (block b h) i v new result = result ≡ Err halt.Stuck
 
 -- ---- ends of runs
 
--- a run has ended so; how it ended is kept outside, which wants memory
+-- a run has ended so; how it ended is kept outside, which allocates
 abbrev pub EndsRun : End → Halt → Type 0
 EndsRun end halt.Memory = Unit {0}
 EndsRun end (halt.Ended told) = told ≡ end

@@ -240,7 +240,7 @@ pub(crate) fn emptied(mut room: Vec<Value>) -> Vec<Value>
     room
 }
 
-// Keeps a room for others. Where memory is wanting, it is let go.
+// Keeps a room for others. When out of memory, it is let go.
 #[inline(always)]
 fn keep_room(rooms: &mut Vec<Vec<Value>>, room: Vec<Value>) {
     let _ = rooms.push(room);

@@ -22,8 +22,8 @@ use s80_syntax::{MethodTree, ParseFault, no_fault_beside_a_tree, parse_method};
 use s80_verify::Verified;
 use std::alloc::Global;
 
-/// The code of a source that fits, as a method of a side of a class. A source that fits does so in every class, so that nothing but
-/// want of memory is in the way.
+/// The code of a source that fits, as a method of a side of a class. A source that fits does so in every class, so that this
+/// fails only when out of memory.
 pub fn compile_source(
     alloc: Global,
     classes: &ClassTable,

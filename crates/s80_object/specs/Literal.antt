@@ -85,7 +85,7 @@ abbrev pub noted : ℕ → ℕ → Bool → Built → State
 noted method entry true b = record b.0 { literals = b.0.literals ++ record { method = method; entry = entry; value = b.1 } ∷ [] }
 noted method entry false b = b.0
 
--- the first push of a literal: its value; or nothing is changed, for want of memory where it fits, or since the words would pass the limit
+-- the first push of a literal: its value; or nothing is changed, when out of memory where it fits, or since the words would pass the limit
 abbrev pub PushesFirst : State → ℕ → ℕ → Bool → Built → State → Result Value ObjectFault → Type 0
 PushesFirst old method entry object b new (Ok v) =
     (v ≡ b.1) × ((new ≡ noted method entry object b) × (words_of b.0.bodies ≤ word_limit))

@@ -34,7 +34,7 @@ no_objects = record { bodies = []; symbols = []; numbers = []; literals = [] }
 abbrev pub with_body : State → BodyTree → State
 with_body s b = record s { bodies = s.bodies ++ b ∷ [] }
 
--- one more body: its value; or nothing is changed, for want of memory where it fits, or since the words would pass the limit
+-- one more body: its value; or nothing is changed, when out of memory where it fits, or since the words would pass the limit
 abbrev pub Makes : State → BodyTree → State → Result Value ObjectFault → Type 0
 Makes old b new (Ok v) = (v ≡ Object (length old.bodies)) × ((new ≡ with_body old b) × (words_of old.bodies + cost b ≤ word_limit))
 Makes old b new (Err Memory) = (new ≡ old) × (words_of old.bodies + cost b ≤ word_limit)

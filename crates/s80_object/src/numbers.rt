@@ -63,7 +63,7 @@ impl Numbers {
         }
     }
 
-    /// The number of a number, which is added where it isn't there. After want of memory nothing is changed.
+    /// The number of a number, which is added where it isn't there. When out of memory, nothing is changed.
     pub(crate) fn number(
         &mut self,
         alloc: Global,

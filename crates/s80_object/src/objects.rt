@@ -227,7 +227,7 @@ impl Objects {
         self.body(v)?.block_parts()
     }
 
-    /// The symbol with this text. After want of memory nothing is changed.
+    /// The symbol with this text. When out of memory, nothing is changed.
     pub fn symbol(&mut self, text: &Text) -> Result<Value, OutOfMemory>
         ensures ok { IfOk result (λ v. (self.new, v) ≡ named text.now self.old) }
         ensures err { OnErr result (self.new ≡ self.old) }

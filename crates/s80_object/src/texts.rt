@@ -47,7 +47,7 @@ impl Texts {
         Some(self.texts.get_index(n as usize)?.as_slice())
     }
 
-    /// The number of a text, which is added where it isn't there. After want of memory nothing is changed.
+    /// The number of a text, which is added where it isn't there. When out of memory, nothing is changed.
     pub(crate) fn number(&mut self, alloc: Global, text: &[u8]) -> Result<u32, OutOfMemory>
         ensures number { IfOk result (λ n. n ≡ position_or_len (bytes_eq text.now) self.old) }
         ensures ok { IfOk result (λ n. self.new ≡ added_once (bytes_eq text.now) text.now self.old) }

@@ -32,7 +32,7 @@ pub enum Applied {
 }
 
 /// Applies the primitive of this number. Those that activate a block or send a message are the machine's own, and fail here.
-/// After want of memory nothing is changed.
+/// When out of memory, nothing is changed.
 pub fn apply(
     alloc: Global,
     n: u8,

@@ -109,7 +109,7 @@ IsWithin Run input = length input ≤ input_limit
 IsWithin (Do text) input = Unit {0}
 IsWithin (Tell query) input = Unit {0}
 
--- where the files at entry are damaged, this is answered, or memory is wanting or a call of the disk fails
+-- where the files at entry are damaged, this is answered, or it is out of memory, or a call of the disk fails
 abbrev pub TellsDamage : Status → Type 0
 TellsDamage status.Damaged = Unit {0}
 TellsDamage status.OutOfMemory = Unit {0}

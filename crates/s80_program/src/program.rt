@@ -70,7 +70,7 @@ pub fn st80<O: Outside>(alloc: Global, words: &[Text], outside: &mut O) -> Statu
         → AllAsks command changes input asks
         → (again : List Ask) × AllAsks command changes input again × PutsFront (O.taken outside.new) changes before again }
 
-    // With no fault and an input within the limit it comes to the end, or memory is wanting.
+    // With no fault and an input within the limit it comes to the end, or is out of memory.
     ensures complete { (folder : List ℕ) (command : Command) (changes : List Change) (input before : List ℕ)
         → Asks words.now folder command
         → StartsWith (O.may_leave outside.old) (shown O.tells O.reads O.left O.taken O.told outside.old) changes input before

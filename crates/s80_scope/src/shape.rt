@@ -36,7 +36,7 @@ impl Bindings {
         }
     }
 
-    /// Adds a class variable at the end. After want of memory the list is as before.
+    /// Adds a class variable at the end. When out of memory, the list is as before.
     pub fn push(&mut self, binding: Binding) -> Result<(), OutOfMemory>
         ensures ok { OnOk result (self.new ≡ self.old ++ binding ∷ []) }
         ensures err { OnErr result (self.new ≡ self.old) }

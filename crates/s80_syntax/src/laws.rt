@@ -14,7 +14,7 @@ pub fn one_tree()
         IsDoItOf text one → IsDoItOf text other → one ≡ other }
 {}
 
-/// A text with a tree has no fault but want of memory.
+/// A text with a tree has no fault but being out of memory.
 pub fn no_fault_beside_a_tree()
     ensures method { (text : List ℕ) (tree : MethodParts) (fault : ParseFault) →
         IsMethodOf text tree → IsFaultOf IsMethodText text fault → fault ≡ Memory }
@@ -22,7 +22,7 @@ pub fn no_fault_beside_a_tree()
         IsDoItOf text tree → IsFaultOf IsDoItText text fault → fault ≡ Memory }
 {}
 
-/// A text has at most one fault beside want of memory, read as a method, and at most one, read as a doIt.
+/// A text has at most one fault beside being out of memory, read as a method, and at most one, read as a doIt.
 pub fn one_fault()
     ensures method { (text : List ℕ) (one other : ParseFault) → one ≢ Memory → other ≢ Memory →
         IsFaultOf IsMethodText text one → IsFaultOf IsMethodText text other → one ≡ other }

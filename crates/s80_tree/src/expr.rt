@@ -149,7 +149,7 @@ impl Exprs {
         }
     }
 
-    /// Adds an expression at the end. After want of memory the list is as before.
+    /// Adds an expression at the end. When out of memory, the list is as before.
     #[tactic(auto, using(crate::proofs::Lists::exprs_added))]
     pub fn push(&mut self, expr: Expr) -> Result<(), OutOfMemory>
         ensures ok { OnOk result (exprs_of self.new ≡ exprs_append (exprs_of self.old) (exprs (expr_of expr) no_exprs)) }
@@ -184,7 +184,7 @@ impl Messages {
         }
     }
 
-    /// Adds a message at the end. After want of memory the list is as before.
+    /// Adds a message at the end. When out of memory, the list is as before.
     #[tactic(auto, using(crate::proofs::Lists::messages_added))]
     pub fn push(&mut self, message: Message) -> Result<(), OutOfMemory>
         ensures ok { OnOk result (messages_of self.new ≡ messages_append (messages_of self.old) (message_trees (message_of message).0 (message_of message).1 no_messages)) }
@@ -219,7 +219,7 @@ impl Body {
         }
     }
 
-    /// Adds a statement at the end. After want of memory the list is as before.
+    /// Adds a statement at the end. When out of memory, the list is as before.
     #[tactic(auto, using(crate::proofs::Lists::body_added))]
     pub fn push(&mut self, stmt: Stmt) -> Result<(), OutOfMemory>
         ensures ok { OnOk result (body_of self.new ≡ body_append (body_of self.old) (stmts (stmt_of stmt).0 (stmt_of stmt).1 no_stmts)) }

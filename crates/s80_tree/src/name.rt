@@ -27,7 +27,7 @@ impl NamesAt {
         }
     }
 
-    /// Adds a name at the end. After want of memory the list is as before.
+    /// Adds a name at the end. When out of memory, the list is as before.
     pub fn push(&mut self, name: NameAt) -> Result<(), OutOfMemory>
         ensures ok { OnOk result (names_of self.new ≡ names_of self.old ++ name ∷ []) }
         ensures err { OnErr result (names_of self.new ≡ names_of self.old) }

@@ -43,7 +43,7 @@ impl Objects {
         self.numbers.truncate(marks.numbers);
     }
 
-    /// The value of a literal, which is noted where it is an object. After want of memory some of it may be made.
+    /// The value of a literal, which is noted where it is an object. When out of memory, some of it may be made.
     pub(super) fn push_first(
         &mut self,
         method: u32,
