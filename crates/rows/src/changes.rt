@@ -152,23 +152,35 @@ fn names(alloc: Global, spelled: &str) -> Result<Text> {
 fn block(alloc: Global, spelled: &str) -> Result<Text> {
     let read = bytes::read(alloc, spelled)?;
     let mut out = Text::empty(alloc);
-    match first_block(alloc, read.bytes())? {
-        FirstBlock::Absent => out.append(b"absent")?,
-        FirstBlock::Unended => out.append(b"unended")?,
-        FirstBlock::Found(change, length) => {
-            add_change(alloc, &mut out, &change)?;
-            let block = read.bytes().get(..length).context("no block")?;
-            ensure!(
-                block_text(alloc, &change)?.bytes() == block,
-                "the change has another block"
-            );
-            let behind = read.bytes().get(length..).context("no block")?;
-            if !behind.is_empty() {
-                add_line(alloc, &mut out, "before ", behind)?;
-            }
-        }
-    }
+    add_first(alloc, &mut out, read.bytes())?;
     Ok(out)
+}
+
+fn add_first(alloc: Global, out: &mut Text, bytes: &[u8]) -> Result<()> {
+    match first_block(alloc, bytes)? {
+        FirstBlock::Absent => Ok(out.append(b"absent")?),
+        FirstBlock::Unended => Ok(out.append(b"unended")?),
+        FirstBlock::Found(change, length) => add_block(alloc, out, &change, bytes, length),
+    }
+}
+
+/// Appends the line of a change whose block takes so many of the bytes, and what stands behind.
+fn add_block(
+    alloc: Global,
+    out: &mut Text,
+    change: &Change,
+    bytes: &[u8],
+    length: usize,
+) -> Result<()> {
+    add_change(alloc, out, change)?;
+    let whole = block_text(alloc, change)?;
+    let block = bytes.get(..length).context("no block")?;
+    ensure!(whole.bytes() == block, "the change has another block");
+    let behind = bytes.get(length..).context("no block")?;
+    if !behind.is_empty() {
+        add_line(alloc, out, "before ", behind)?;
+    }
+    Ok(())
 }
 
 /// Appends the line of a change.

@@ -1,7 +1,4 @@
 // Folders in memory, and runs of the program over them.
-ghost use Rattle.std.specs.Prelude.{◌≡◌, IfOk};
-ghost use Rattle.s80_disk.specs.Memory.{told_by};
-
 use anyhow::{Result, bail};
 use s80_base::{FixedClock, MemSink, OutOfMemory, Source, Text};
 use s80_disk::{Disk, FaultPlan, FileId, MemDisk, MemOutside};
@@ -15,9 +12,7 @@ const CALLS: usize = 4096;
 const MOST_WRITTEN: usize = 1 << 18;
 
 /// A folder of empty files with this room each, whose calls fail by this plan.
-pub(crate) fn empty(alloc: Global, room: usize, plan: FaultPlan) -> Result<MemDisk, OutOfMemory>
-    ensures { IfOk result (λ disk. told_by disk ≡ 0) }
-{
+pub(crate) fn empty(alloc: Global, room: usize, plan: FaultPlan) -> Result<MemDisk, OutOfMemory> {
     let disk = MemDisk::make(alloc, room, CALLS, plan)?;
     Ok(disk)
 }
@@ -63,9 +58,7 @@ pub(crate) fn planned(
     from: &MemDisk,
     room: usize,
     plan: FaultPlan,
-) -> Result<MemDisk>
-    ensures { IfOk result (λ disk. told_by disk ≡ 0) }
-{
+) -> Result<MemDisk> {
     if plan == FaultPlan::Never {
         return Ok(from.crash(alloc, 1)?);
     }
@@ -93,9 +86,7 @@ pub(crate) fn run<S: Source + Drop>(
     source: S,
     failing_puts: &[u64],
     words: &[Text],
-) -> Result<Ran>
-    requires { told_by disk ≡ 0 }
-{
+) -> Result<Ran> {
     let sink = MemSink::make(alloc, MOST_WRITTEN, failing_puts)?;
     let mut outside = MemOutside::make(disk, source, sink, FixedClock { seconds: 0 });
     let status = st80(alloc, words, &mut outside);

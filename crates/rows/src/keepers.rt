@@ -50,10 +50,19 @@ fn code(alloc: Global, disk: &MemDisk, rest: &str) -> Result<Text> {
     let (name, side) = sides(spec);
     let name = Text::from_bytes(alloc, name.as_bytes())?;
     let selector = Text::from_bytes(alloc, selector.as_bytes())?;
-    let Ok(keeper) = Keeper::start(alloc, &mut disk.crash(alloc, 1)?) else {
-        bail!("no keeper starts");
-    };
-    let Some(code) = code_at(keeper.system(), &name, side, &selector) else {
+    let mut copy = disk.crash(alloc, 1)?;
+    let keeper = Keeper::start(alloc, &mut copy)?;
+    code_line(alloc, keeper.system(), &name, side, &selector)
+}
+
+fn code_line(
+    alloc: Global,
+    system: &System,
+    class_name: &Text,
+    side: Side,
+    selector: &Text,
+) -> Result<Text> {
+    let Some(code) = code_at(system, class_name, side, selector) else {
         return Ok(Text::from_bytes(alloc, b"no method")?);
     };
     let line = format!(in alloc; "primitive {}: ", code.primitive)?;
@@ -98,31 +107,54 @@ fn place(alloc: Global, disk: &MemDisk, rest: &str) -> Result<Text> {
     Ok(out)
 }
 
+/// A method, and a byte of the first log that becomes another one.
+#[derive(Clone, Copy)]
+struct Damaged<'a> {
+    at: u64,
+    byte: &'a str,
+    class_name: &'a str,
+    side: Side,
+    selector: &'a str,
+}
+
 /// What a keeper that has begun reads of a method's source, once a byte of the first log is another one: the place, the byte, the class
 /// and the selector, parted by `|`.
 fn reread(alloc: Global, disk: &MemDisk, rest: &str) -> Result<Text> {
     let mut fields = rest.split('|');
     let at = fields.next().context("no place")?.parse()?;
-    let piece = bytes::read(alloc, fields.next().context("no byte")?)?;
-    let (name, side) = sides(fields.next().context("no class")?);
-    let selector = Text::from_bytes(alloc, fields.next().context("no selector")?.as_bytes())?;
-    let mut disk = disk.crash(alloc, 1)?;
-    let Ok(mut keeper) = Keeper::start(alloc, &mut disk) else {
-        bail!("no keeper starts");
+    let byte = fields.next().context("no byte")?;
+    let (class_name, side) = sides(fields.next().context("no class")?);
+    let selector = fields.next().context("no selector")?;
+    let damaged = Damaged {
+        at,
+        byte,
+        class_name,
+        side,
+        selector,
     };
-    disk.write_at(FileId::Log0, at, piece.bytes())?;
-    let found = keeper
-        .system()
-        .find(&Text::from_bytes(alloc, name.as_bytes())?);
-    let Some(class) = found else {
-        bail!("no class: {name}");
+    let mut copy = disk.crash(alloc, 1)?;
+    let mut keeper = Keeper::start(alloc, &mut copy)?;
+    read_again(alloc, &mut keeper, &mut copy, &damaged)
+}
+
+fn read_again(
+    alloc: Global,
+    keeper: &mut Keeper,
+    disk: &mut MemDisk,
+    damaged: &Damaged<'_>,
+) -> Result<Text> {
+    let byte = bytes::read(alloc, damaged.byte)?;
+    disk.write_at(FileId::Log0, damaged.at, byte.bytes())?;
+    let class_name = Text::from_bytes(alloc, damaged.class_name.as_bytes())?;
+    let Some(class) = keeper.system().find(&class_name) else {
+        bail!("no such class");
     };
-    let line = match keeper.source_of(alloc, &mut disk, class, side, &selector) {
-        Ok(Some(source)) => source,
-        Ok(None) => Text::from_bytes(alloc, b"no method")?,
-        Err(fault) => Text::from_bytes(alloc, format!(in alloc; "{fault}")?.as_bytes())?,
-    };
+    let selector = Text::from_bytes(alloc, damaged.selector.as_bytes())?;
     let mut out = Text::empty(alloc);
-    bytes::spell(alloc, &mut out, line.bytes())?;
+    match keeper.source_of(alloc, disk, class, damaged.side, &selector) {
+        Ok(Some(source)) => bytes::spell(alloc, &mut out, source.bytes())?,
+        Ok(None) => out.append(b"no method")?,
+        Err(fault) => out.append(format!(in alloc; "{fault}")?.as_bytes())?,
+    }
     Ok(out)
 }

@@ -31,7 +31,7 @@ pub(crate) fn row(alloc: Global, word: &str, rest: &str) -> Result<Option<Text>>
         "places" => places_line(alloc, rest)?,
         "literals" | "weight" | "fit" => measure_line(alloc, word, &tree_of(alloc, rest)?)?,
         "core" => core_line(alloc, rest)?,
-        "recognise" => recogniser::line(alloc, rest.parse().context("no number of tokens")?)?,
+        "recogniser" => recogniser::line(alloc, rest.parse().context("no number of tokens")?)?,
         _ => return Ok(None),
     }))
 }
@@ -139,7 +139,6 @@ fn tree_of(alloc: Global, rest: &str) -> Result<MethodTree>
 }
 
 /// The tree of a method.
-#[tactic(auto, using(s80_scope::proofs::Apart::method_in_order))]
 fn tree_of_method(alloc: Global, spelled: &str) -> Result<MethodTree>
     ensures { IfOk result (λ tree. AreInOrder (uses_of (method_of tree))) }
 {
@@ -149,7 +148,6 @@ fn tree_of_method(alloc: Global, spelled: &str) -> Result<MethodTree>
 }
 
 /// The tree of a doIt as that of a method.
-#[tactic(auto, using(s80_scope::proofs::Apart::doit_in_order))]
 fn tree_of_doit(alloc: Global, spelled: &str) -> Result<MethodTree>
     ensures { IfOk result (λ tree. AreInOrder (uses_of (method_of tree))) }
 {

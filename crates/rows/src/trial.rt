@@ -1,11 +1,13 @@
 // A folder in memory on which rows work one after the other.
+ghost use Rattle.s80_session.specs.Session.{IsFaultless};
+
 use crate::disks::{Ran, contents, empty, file_named, planned, run, words};
 use crate::sweeps::{crashes_of, faults, killed, sweep, sweep_again};
 use crate::{bytes, keepers};
 use anyhow::{Context, Result, bail};
 use s80_base::{FixedClock, MemSink, MemSource, RepeatSource, Text};
 use s80_disk::{Disk, FaultPlan, FileId, MemDisk, MemOutside};
-use s80_keeper::Keeper;
+use s80_keeper::{Keeper, StartFault};
 use s80_program::Status;
 use s80_session::Session;
 use std::alloc::Global;
@@ -252,9 +254,7 @@ impl Trial {
         let source = MemSource::make(alloc, input.bytes(), self.piece.max(1), &self.takes)?;
         let sink = MemSink::make(alloc, ROOM, &self.puts)?;
         let mut outside = MemOutside::make(disk, source, sink, FixedClock { seconds: 0 });
-        let mut session = Session::start(alloc, &mut outside, budget)?;
-        session.run_items(alloc, &mut outside)?;
-        let ran = run_of(alloc, &session)?;
+        let ran = begin(alloc, &mut outside, budget)?;
         let (disk, _source, sink) = outside.parts();
         let mut out = Text::empty(alloc);
         add_lines(alloc, &mut out, sink.bytes())?;
@@ -266,12 +266,8 @@ impl Trial {
     /// How many changes a keeper finds in the folder, or why it doesn't start.
     fn start(&self, alloc: Global) -> Result<Text> {
         let mut disk = planned(alloc, &self.disk, self.room, self.plan)?;
-        let line = match Keeper::start(alloc, &mut disk) {
-            Ok(keeper) => format!(in alloc;
-                "{} changes, {} bytes",
-                keeper.count(),
-                keeper.log_length()
-            )?,
+        let line = match found(alloc, &mut disk) {
+            Ok((changes, bytes)) => format!(in alloc; "{changes} changes, {bytes} bytes")?,
             Err(fault) => format!(in alloc; "{fault}")?,
         };
         Ok(Text::from_bytes(alloc, line.as_bytes())?)
@@ -339,11 +335,11 @@ impl Trial {
             bail!("a slot has five fields");
         };
         let mut slot = Vec::new(alloc);
-        slot.push(*gate as u8)?;
+        slot.push(u8::try_from(*gate).unwrap_or(0))?;
         slot.extend_from_slice(&sequence.to_be_bytes())?;
-        slot.push(*log as u8)?;
+        slot.push(u8::try_from(*log).unwrap_or(0))?;
         slot.extend_from_slice(&length.to_be_bytes())?;
-        slot.push(*image as u8)?;
+        slot.push(u8::try_from(*image).unwrap_or(0))?;
         self.put(alloc, FileId::Mark, *at, &slot)
     }
 
@@ -406,6 +402,25 @@ fn line_of(alloc: Global, swept: (u64, Status)) -> Result<String> {
     Ok(format!(in alloc;
         "{crashes} crashes lose no answered change; the last run ends with {last:?}"
     )?)
+}
+
+/// How many changes a keeper finds, and how long the log is.
+fn found(alloc: Global, disk: &mut MemDisk) -> Result<(u64, u64), StartFault> {
+    let keeper = Keeper::start(alloc, disk)?;
+    Ok((keeper.count(), keeper.log_length()))
+}
+
+/// A session with this budget, which works the whole input.
+fn begin(alloc: Global, outside: &mut MemOutside<MemSource>, budget: u64) -> Result<String> {
+    let mut session = Session::start(alloc, outside, budget)?;
+    work(alloc, &mut session, outside)
+}
+
+fn work(alloc: Global, session: &mut Session, outside: &mut MemOutside<MemSource>) -> Result<String>
+    requires { IsFaultless session.old }
+{
+    session.run_items(alloc, outside)?;
+    run_of(alloc, session)
 }
 
 /// Whether a session was troubled, and what its last run took of its budget.

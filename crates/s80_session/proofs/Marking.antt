@@ -31,7 +31,7 @@ same_run Unended before now same = same
 same_run (Query query) before now same = same
 
 -- a doIt that was evaluated
-pub ran_last : {E : Type 0} (before mid now : Session) (text : List ℕ) (reply : Reply) → Fits text → IsNoDefinition text → Evaluates {E = E} (Ok reply) mid now text → now ≡ record mid { last_run = last_run_of now } → RunAfter (Chunk (items.Plain text)) before now
+pub ran_last : (before mid now : Session) (text : List ℕ) (reply : Reply) → Fits text → IsNoDefinition text → Evaluates {E = Unit {0}} (Ok reply) mid now text → now ≡ record mid { last_run = last_run_of now } → RunAfter (Chunk (items.Plain text)) before now
 ran_last before mid now text reply fits none h rest =
     let P : Session → Type 0 = λ s. IsRunOf (keeper_of s).system text (budget_of s) h.0 in
     inr (fits, none, h.0, subst P (sym rest) h.2, h.4)

@@ -1,6 +1,6 @@
 // A core tree as a short text: `t`, `i` and a number are temporaries and instance variables.
 use s80_base::{Literal, OutOfMemory, Text};
-use s80_core::{Core, CoreMessage, CoreMessages, Leaf, Variable};
+use s80_core::{Core, CoreMessage, CoreMessages, Cores, Leaf, Variable};
 use std::alloc::Global;
 
 /// A core tree as a short text.
@@ -61,68 +61,81 @@ fn show_leaf(alloc: Global, out: &mut Text, leaf: &Leaf) -> Result<(), OutOfMemo
     }
 }
 
-/// A core tree that has no parts.
-fn show_end(alloc: Global, out: &mut Text, core: &Core) -> Result<(), OutOfMemory> {
-    match core {
-        Core::Leaf(leaf) => show_leaf(alloc, out, leaf),
-        Core::ReturnFixed(number) => out.append(format!(in alloc; "^{number}")?.as_bytes()),
-        _ => out.append(b"nothing"),
-    }
-}
-
-/// The words before the condition and the arm of a choice, a shortcut or a loop.
-fn words_of(core: &Core) -> (&'static [u8], &'static [u8]) {
-    match core {
-        Core::Shortcut { on: true, .. } => (b"and", b" then"),
-        Core::Shortcut { on: false, .. } => (b"or", b" then"),
-        Core::Loop { on: true, .. } => (b"while", b" do"),
-        Core::Loop { on: false, .. } => (b"until", b" do"),
-        Core::OneArm { on: true, .. } | Core::TwoArms { on: true, .. } => (b"if", b" then"),
-        _ => (b"unless", b" then"),
-    }
-}
-
-fn super_word(to_super: bool) -> &'static [u8] {
-    if to_super { b" super" } else { b"" }
+fn word_of<'a>(on: bool, yes: &'a [u8], no: &'a [u8]) -> &'a [u8] {
+    if on { yes } else { no }
 }
 
 #[cycle(shown)]
 fn show(alloc: Global, out: &mut Text, core: &Core) -> Result<(), OutOfMemory> {
-    let words = words_of(core);
     match core {
-        Core::Leaf(_) | Core::Nothing | Core::ReturnFixed(_) => show_end(alloc, out, core),
-        Core::Assign(target, value) => show_assigned(alloc, out, target, value),
+        Core::Leaf(leaf) => show_leaf(alloc, out, leaf),
+        Core::Assign(target, value) => {
+            show_variable(alloc, out, target)?;
+            out.append(b" _ ")?;
+            show(alloc, out, value)
+        }
         Core::Value(value) => show_one(alloc, out, b"value", value),
         Core::Send {
             receiver,
             to_super,
             message,
-        } => show_send(alloc, out, receiver, *to_super, message),
+        } => {
+            show_one(alloc, out, b"", receiver)?;
+            out.append(word_of(*to_super, b" super", b""))?;
+            show_message(alloc, out, message)
+        }
         Core::Cascade {
             receiver,
             to_super,
             messages,
-        } => show_cascade(alloc, out, receiver, *to_super, messages),
+        } => {
+            show_one(alloc, out, b"", receiver)?;
+            out.append(word_of(*to_super, b" super", b""))?;
+            show_messages(alloc, out, messages)
+        }
         Core::RealBlock {
             first,
             parameters,
             body,
-        } => show_block(alloc, out, *first, *parameters, body),
+        } => {
+            out.append(format!(in alloc; "[{first}+{parameters} ")?.as_bytes())?;
+            show(alloc, out, body)?;
+            out.append(b"]")
+        }
         Core::TwoArms {
+            on,
             condition,
             first,
             second,
-            ..
-        } => show_arms(alloc, out, words, condition, first, second),
-        Core::OneArm { condition, arm, .. }
-        | Core::Shortcut { condition, arm, .. }
-        | Core::Loop {
+        } => {
+            show_one(alloc, out, word_of(*on, b"if", b"unless"), condition)?;
+            show_one(alloc, out, b" then", first)?;
+            show_one(alloc, out, b" else", second)
+        }
+        Core::OneArm { on, condition, arm } => {
+            show_one(alloc, out, word_of(*on, b"if", b"unless"), condition)?;
+            show_one(alloc, out, b" then", arm)
+        }
+        Core::Shortcut { on, condition, arm } => {
+            show_one(alloc, out, word_of(*on, b"and", b"or"), condition)?;
+            show_one(alloc, out, b" then", arm)
+        }
+        Core::Loop {
+            on,
             condition,
-            body: arm,
-            ..
-        } => show_two(alloc, out, words, condition, arm),
-        Core::Then(first, second) => show_then(alloc, out, first, second),
+            body,
+        } => {
+            show_one(alloc, out, word_of(*on, b"while", b"until"), condition)?;
+            show_one(alloc, out, b" do", body)
+        }
+        Core::Nothing => out.append(b"nothing"),
+        Core::Then(first, second) => {
+            show(alloc, out, first)?;
+            out.append(b". ")?;
+            show(alloc, out, second)
+        }
         Core::Return(value) => show_one(alloc, out, b"^", value),
+        Core::ReturnFixed(number) => out.append(format!(in alloc; "^{number}")?.as_bytes()),
         Core::Leave(value) => show_one(alloc, out, b"leave", value),
     }
 }
@@ -136,103 +149,29 @@ fn show_one(alloc: Global, out: &mut Text, word: &[u8], core: &Core) -> Result<(
 }
 
 #[cycle(shown)]
-fn show_two(
-    alloc: Global,
-    out: &mut Text,
-    words: (&[u8], &[u8]),
-    condition: &Core,
-    arm: &Core,
-) -> Result<(), OutOfMemory> {
-    show_one(alloc, out, words.0, condition)?;
-    show_one(alloc, out, words.1, arm)
+fn show_message(alloc: Global, out: &mut Text, message: &CoreMessage) -> Result<(), OutOfMemory> {
+    out.append(b" ")?;
+    out.append(message.selector.bytes())?;
+    show_all(alloc, out, &message.arguments)
 }
 
 #[cycle(shown)]
-fn show_arms(
-    alloc: Global,
-    out: &mut Text,
-    words: (&[u8], &[u8]),
-    condition: &Core,
-    first: &Core,
-    second: &Core,
-) -> Result<(), OutOfMemory> {
-    show_two(alloc, out, words, condition, first)?;
-    show_one(alloc, out, b" else", second)
-}
-
-#[cycle(shown)]
-fn show_then(
-    alloc: Global,
-    out: &mut Text,
-    first: &Core,
-    second: &Core,
-) -> Result<(), OutOfMemory> {
-    show(alloc, out, first)?;
-    out.append(b". ")?;
-    show(alloc, out, second)
-}
-
-#[cycle(shown)]
-fn show_assigned(
-    alloc: Global,
-    out: &mut Text,
-    target: &Variable,
-    value: &Core,
-) -> Result<(), OutOfMemory> {
-    show_variable(alloc, out, target)?;
-    out.append(b" _ ")?;
-    show(alloc, out, value)
-}
-
-#[cycle(shown)]
-fn show_block(
-    alloc: Global,
-    out: &mut Text,
-    first: u8,
-    parameters: u8,
-    body: &Core,
-) -> Result<(), OutOfMemory> {
-    out.append(format!(in alloc; "[{first}+{parameters} ")?.as_bytes())?;
-    show(alloc, out, body)?;
-    out.append(b"]")
-}
-
-#[cycle(shown)]
-fn show_send(
-    alloc: Global,
-    out: &mut Text,
-    receiver: &Core,
-    to_super: bool,
-    message: &CoreMessage,
-) -> Result<(), OutOfMemory> {
-    show_one(alloc, out, b"", receiver)?;
-    out.append(super_word(to_super))?;
-    show_message(alloc, out, message)
-}
-
-#[cycle(shown)]
-fn show_cascade(
-    alloc: Global,
-    out: &mut Text,
-    receiver: &Core,
-    to_super: bool,
-    messages: &CoreMessages,
-) -> Result<(), OutOfMemory> {
-    show_one(alloc, out, b"", receiver)?;
-    out.append(super_word(to_super))?;
-    for message in &messages.items {
-        out.append(b";")?;
-        show_message(alloc, out, message)?;
+fn show_all(alloc: Global, out: &mut Text, cores: &Cores) -> Result<(), OutOfMemory> {
+    for core in &cores.items {
+        show_one(alloc, out, b" ", core)?;
     }
     Ok(())
 }
 
 #[cycle(shown)]
-fn show_message(alloc: Global, out: &mut Text, message: &CoreMessage) -> Result<(), OutOfMemory> {
-    out.append(b" ")?;
-    out.append(message.selector.bytes())?;
-    for argument in &message.arguments.items {
-        show_one(alloc, out, b" ", argument)?;
+fn show_messages(
+    alloc: Global,
+    out: &mut Text,
+    messages: &CoreMessages,
+) -> Result<(), OutOfMemory> {
+    for message in &messages.items {
+        out.append(b";")?;
+        show_message(alloc, out, message)?;
     }
     Ok(())
 }

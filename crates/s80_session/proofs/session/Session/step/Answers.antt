@@ -122,7 +122,7 @@ pub returns-in-Silent-clause-last_run : goal.returns-in-Silent-clause-last_run
 returns-in-Silent-clause-last_run g c = run_on c.args.item c.args.self.now c.work.new.self _ c.work.new.self.troubled c.enter.ensures.rest c.work.ensures.last_run
 
 pub returns-in-Silent-clause-troubled : goal.returns-in-Silent-clause-troubled
-returns-in-Silent-clause-troubled g c = silent_trouble _ _ c.args.self.now _ c.work.ensures.taken (still_troubled _ _ Silent refl (ap troubled_of c.enter.ensures.rest ∙ c.work.ensures.troubled))
+returns-in-Silent-clause-troubled g c = silent_trouble _ _ c.args.self.now c.enter.new.self c.work.ensures.taken (still_troubled _ _ Silent refl (ap troubled_of c.enter.ensures.rest ∙ c.work.ensures.troubled))
 
 pub returns-in-Accepted-clause-last_run : goal.returns-in-Accepted-clause-last_run
 returns-in-Accepted-clause-last_run g c = run_on c.args.item c.args.self.now c.work.new.self _ c.work.new.self.troubled c.enter-in-Accepted.ensures.rest c.work.ensures.last_run
