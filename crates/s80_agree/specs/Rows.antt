@@ -1,5 +1,5 @@
--- The compiling table: which code stands for a core tree, on decoded instructions (Blue Book, part four; Krasner).
-use Rattle.std.specs.Prelude.{◌≡◌, ℕ, zero, suc, ◌≤◌, ℤ, pos, ◌+ℤ◌, List, Bool, true, false, slice_get, Option, Some, None}
+-- The compiling table: which code stands for a core tree, each instruction in its shortest spelling (Blue Book, part four; Krasner).
+use Rattle.std.specs.Prelude.{◌≡◌, ℕ, zero, suc, ◌+◌, ℤ, pos, ◌+ℤ◌, List, Bool, true, false, slice_get, slice_range, Option, Some, None}
 use Rattle.s80_base.specs.Literal.{LiteralTree, small, symbol}
 use Rattle.s80_code.specs.declared.instruction.Storage.{Storage}
 use Rattle.s80_code.specs.declared.instruction.Storage.TheVariants.{Receiver, Temporary, Constant, Variable}
@@ -8,6 +8,7 @@ use Rattle.s80_code.specs.declared.instruction.Instruction.TheVariants.{Push, St
 use Rattle.s80_code.specs.Entries as frame
 use Rattle.s80_code.specs.Entries.{EntryTree}
 use Rattle.s80_code.specs.Table.{Stands}
+use Rattle.s80_code.specs.Spelling.{Written, far}
 use Rattle.s80_scope.specs.declared.fit.position.Position.{Position}
 use Rattle.s80_scope.specs.declared.fit.position.Position.TheVariants.{Value, Effect}
 use Rattle.s80_core.specs.Core.{VariableTree, temporary, instance, class_variable, outer, LeafTree, variable, constant, receiver, context, CoreTree, CoreTrees, SendTrees, leaf, assign, value, send, cascade, real_block, two_arms, one_arm, shortcut, repeat, nothing, before, answer, answer_fixed, leave, no_cores, cores, no_sends, sends, count}
@@ -70,7 +71,7 @@ jump_unless false distance = JumpOnTrue distance
 pub record One (bytes : List ℕ) (Is : Instruction → Type 0) (p q : ℕ) : Type 0 where
   pub instruction : Instruction
   pub is : Is instruction
-  pub stands : Stands bytes p instruction q
+  pub stands : Written bytes p instruction q
 
 -- one part after another
 pub record Both (First Second : Part) (p q : ℕ) : Type 0 where
@@ -85,18 +86,25 @@ Empty p q = p ≡ q
 -- after a value: nothing, or a pop
 abbrev pub Ends : List ℕ → Position → Part
 Ends bytes Value p q = p ≡ q
-Ends bytes Effect p q = Stands bytes p Pop q
+Ends bytes Effect p q = Written bytes p Pop q
 
 -- nil, where a value is wanted
 abbrev pub NilFor : List ℕ → Position → Part
-NilFor bytes Value p q = Stands bytes p (PushFixed 3) q
+NilFor bytes Value p q = Written bytes p (PushFixed 3) q
 NilFor bytes Effect p q = p ≡ q
 
 -- a jump of this kind to a place
 pub record JumpsTo (bytes : List ℕ) (jump : ℤ → Instruction) (to p q : ℕ) : Type 0 where
   pub distance : ℤ
-  pub stands : Stands bytes p (jump distance) q
+  pub stands : Written bytes p (jump distance) q
   pub lands : pos to ≡ pos q +ℤ distance
+
+-- a jump ahead to a place by two bytes, however near that is
+pub record JumpsOver (bytes : List ℕ) (to p q : ℕ) : Type 0 where
+  pub distance : ℕ
+  pub stands : Stands bytes p (Jump (pos distance)) q
+  pub here : slice_range bytes p q ≡ far 164 distance
+  pub lands : to ≡ q + distance
 
 -- two arms: the condition, a jump to the second, the first, a jump past the second, the second
 pub record Chooses (bytes : List ℕ) (on : Bool) (Condition First Second : Part) (p q : ℕ) : Type 0 where
@@ -133,10 +141,10 @@ pub record Loops (bytes : List ℕ) (on : Bool) (Condition Body : Part) (positio
 -- pops into the parameters, the last of them first
 abbrev pub Takes : List ℕ → ℕ → ℕ → Part
 Takes bytes first zero p q = p ≡ q
-Takes bytes first (suc n) p q = Both (Takes bytes (suc first) n) (λ m r. Stands bytes m (PopInto (Temporary first)) r) p q
+Takes bytes first (suc n) p q = Both (Takes bytes (suc first) n) (λ m r. Written bytes m (PopInto (Temporary first)) r) p q
 
--- a real block: the context, the number of parameters, 200, a jump by one of the bytes 164 to 167 over the block, its
--- parameters, and its body, which ends itself
+-- a real block: the context, the number of parameters, 200, a jump of two bytes over the block, its parameters, and its
+-- body, which ends itself
 pub record Makes (bytes : List ℕ) (entries : List EntryTree) (first n : ℕ) (Body : Part) (position : Position) (p q : ℕ) : Type 0 where
   pub push : ℕ
   pub copy : ℕ
@@ -144,14 +152,10 @@ pub record Makes (bytes : List ℕ) (entries : List EntryTree) (first n : ℕ) (
   pub start : ℕ
   pub body_at : ℕ
   pub after : ℕ
-  pub byte : ℕ
-  pub context : Stands bytes p PushContext push
+  pub context : Written bytes p PushContext push
   pub parameters : One bytes (Pushes entries (constant (small (pos n)))) push copy
-  pub copies : Stands bytes copy (SendSpecial 24) jump
-  pub over : JumpsTo bytes Jump after jump start
-  pub begun : slice_get bytes jump ≡ Some byte
-  pub low : 164 ≤ byte
-  pub high : byte ≤ 167
+  pub copies : Written bytes copy (SendSpecial 24) jump
+  pub over : JumpsOver bytes after jump start
   pub takes : Takes bytes first n start body_at
   pub body : Body body_at after
   pub ending : Ends bytes position after q
@@ -177,13 +181,13 @@ module _ (bytes : List ℕ) (entries : List EntryTree) where
     At (one_arm on c a) Value p q = Chooses bytes on (At c Value) (At a Value) (NilFor bytes Value) p q
     At (one_arm on c a) Effect p q = Skips bytes on (At c Value) (At a Effect) p q
     At (shortcut on c a) position p q =
-        Both (Chooses bytes on (At c Value) (At a Value) (λ m r. Stands bytes m (PushFixed (shortcut_number on)) r)) (Ends bytes position) p q
+        Both (Chooses bytes on (At c Value) (At a Value) (λ m r. Written bytes m (PushFixed (shortcut_number on)) r)) (Ends bytes position) p q
     At (repeat on c e) position p q = Loops bytes on (At c Value) (At e Effect) position p q
     At nothing position p q = NilFor bytes position p q
     At (before a b) position p q = Both (At a Effect) (At b position) p q
-    At (answer e) position p q = Both (At e Value) (λ m r. Stands bytes m ReturnTop r) p q
-    At (answer_fixed n) position p q = Stands bytes p (ReturnFixed n) q
-    At (leave e) position p q = Both (At e Value) (λ m r. Stands bytes m ReturnFromBlock r) p q
+    At (answer e) position p q = Both (At e Value) (λ m r. Written bytes m ReturnTop r) p q
+    At (answer_fixed n) position p q = Written bytes p (ReturnFixed n) q
+    At (leave e) position p q = Both (At e Value) (λ m r. Written bytes m ReturnFromBlock r) p q
 
     -- arguments
     pub AllAt : CoreTrees → ℕ → ℕ → Type 0
@@ -195,5 +199,5 @@ module _ (bytes : List ℕ) (entries : List EntryTree) where
     SendsAt to_super no_sends p q = p ≡ q
     SendsAt to_super (sends s es no_sends) p q = Both (AllAt es) (One bytes (SendsTo entries to_super s (count es))) p q
     SendsAt to_super (sends s es ms) p q =
-        Both (λ m r. Stands bytes m Duplicate r)
-        (Both (AllAt es) (Both (One bytes (SendsTo entries to_super s (count es))) (Both (λ m r. Stands bytes m Pop r) (SendsAt to_super ms)))) p q
+        Both (λ m r. Written bytes m Duplicate r)
+        (Both (AllAt es) (Both (One bytes (SendsTo entries to_super s (count es))) (Both (λ m r. Written bytes m Pop r) (SendsAt to_super ms)))) p q

@@ -1,4 +1,5 @@
 pub mod ByWidth
 pub mod Entries
 pub mod Listing
+pub mod Spelling
 pub mod Table
