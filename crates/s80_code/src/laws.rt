@@ -1,6 +1,8 @@
 // Laws of the table, for the crates above.
 ghost use Rattle.std.specs.Prelude.{◌≡◌, ℕ, ◌-◌, ◌<◌, ◌≤◌, ◌⊎◌, ◌↔◌, List, ◌∷◌, ◌++◌, true, false, Some, None, IsSome, length, take, slice_get, slice_range};
 ghost use Rattle.s80_code.specs.declared.instruction.Instruction.{Instruction};
+ghost use Rattle.std.specs.List.{All};
+ghost use Rattle.s80_code.specs.Spelling.{IsSpellable, spelled};
 ghost use Rattle.s80_code.specs.Table.{Row, rows, formed, decoded, width_of, is_unused, Stands};
 
 /// An instruction has one to three bytes.
@@ -46,4 +48,17 @@ pub fn a_place_and_the_next()
         → (at < next) × (next ≤ length bytes)
         × ((other : List ℕ) → slice_range other at next ≡ slice_range bytes at next
         → Stands other at instruction next) }
+{}
+
+/// What is spelled is decoded, whatever follows.
+pub fn what_is_spelled_is_decoded()
+    ensures { (instruction : Instruction) (rest : List ℕ) → IsSpellable instruction
+        → decoded (spelled instruction ++ rest) ≡ Some (instruction, length (spelled instruction)) }
+{}
+
+/// What is decoded from bytes has a spelling, and none is shorter.
+pub fn a_spelling_is_the_shortest()
+    ensures { (bytes : List ℕ) (instruction : Instruction) (width : ℕ) → All (λ b. b < 256) bytes
+        → decoded bytes ≡ Some (instruction, width)
+        → IsSpellable instruction × (length (spelled instruction) ≤ width) }
 {}
