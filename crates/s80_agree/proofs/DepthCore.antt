@@ -90,15 +90,11 @@ module _ (code : Code) (room : Stack → ℕ) (specials : Specials) (few : code.
         (omega (arith, r.here)) (omega (arith, r.inside)) ranged
         (record {
           count = a.parameters.instruction;
-          byte = a.byte;
-          context = a.context;
-          pushes = a.parameters.stands;
+          context = a.context.stands;
+          pushes = a.parameters.stands.stands;
           is_count = count_pushes code room n a.parameters.instruction stack a.push (omega (arith, ranged, few)) a.parameters.is;
-          copies = a.copies;
+          copies = a.copies.stands;
           over = a.over;
-          begun = a.begun;
-          low = a.low;
-          high = a.high;
         })
         a.takes
         (finish_part true e a.body_at a.after OfBlock 0 (λ h. refl)
@@ -144,7 +140,7 @@ module _ (code : Code) (room : Stack → ℕ) (specials : Specials) (few : code.
         (room_first room stack depth (needs a) (at_least 1) (room_second room stack depth (needs c) (greatest (needs a) (at_least 1)) r)) range_a sent_a
         (λ h. owner (or_right (goes_to_super c) (goes_to_super a) h)) ended_a t.first.first)
         t.first.past
-        (fixed_part code room (shortcut_number on) stack depth t.first.second_at t.mid t.first.second (omega (arith, r.one))))
+        (fixed_part code room (shortcut_number on) stack depth t.first.second_at t.mid t.first.second.stands (omega (arith, r.one))))
         (ending_part code room position stack depth t.mid q t.second r.one)
     core_part (repeat on c e) position p q stack depth r (range, range_e) (sent, sent_e) owner (ended, ended_e) t =
         loops code room on stack depth (left position depth) p t.test t.body_at t.over t.done q r.one
@@ -166,10 +162,10 @@ module _ (code : Code) (room : Stack → ℕ) (specials : Specials) (few : code.
     core_part (answer e) position p q stack depth r range sent owner ended t =
         needing code room (ends stack (left position depth) q) (ends stack (left position depth) q) (λ all need. tt) (λ all need. tt)
         (then code room (core_part e Value p t.mid stack depth r range sent owner ended t.first)
-        (top_part stack depth t.mid q t.second r.one) (λ all need. tt))
+        (top_part stack depth t.mid q t.second.stands r.one) (λ all need. tt))
     core_part (answer_fixed n) position p q stack depth r range sent owner ended s =
         needing code room (ends stack (left position depth) q) (ends stack (left position depth) q) (λ all need. tt) (λ all need. tt)
-        (stops code room (record { stands = s; enough = omega arith; fits = omega (arith, r.one); differs = λ e. cc; suits = tt }) refl refl)
+        (stops code room (record { stands = s.stands; enough = omega arith; fits = omega (arith, r.one); differs = λ e. cc; suits = tt }) refl refl)
     core_part (leave e) position p q stack depth r range sent owner ended a = absurd ended
 
     pub finish_part : (in_block : Bool) (c : CoreTree) (p q : ℕ) (stack : Stack) (depth : ℕ) → (in_block ≡ true → stack ≡ OfBlock)
@@ -183,12 +179,12 @@ module _ (code : Code) (room : Stack → ℕ) (specials : Specials) (few : code.
         (λ h. owner (or_right (goes_to_super a) (goes_to_super b) h)) ended_b t.second)
         (λ all need. tt)
     finish_part in_block (answer e) p q stack depth own r range sent owner ended t =
-        then code room (core_part e Value p t.mid stack depth r range sent owner ended t.first) (top_part stack depth t.mid q t.second r.one) (λ all need. tt)
+        then code room (core_part e Value p t.mid stack depth r range sent owner ended t.first) (top_part stack depth t.mid q t.second.stands r.one) (λ all need. tt)
     finish_part in_block (answer_fixed n) p q stack depth own r range sent owner ended s =
-        stops code room (record { stands = s; enough = omega arith; fits = omega (arith, r.one); differs = λ e. cc; suits = tt }) refl refl
+        stops code room (record { stands = s.stands; enough = omega arith; fits = omega (arith, r.one); differs = λ e. cc; suits = tt }) refl refl
     finish_part true (leave e) p q stack depth own r range sent owner ended t =
         then code room (core_part e Value p t.mid stack depth r range sent owner ended t.first)
-        (stops code room (record { stands = t.second; enough = omega arith; fits = r.one; differs = λ e. cc; suits = own refl }) refl refl) (λ all need. tt)
+        (stops code room (record { stands = t.second.stands; enough = omega arith; fits = r.one; differs = λ e. cc; suits = own refl }) refl refl) (λ all need. tt)
     finish_part false (leave e) p q stack depth own r range sent owner ended t = absurd ended
     finish_part in_block (leaf l) p q stack depth own r range sent owner ended t = absurd ended
     finish_part in_block (assign v e) p q stack depth own r range sent owner ended t = absurd ended
@@ -229,7 +225,7 @@ module _ (code : Code) (room : Stack → ℕ) (specials : Specials) (few : code.
     sends_part (sends s es (sends s2 es2 ms)) to_super p q stack depth r (range, more) ((sent, is), sents) super owner (ended, all_ended) t =
         both code room
         (straight code room (suc (suc depth))
-        (record { stands = t.first; enough = omega arith; fits = r.one; differs = λ e. cc; suits = tt }) refl (omega arith))
+        (record { stands = t.first.stands; enough = omega arith; fits = r.one; differs = λ e. cc; suits = tt }) refl (omega arith))
         (both code room
         (all_part es t.mid t.second.mid stack depth 2 (suc (suc depth)) (suc (suc depth) + count es) (omega arith) refl (omega (arith, r.here)) (omega (arith, r.inside))
         range sent (λ h. owner (or_left (any_to_super es) (sends_to_super (sends s2 es2 ms)) h)) ended t.second.first)
@@ -238,7 +234,7 @@ module _ (code : Code) (room : Stack → ℕ) (specials : Specials) (few : code.
         (omega (arith, r.here, args_room 2 es)) is super t.second.second.first)
         (both code room
         (straight code room (suc depth)
-        (record { stands = t.second.second.second.first; enough = omega arith; fits = omega (arith, r.here, args_room 2 es); differs = λ e. cc; suits = tt }) refl (omega arith))
+        (record { stands = t.second.second.second.first.stands; enough = omega arith; fits = omega (arith, r.here, args_room 2 es); differs = λ e. cc; suits = tt }) refl (omega arith))
         (sends_part (sends s2 es2 ms) to_super t.second.second.second.mid q stack depth
         (room_second room stack depth (needs_all 2 es) (needs_sends (sends s2 es2 ms)) r) more sents super
         (λ h. owner (or_right (any_to_super es) (sends_to_super (sends s2 es2 ms)) h)) all_ended t.second.second.second.second))))

@@ -30,5 +30,5 @@ module _ (bytes : List ℕ) (entries : List EntryTree) where
   begins_fixed nothing position p q a less = absurd (omega (arith, less))
   begins_fixed (before a b) position p q t less = begins_fixed a Effect p t.mid t.first (omega (arith, less))
   begins_fixed (answer e) position p q t less = begins_fixed e Value p t.mid t.first less
-  begins_fixed (answer_fixed n) position p q s less = record { number = n; behind = q; stands = s }
+  begins_fixed (answer_fixed n) position p q s less = record { number = n; behind = q; stands = s.stands }
   begins_fixed (leave e) position p q t less = begins_fixed e Value p t.mid t.first less

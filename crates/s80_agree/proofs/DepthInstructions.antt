@@ -62,12 +62,12 @@ module _ (code : Code) (room : Stack → ℕ) where
   pub leaf_part : (l : LeafTree) (stack : Stack) (depth p q : ℕ) → AreInRange code.temporaries (leaf l) → One code.bytes (Pushes (entries_of code.literals) l) p q
       → depth ≤ room stack → Part code room stack depth (suc depth) p q
   leaf_part (variable v) stack depth p q range o fits =
-      let (s, is, holds) = o.is in push_part s stack depth p q (readable v s range holds) (stands_as o.instruction (Push s) p q is o.stands) fits
-  leaf_part (constant v) stack depth p q range o fits = constant_part v (fixed_number v) o.instruction stack depth p q o.is o.stands fits
-  leaf_part receiver stack depth p q range o fits = fixed_part 0 stack depth p q (stands_as o.instruction (PushFixed 0) p q o.is o.stands) fits
+      let (s, is, holds) = o.is in push_part s stack depth p q (readable v s range holds) (stands_as o.instruction (Push s) p q is o.stands.stands) fits
+  leaf_part (constant v) stack depth p q range o fits = constant_part v (fixed_number v) o.instruction stack depth p q o.is o.stands.stands fits
+  leaf_part receiver stack depth p q range o fits = fixed_part 0 stack depth p q (stands_as o.instruction (PushFixed 0) p q o.is o.stands.stands) fits
   leaf_part context stack depth p q range o fits =
       straight code room (suc depth)
-      (record { stands = stands_as o.instruction PushContext p q o.is o.stands; enough = omega arith; fits = fits; differs = λ e. cc; suits = tt }) refl (omega arith)
+      (record { stands = stands_as o.instruction PushContext p q o.is o.stands.stands; enough = omega arith; fits = fits; differs = λ e. cc; suits = tt }) refl (omega arith)
 
   -- the number of a block's parameters
   pub count_pushes : (n : ℕ) (i : Instruction) (stack : Stack) (at : ℕ) → n ≤ 31 → Pushes (entries_of code.literals) (constant (small (pos n))) i → IsCount code room i stack at n
@@ -86,12 +86,12 @@ module _ (code : Code) (room : Stack → ℕ) where
   store_part v Value stack depth p q range o fits =
       let (s, is, holds) = o.is in
       straight code room (suc depth)
-      (record { stands = stands_as o.instruction (Store s) p q is o.stands; enough = omega arith; fits = fits; differs = λ e. cc; suits = writable v s range holds })
+      (record { stands = stands_as o.instruction (Store s) p q is o.stands.stands; enough = omega arith; fits = fits; differs = λ e. cc; suits = writable v s range holds })
       refl (omega arith)
   store_part v Effect stack depth p q range o fits =
       let (s, is, holds) = o.is in
       straight code room depth
-      (record { stands = stands_as o.instruction (PopInto s) p q is o.stands; enough = omega arith; fits = fits; differs = λ e. cc; suits = writable v s range holds })
+      (record { stands = stands_as o.instruction (PopInto s) p q is o.stands.stands; enough = omega arith; fits = fits; differs = λ e. cc; suits = writable v s range holds })
       refl (omega arith)
 
   pub send_part : Specials → (to_super : Bool) (s : List ℕ) (n : ℕ) (stack : Stack) (base depth p q : ℕ) → depth ≡ suc base + n → depth ≤ room stack
@@ -108,7 +108,7 @@ module _ (code : Code) (room : Stack → ℕ) where
       by_own true number owned e found =
           straight code room (suc base)
           (record {
-            stands = stands_as o.instruction (SendSuper n number) p q e o.stands;
+            stands = stands_as o.instruction (SendSuper n number) p q e o.stands.stands;
             enough = omega (arith, is);
             fits = fits;
             differs = λ e. cc;
@@ -117,7 +117,7 @@ module _ (code : Code) (room : Stack → ℕ) where
       by_own false number owned e found =
           straight code room (suc base)
           (record {
-            stands = stands_as o.instruction (Send n number) p q e o.stands;
+            stands = stands_as o.instruction (Send n number) p q e o.stands.stands;
             enough = omega (arith, is);
             fits = fits;
             differs = λ e. cc;
@@ -129,7 +129,7 @@ module _ (code : Code) (room : Stack → ℕ) where
           let (arguments, other) = special to_super number e in
           straight code room (suc base)
           (record {
-            stands = stands_as o.instruction (SendSpecial number) p q same o.stands;
+            stands = stands_as o.instruction (SendSpecial number) p q same o.stands.stands;
             enough = omega (arith, is, arguments);
             fits = fits;
             differs = λ e. other (ap number_of e);

@@ -1,16 +1,18 @@
 -- The code of a real block, made of parts that are sound.
-use Rattle.std.proofs.Common.{◌≡◌, ◌≢◌, sym, subst, refl, ℕ, suc, ◌+◌, ◌-◌, ◌≤◌, inl, inr, List, [], ◌∷◌, true, false, Some, None, slice_get, arith}
+use Rattle.std.proofs.Common.{◌≡◌, ◌≢◌, sym, ap, ◌∙◌, subst, refl, ℕ, suc, ◌+◌, ◌-◌, ◌/◌, ◌%◌, pos, ◌≤◌, inl, inr, List, [], ◌∷◌, true, false, Some, None, slice_get, arith}
 use Rattle.s80_code.specs.declared.code.Code.{Code}
 use Rattle.s80_code.specs.declared.instruction.Instruction.{Instruction}
 use Rattle.s80_code.specs.declared.instruction.Instruction.TheVariants.{PushContext, SendSpecial, Jump}
 use Rattle.s80_code.specs.Table.{Stands}
+use Rattle.s80_code.proofs.SpellingLemmas.{first_byte}
+use Rattle.std.proofs.Math.IntN.{pos-+ℤ-pos}
 use Rattle.s80_scope.specs.declared.fit.position.Position.{Position}
 use Rattle.s80_verify.specs.declared.stack.Stack.{Stack}
 use Rattle.s80_verify.specs.declared.stack.Stack.TheVariants.{OfBlock}
 use Rattle.s80_verify.specs.Effect.{takes, leaves, distance_of, Goes, Jumps}
 use Rattle.s80_verify.specs.Operands.{Suits}
 use Rattle.s80_verify.specs.Reach.{Counts}
-use Rattle.s80_agree.specs.Rows.{Ends, JumpsTo, Takes}
+use Rattle.s80_agree.specs.Rows.{Ends, JumpsOver, Takes}
 use Rattle.s80_agree.proofs.Points.{Point, In, Within, Meets, Lands, IsDone}
 use Rattle.s80_agree.proofs.PointsSound.{ends, free, Sound, Part, join, then, needing, meets_of, at_of, one_target, never_jumps, only_behind, in_first, in_second}
 use Rattle.s80_agree.proofs.PointsRows.{left, ending_part, takes_part}
@@ -42,15 +44,11 @@ module _ (code : Code) (room : Stack → ℕ) where
   -- the four instructions that begin a block
   pub record IsBegun (stack : Stack) (depth n p push copy jump start after : ℕ) : Type 0 where
     pub count : Instruction
-    pub byte : ℕ
     pub context : Stands code.bytes p PushContext push
     pub pushes : Stands code.bytes push count copy
     pub is_count : IsCount count stack push n
     pub copies : Stands code.bytes copy (SendSpecial 24) jump
-    pub over : JumpsTo code.bytes Jump after jump start
-    pub begun : slice_get code.bytes jump ≡ Some byte
-    pub low : 164 ≤ byte
-    pub high : byte ≤ 167
+    pub over : JumpsOver code.bytes after jump start
 
   pub begin_part : (stack : Stack) (depth n p push copy jump start after : ℕ) → IsBegun stack depth n p push copy jump start after
       → suc (suc depth) ≤ room stack → Sound code room stack depth free (around stack depth n start after) p start
@@ -71,7 +69,7 @@ module _ (code : Code) (room : Stack → ℕ) where
       third = inner_point (SendSpecial 24) stack (suc (suc depth)) copy jump
 
       fourth : Point
-      fourth = inner_point (Jump b.over.distance) stack (suc depth) jump start
+      fourth = inner_point (Jump (pos b.over.distance)) stack (suc depth) jump start
 
       points : List Point
       points = first ∷ second ∷ third ∷ fourth ∷ []
@@ -111,8 +109,8 @@ module _ (code : Code) (room : Stack → ℕ) where
           push = push;
           count = b.count;
           jump = jump;
-          distance = b.over.distance;
-          byte = b.byte;
+          distance = pos b.over.distance;
+          byte = 164 + b.over.distance / 256;
           copies = refl;
           placed = record { point = first; has = within first (inl refl); here = refl; kind = refl };
           is_context = b.context;
@@ -120,9 +118,9 @@ module _ (code : Code) (room : Stack → ℕ) where
           counted = b.is_count.counted;
           is_copy = b.copies;
           is_jump = b.over.stands;
-          begun = b.begun;
-          low = b.low;
-          high = b.high;
+          begun = first_byte code.bytes (b.over.distance % 256 ∷ []) jump start (164 + b.over.distance / 256) b.over.here;
+          low = omega arith;
+          high = omega (arith, b.over.reach);
           push_inner = record { point = second; has = within second (inr (inl refl)); here = refl; kind = refl };
           copy_inner = record { point = third; has = within third (inr (inr (inl refl))); here = refl; kind = refl };
           jump_inner = record { point = fourth; has = within fourth (inr (inr (inr (inl refl)))); here = refl; kind = refl };
@@ -134,13 +132,13 @@ module _ (code : Code) (room : Stack → ℕ) where
         jumps_somewhere = λ some. absurd (some refl);
       }
 
-      lands : Jumps (Jump b.over.distance) start after
-      lands = (b.over.distance, refl, b.over.lands)
+      lands : Jumps (Jump (pos b.over.distance)) start after
+      lands = (pos b.over.distance, refl, ap pos b.over.lands ∙ sym (pos-+ℤ-pos start b.over.distance))
 
-      jumped : (all : List Point) → around stack depth n start after all → (to : ℕ) → Goes (Jump b.over.distance) start to → Meets all to stack ((suc depth - 0) + 0)
+      jumped : (all : List Point) → around stack depth n start after all → (to : ℕ) → Goes (Jump (pos b.over.distance)) start to → Meets all to stack ((suc depth - 0) + 0)
       jumped all need to (inl (on, e)) = absurd cc
       jumped all need to (inr j) =
-          meets_of all after to stack (suc depth) ((suc depth - 0) + 0) need.0 (one_target (Jump b.over.distance) start after to lands j) (omega arith)
+          meets_of all after to stack (suc depth) ((suc depth - 0) + 0) need.0 (one_target (Jump (pos b.over.distance)) start after to lands j) (omega arith)
 
       is_fourth : (all : List Point) → Within points all → around stack depth n start after all → IsDone code room all fourth
       is_fourth all within need = record {
@@ -149,7 +147,7 @@ module _ (code : Code) (room : Stack → ℕ) where
         fits = omega (arith, fits);
         kind = inl (record { differs = λ e. cc; suits = tt });
         goes = jumped all need;
-        jumps = λ to j. at_of all after to stack (suc depth) need.0 (one_target (Jump b.over.distance) start after to lands j);
+        jumps = λ to j. at_of all after to stack (suc depth) need.0 (one_target (Jump (pos b.over.distance)) start after to lands j);
         jumps_somewhere = λ some. (after, lands);
       }
 

@@ -20,12 +20,12 @@ module _ (code : Code) (room : Stack → ℕ) where
       → Part code room stack (suc depth) (left position depth) p q
   ending_part Value stack depth p q e fits = nothing_at code room stack (suc depth) p q e
   ending_part Effect stack depth p q s fits =
-      straight code room depth (record { stands = s; enough = omega arith; fits = fits; differs = λ e. cc; suits = tt }) refl (omega arith)
+      straight code room depth (record { stands = s.stands; enough = omega arith; fits = fits; differs = λ e. cc; suits = tt }) refl (omega arith)
 
   pub nil_part : (position : Position) (stack : Stack) (depth p q : ℕ) → NilFor code.bytes position p q → depth ≤ room stack
       → Part code room stack depth (left position depth) p q
   nil_part Value stack depth p q s fits =
-      straight code room (suc depth) (record { stands = s; enough = omega arith; fits = fits; differs = λ e. cc; suits = tt }) refl (omega arith)
+      straight code room (suc depth) (record { stands = s.stands; enough = omega arith; fits = fits; differs = λ e. cc; suits = tt }) refl (omega arith)
   nil_part Effect stack depth p q e fits = nothing_at code room stack depth p q e
 
   -- the jump that a test takes, and the place behind it
@@ -36,18 +36,18 @@ module _ (code : Code) (room : Stack → ℕ) where
       → Sound code room stack (suc depth) free (two_ways stack depth to q) p q
   unless_part true stack depth to p q j fits =
       leaps code room depth to (two_ways stack depth to q)
-      (record { stands = j.stands; enough = omega arith; fits = fits; differs = λ e. cc; suits = tt })
+      (record { stands = j.stands.stands; enough = omega arith; fits = fits; differs = λ e. cc; suits = tt })
       (j.distance, refl, j.lands) (omega arith) (λ all need. need.1) (λ all need on. need.0)
   unless_part false stack depth to p q j fits =
       leaps code room depth to (two_ways stack depth to q)
-      (record { stands = j.stands; enough = omega arith; fits = fits; differs = λ e. cc; suits = tt })
+      (record { stands = j.stands.stands; enough = omega arith; fits = fits; differs = λ e. cc; suits = tt })
       (j.distance, refl, j.lands) (omega arith) (λ all need. need.1) (λ all need on. need.0)
 
   pub jump_part : (stack : Stack) (depth to p q : ℕ) → JumpsTo code.bytes Jump to p q → depth ≤ room stack
       → Sound code room stack depth free (ends stack depth to) p q
   jump_part stack depth to p q j fits =
       leaps code room depth to (ends stack depth to)
-      (record { stands = j.stands; enough = omega arith; fits = fits; differs = λ e. cc; suits = tt })
+      (record { stands = j.stands.stands; enough = omega arith; fits = fits; differs = λ e. cc; suits = tt })
       (j.distance, refl, j.lands) (omega arith) (λ all need. need) (λ all need on. cc)
 
   pub chooses : (on : Bool) (stack : Stack) (depth end p test first_at over second_at q : ℕ)
@@ -101,4 +101,4 @@ module _ (code : Code) (room : Stack → ℕ) where
   takes_part zero first p q depth base e is fits few = subst (λ (d : ℕ). Part code room OfBlock depth d p q) (omega (arith, is)) (nothing_at code room OfBlock depth p q e)
   takes_part (suc n) first p q depth base t is fits few =
       both code room (takes_part n (suc first) p t.mid depth (suc base) t.first (omega (arith, is)) fits (omega (arith, few)))
-      (straight code room base (record { stands = t.second; enough = omega arith; fits = omega (arith, is, fits); differs = λ e. cc; suits = omega (arith, few) }) refl (omega arith))
+      (straight code room base (record { stands = t.second.stands; enough = omega arith; fits = omega (arith, is, fits); differs = λ e. cc; suits = omega (arith, few) }) refl (omega arith))

@@ -11,7 +11,7 @@ use Rattle.s80_scope.specs.declared.fit.position.Position.TheVariants.{Value, Ef
 use Rattle.s80_core.specs.Core.{VariableTree, LeafTree, variable, constant, receiver, context, CoreTree, CoreTrees, SendTrees, leaf, assign, value, send, cascade, real_block, two_arms, one_arm, shortcut, repeat, nothing, before, answer, answer_fixed, leave, no_cores, cores, no_sends, sends, count}
 use Rattle.s80_core.specs.Measures.{fixed_number, sent_number, popped, count_width, nil_width, size, size_all, size_sends}
 use Rattle.s80_agree.specs.Rows.{PushesConstant, Pushes, stored, Stores, send_of, SendsBy, SendsTo, jump_unless, One, Ends, NilFor, JumpsTo, Takes, shortcut_number, At, AllAt, SendsAt}
-use Rattle.s80_agree.proofs.WidthTable.{most_bytes, narrow}
+use Rattle.s80_agree.proofs.WidthTable.{most_bytes, narrow, narrow_there}
 
 -- ---- instructions
 
@@ -108,7 +108,7 @@ module _ (bytes : List ℕ) (entries : List EntryTree) where
           narrow bytes p m.push PushContext m.context,
           count_push_width n m.push m.copy m.parameters,
           narrow bytes m.copy m.jump (SendSpecial 24) m.copies,
-          jump_width bytes m.after m.jump m.start m.over,
+          narrow_there bytes m.jump m.start (Jump (pos m.over.distance)) m.over.stands,
           takes_width bytes n first m.start m.body_at m.takes,
           width e Effect m.body_at m.after m.body,
           ends_width bytes position m.after q m.ending,

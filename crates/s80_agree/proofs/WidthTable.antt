@@ -4,6 +4,7 @@ use Rattle.std.specs.List.{AllByRecursion}
 use Rattle.s80_code.specs.declared.instruction.Instruction.{Instruction}
 use Rattle.s80_code.specs.declared.instruction.Instruction.TheVariants.{Push, Store, PopInto, PushFixed, ReturnFixed, ReturnTop, ReturnFromBlock, Send, SendSuper, SendSpecial, Pop, Duplicate, PushContext, Jump, JumpOnTrue, JumpOnFalse}
 use Rattle.s80_code.specs.Table.{Form, alone, with_one, with_two, Row, rows, has, row_of, formed, decoded, Stands}
+use Rattle.s80_code.specs.Spelling.{Written}
 use Rattle.s80_code.proofs.TableLemmas.{value, by_row}
 
 abbrev pub most_bytes : Instruction → ℕ
@@ -64,5 +65,8 @@ pub decoded_is_narrow : (bytes : List ℕ) (d : Instruction × ℕ) → decoded 
 decoded_is_narrow [] d e = cc
 decoded_is_narrow (b ∷ behind) d e = row_is_narrow (row_of b) b behind d (row_of_is_narrow b) e
 
-pub narrow : (bytes : List ℕ) (at next : ℕ) (i : Instruction) → Stands bytes at i next → next ≤ at + most_bytes i
-narrow bytes at next i s = omega (arith, s.behind, decoded_is_narrow (drop at bytes) (i, s.width) s.is_decoded)
+pub narrow_there : (bytes : List ℕ) (at next : ℕ) (i : Instruction) → Stands bytes at i next → next ≤ at + most_bytes i
+narrow_there bytes at next i s = omega (arith, s.behind, decoded_is_narrow (drop at bytes) (i, s.width) s.is_decoded)
+
+pub narrow : (bytes : List ℕ) (at next : ℕ) (i : Instruction) → Written bytes at i next → next ≤ at + most_bytes i
+narrow bytes at next i w = narrow_there bytes at next i w.stands

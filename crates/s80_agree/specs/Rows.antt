@@ -1,5 +1,5 @@
 -- The compiling table: which code stands for a core tree, each instruction in its shortest spelling (Blue Book, part four; Krasner).
-use Rattle.std.specs.Prelude.{◌≡◌, ℕ, zero, suc, ◌+◌, ℤ, pos, ◌+ℤ◌, List, Bool, true, false, slice_get, slice_range, Option, Some, None}
+use Rattle.std.specs.Prelude.{◌≡◌, ◌<◌, ℕ, zero, suc, ◌+◌, ℤ, pos, ◌+ℤ◌, List, Bool, true, false, slice_get, slice_range, Option, Some, None}
 use Rattle.s80_base.specs.Literal.{LiteralTree, small, symbol}
 use Rattle.s80_code.specs.declared.instruction.Storage.{Storage}
 use Rattle.s80_code.specs.declared.instruction.Storage.TheVariants.{Receiver, Temporary, Constant, Variable}
@@ -102,6 +102,7 @@ pub record JumpsTo (bytes : List ℕ) (jump : ℤ → Instruction) (to p q : ℕ
 -- a jump ahead to a place by two bytes, however near that is
 pub record JumpsOver (bytes : List ℕ) (to p q : ℕ) : Type 0 where
   pub distance : ℕ
+  pub reach : distance < 1024
   pub stands : Stands bytes p (Jump (pos distance)) q
   pub here : slice_range bytes p q ≡ far 164 distance
   pub lands : to ≡ q + distance
