@@ -3,7 +3,7 @@ use Rattle.std.proofs.Common.{◌≡◌, ℕ, ◌+◌, ◌≤◌, List, [], ◌+
 use Rattle.std.proofs.lemmas.List.{append-nil}
 use Rattle.s80_code.specs.Entries.{EntryTree}
 use Rattle.s80_code.specs.declared.instruction.Instruction.TheVariants.{Duplicate, Pop}
-use Rattle.s80_code.specs.Table.{Stands}
+use Rattle.s80_code.specs.Spelling.{Written}
 use Rattle.s80_scope.specs.declared.fit.position.Position.TheVariants.{Value}
 use Rattle.s80_core.specs.Core.{CoreTree, CoreTrees, SendTree, SendTrees, no_cores, cores, no_sends, sends}
 use Rattle.s80_core.specs.Measures.{entries, entries_all, entries_sends, size, size_all, size_sends}
@@ -72,14 +72,14 @@ next_sent to_super all left rest m n f g h c d dup done e is k duplicates a pops
     record {
       fits = record { room = room_after (MessageRow to_super m) (message_entries to_super m) (entries_sends to_super more) (size_all m.1 + 3) g h dup done a w.room; size = omega (arith, w.size, rest_size m.0 m.1 more); temporaries = w.temporaries; low = w.low; range = w.range.1; few = w.few.1 };
       goes_on = λ i b left. k.goes_on i b (subst (λ (l : SendTrees). AreSent to_super l g i d b) (sym is)
-          (changed (BothRow (λ bytes es p q. Stands bytes p Duplicate q) (BothRow (MessageRow to_super m) (BothRow (λ bytes es p q. Stands bytes p Pop q) (SendsRow to_super more)))) (SendsRow to_super (sends m.0 m.1 more))
+          (changed (BothRow (λ bytes es p q. Written bytes p Duplicate q) (BothRow (MessageRow to_super m) (BothRow (λ bytes es p q. Written bytes p Pop q) (SendsRow to_super more)))) (SendsRow to_super (sends m.0 m.1 more))
           (message_entries to_super m ++ entries_sends to_super more) (message_entries to_super m ++ entries_sends to_super more) (1 + ((size_all m.1 + 3) + (1 + size_sends more))) (1 + size_all m.1 + 3 + 1 + size_sends more) g i d b
           (λ bytes es p q x. record { mid = x.mid; first = x.first; second = record { mid = x.second.first.mid; first = x.second.first.first; second = record { mid = x.second.mid; first = x.second.first.second; second = x.second.second } } })
           refl (omega arith)
-          (joined (λ bytes es p q. Stands bytes p Duplicate q) (BothRow (MessageRow to_super m) (BothRow (λ bytes es p q. Stands bytes p Pop q) (SendsRow to_super more))) [] (message_entries to_super m ++ entries_sends to_super more) 1 ((size_all m.1 + 3) + (1 + size_sends more)) g g i d dup b
-          (stands_moves Duplicate) (both_move (MessageRow to_super m) (BothRow (λ bytes es p q. Stands bytes p Pop q) (SendsRow to_super more)) (message_moves to_super m) (both_move (λ bytes es p q. Stands bytes p Pop q) (SendsRow to_super more) (stands_moves Pop) (sends_move to_super more)))
+          (joined (λ bytes es p q. Written bytes p Duplicate q) (BothRow (MessageRow to_super m) (BothRow (λ bytes es p q. Written bytes p Pop q) (SendsRow to_super more))) [] (message_entries to_super m ++ entries_sends to_super more) 1 ((size_all m.1 + 3) + (1 + size_sends more)) g g i d dup b
+          (stands_moves Duplicate) (both_move (MessageRow to_super m) (BothRow (λ bytes es p q. Written bytes p Pop q) (SendsRow to_super more)) (message_moves to_super m) (both_move (λ bytes es p q. Written bytes p Pop q) (SendsRow to_super more) (stands_moves Pop) (sends_move to_super more)))
           (instructed Duplicate 1 g d dup duplicates)
-          (joined (MessageRow to_super m) (BothRow (λ bytes es p q. Stands bytes p Pop q) (SendsRow to_super more)) (message_entries to_super m) (entries_sends to_super more) (size_all m.1 + 3) (1 + size_sends more) g h i dup done b
-          (message_moves to_super m) (both_move (λ bytes es p q. Stands bytes p Pop q) (SendsRow to_super more) (stands_moves Pop) (sends_move to_super more)) a
-          (joined (λ bytes es p q. Stands bytes p Pop q) (SendsRow to_super more) [] (entries_sends to_super more) 1 (size_sends more) h h i done e b (stands_moves Pop) (sends_move to_super more) (instructed Pop 1 h done e pops) left)))));
+          (joined (MessageRow to_super m) (BothRow (λ bytes es p q. Written bytes p Pop q) (SendsRow to_super more)) (message_entries to_super m) (entries_sends to_super more) (size_all m.1 + 3) (1 + size_sends more) g h i dup done b
+          (message_moves to_super m) (both_move (λ bytes es p q. Written bytes p Pop q) (SendsRow to_super more) (stands_moves Pop) (sends_move to_super more)) a
+          (joined (λ bytes es p q. Written bytes p Pop q) (SendsRow to_super more) [] (entries_sends to_super more) 1 (size_sends more) h h i done e b (stands_moves Pop) (sends_move to_super more) (instructed Pop 1 h done e pops) left)))));
     }

@@ -5,7 +5,7 @@ use Rattle.s80_base.specs.Literal.{small}
 use Rattle.std.specs.Prelude.{pos}
 use Rattle.s80_code.specs.Entries.{EntryTree}
 use Rattle.s80_code.specs.declared.instruction.Instruction.TheVariants.{ReturnTop, ReturnFromBlock, ReturnFixed, PushContext, SendSpecial}
-use Rattle.s80_code.specs.Table.{Stands}
+use Rattle.s80_code.specs.Spelling.{Written}
 use Rattle.s80_scope.specs.declared.fit.position.Position.{Position}
 use Rattle.s80_scope.specs.declared.fit.position.Position.TheVariants.{Value, Effect}
 use Rattle.s80_core.specs.Core.{VariableTree, LeafTree, CoreTree, SendTree, SendTrees, leaf, assign, value, send, cascade, real_block, two_arms, one_arm, repeat, nothing, before, answer, answer_fixed, leave, count}
@@ -81,12 +81,12 @@ module _ (f g h i : List EntryTree) (c d e k : List ℕ) (position : Position) w
   pub answer_made : (x : CoreTree) → IsEmitted x Value f g c d → Adds ReturnTop 1 d e → IsEmitted (answer x) position f g c e
   answer_made x a r =
       told (CoreRow (answer x) position) (entries x ++ []) (entries x) (size Value x + 1) (size Value x + 1) f g c e (append-nil (entries x)) (omega arith)
-      (joined (CoreRow x Value) (λ bytes entries p q. Stands bytes p ReturnTop q) (entries x) [] (size Value x) 1 f g g c d e (core_moves x Value) (stands_moves ReturnTop) a (instructed ReturnTop 1 g d e r))
+      (joined (CoreRow x Value) (λ bytes entries p q. Written bytes p ReturnTop q) (entries x) [] (size Value x) 1 f g g c d e (core_moves x Value) (stands_moves ReturnTop) a (instructed ReturnTop 1 g d e r))
 
   pub leave_made : (x : CoreTree) → IsEmitted x Value f g c d → Adds ReturnFromBlock 1 d e → IsEmitted (leave x) position f g c e
   leave_made x a r =
       told (CoreRow (leave x) position) (entries x ++ []) (entries x) (size Value x + 1) (size Value x + 1) f g c e (append-nil (entries x)) (omega arith)
-      (joined (CoreRow x Value) (λ bytes entries p q. Stands bytes p ReturnFromBlock q) (entries x) [] (size Value x) 1 f g g c d e (core_moves x Value) (stands_moves ReturnFromBlock) a (instructed ReturnFromBlock 1 g d e r))
+      (joined (CoreRow x Value) (λ bytes entries p q. Written bytes p ReturnFromBlock q) (entries x) [] (size Value x) 1 f g g c d e (core_moves x Value) (stands_moves ReturnFromBlock) a (instructed ReturnFromBlock 1 g d e r))
 
   pub fixed_made : (n : ℕ) → Adds (ReturnFixed n) 1 c d → IsEmitted (answer_fixed n) position f f c d
   fixed_made n r = instructed (ReturnFixed n) 1 f c d r

@@ -7,7 +7,7 @@ use Rattle.s80_base.specs.declared.literal.Literal.TheVariants as kind
 use Rattle.s80_base.specs.declared.literal.Literal.TheOpen as layer
 use Rattle.s80_code.specs.Entries.{EntryTree}
 use Rattle.s80_code.specs.declared.instruction.Instruction.TheVariants.{PushFixed}
-use Rattle.s80_code.specs.Table.{Stands}
+use Rattle.s80_code.specs.Spelling.{Written}
 use Rattle.s80_scope.specs.declared.fit.position.Position.{Position}
 use Rattle.s80_scope.specs.declared.fit.position.Position.TheVariants.{Value}
 use Rattle.s80_core.specs.Core.{CoreTree, constant, shortcut}
@@ -31,11 +31,11 @@ module _ (on : Bool) (x a : CoreTree) (position : Position) (f g h : List EntryT
       (append-nil (entries x ++ entries a)) (omega arith)
       (joined (CoreRow (shortcut on x a) Value) (λ bytes es m n. Ends bytes position m n) (entries x ++ entries a) [] (size Value x + 2 + size Value a + 2 + 1 + 0) (popped position) f h h c e k
       (core_moves (shortcut on x a) Value) (ends_moves position)
-      (changed (ChooseRow on (CoreRow x Value) (CoreRow a Value) (λ bytes es m n. Stands bytes m (PushFixed (shortcut_number on)) n)) (CoreRow (shortcut on x a) Value)
+      (changed (ChooseRow on (CoreRow x Value) (CoreRow a Value) (λ bytes es m n. Written bytes m (PushFixed (shortcut_number on)) n)) (CoreRow (shortcut on x a) Value)
       (entries x ++ (entries a ++ [])) (entries x ++ entries a) (size Value x + 2 + size Value a + 2 + 1) (size Value x + 2 + size Value a + 2 + 1 + 0) f h c e
       (λ bytes es m n y. record { mid = n; first = y; second = refl })
       (ap (λ l. entries x ++ l) (append-nil (entries a))) (omega arith)
-      (chosen on (CoreRow x Value) (CoreRow a Value) (λ bytes es m n. Stands bytes m (PushFixed (shortcut_number on)) n) (entries x) (entries a) [] (size Value x) (size Value a) 1 f g h h c d arm other e
+      (chosen on (CoreRow x Value) (CoreRow a Value) (λ bytes es m n. Written bytes m (PushFixed (shortcut_number on)) n) (entries x) (entries a) [] (size Value x) (size Value a) 1 f g h h c d arm other e
       (core_moves x Value) (core_moves a Value) (stands_moves (PushFixed (shortcut_number on))) p q (instructed (PushFixed (shortcut_number on)) 1 h [] other push) s))
       (ended position h e k end))
 

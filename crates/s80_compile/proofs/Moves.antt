@@ -1,19 +1,21 @@
 -- Code goes on standing where it is put behind other code, and where the frame gets further entries.
-use Rattle.std.proofs.Common.{◌≡◌, ℕ, zero, suc, ◌+◌, ℤ, pos, ◌+ℤ◌, List, ◌++◌, Bool, length, take, drop, slice_get, Option, Some, None, sym, ap, subst, ◌∙◌, arith, append_assoc, length-append, take-append-drop}
+use Rattle.std.proofs.Common.{◌≡◌, ℕ, zero, suc, ◌+◌, ◌-◌, ◌<◌, ◌≤◌, ℤ, pos, ◌+ℤ◌, List, ◌++◌, Bool, length, take, drop, slice_get, slice_range, Option, Some, None, sym, ap, ap₂, subst, ◌∙◌, arith, append_assoc, length-append, take-append-drop, length-drop}
 use Rattle.std.proofs.lemmas.Option.{slice_get_within, get_or_from_slice_get, slice_get-get_or}
-use Rattle.std.proofs.lemmas.List.{get_or_append_left, get_or-append-add, drop-append-le}
+use Rattle.std.proofs.lemmas.List.{get_or_append_left, get_or-append-add, drop-append-le, take-append-le}
 use Rattle.std.proofs.Math.Seq.{drop-append-add}
 use Rattle.std.proofs.Math.IntN.{+ℤ_assoc, pos-+ℤ-pos}
 use Rattle.s80_base.specs.Literal.{LiteralTree, small}
 use Rattle.s80_code.specs.Entries.{EntryTree}
 use Rattle.s80_code.specs.declared.instruction.Instruction.{Instruction}
+use Rattle.s80_code.specs.declared.instruction.Instruction.TheVariants.{Jump}
 use Rattle.s80_code.specs.Table.{Stands, decoded}
+use Rattle.s80_code.specs.Spelling.{Written}
 use Rattle.s80_code.proofs.TableLemmas.{decodes, place_law}
 use Rattle.s80_scope.specs.declared.fit.position.Position.{Position}
 use Rattle.s80_scope.specs.declared.fit.position.Position.TheVariants.{Value, Effect}
 use Rattle.s80_core.specs.Core.{VariableTree, temporary, instance, class_variable, outer, LeafTree, variable, constant, receiver, context, CoreTree, CoreTrees, SendTrees, leaf, assign, value, send, cascade, real_block, two_arms, one_arm, shortcut, repeat, nothing, before, answer, answer_fixed, leave, no_cores, cores, no_sends, sends, count}
 use Rattle.s80_core.specs.Measures.{fixed_number, sent_number}
-use Rattle.s80_agree.specs.Rows.{Part, Holds, PushesConstant, Pushes, Stores, SendsBy, SendsTo, One, Both, Ends, NilFor, JumpsTo, Chooses, Skips, Loops, Takes, Makes, At, AllAt, SendsAt}
+use Rattle.s80_agree.specs.Rows.{Part, Holds, PushesConstant, Pushes, Stores, SendsBy, SendsTo, One, Both, Ends, NilFor, JumpsTo, JumpsOver, Chooses, Skips, Loops, Takes, Makes, At, AllAt, SendsAt}
 
 -- what is read at a place, with more behind
 pub get_more : {X : Type 0} (xs ys : List X) (n : ℕ) (x : X) → slice_get xs n ≡ Some x → slice_get (xs ++ ys) n ≡ Some x
@@ -52,16 +54,27 @@ stands_behind front bytes p q i s =
       behind = omega (arith, s.behind);
     }
 
--- all that stands in one stands in the other, so much further on
+-- the bytes between two places, with more behind and with more before
+range_more : (bytes more : List ℕ) (p q : ℕ) → p < q → q ≤ length bytes → slice_range (bytes ++ more) p q ≡ slice_range bytes p q
+range_more bytes more p q some within =
+    ap (take (q - p)) (drop-append-le p bytes more (omega (arith, some, within)))
+    ∙ take-append-le (q - p) (drop p bytes) more (omega (arith, some, within, length-drop p bytes))
+
+range_behind : (front bytes : List ℕ) (p q : ℕ) → slice_range (front ++ bytes) (length front + p) (length front + q) ≡ slice_range bytes p q
+range_behind front bytes p q =
+    let same : (length front + q) - (length front + p) ≡ q - p = omega arith in
+    ap (take ((length front + q) - (length front + p))) (drop-append-add front bytes p) ∙ ap (λ n. take n (drop p bytes)) same
+
+-- all that stands in one stands in the other, so much further on, by the same bytes
 pub record Sits (part whole : List ℕ) (k : ℕ) : Type 0 where
   pub stands : (p q : ℕ) (i : Instruction) → Stands part p i q → Stands whole (k + p) i (k + q)
-  pub byte : (p b : ℕ) → slice_get part p ≡ Some b → slice_get whole (k + p) ≡ Some b
+  pub range : (p q : ℕ) (i : Instruction) → Stands part p i q → slice_range whole (k + p) (k + q) ≡ slice_range part p q
 
 pub sits_all : (part : List ℕ) → Sits part part 0
 sits_all part =
     record {
       stands = λ p q i s. subst (λ (n : ℕ). Stands part n i (0 + q)) (sym (none_before p)) (subst (λ (n : ℕ). Stands part p i n) (sym (none_before q)) s);
-      byte = λ p b e. ap (slice_get part) (none_before p) ∙ e;
+      range = λ p q i s. ap₂ (slice_range part) (none_before p) (none_before q);
     }
   where
     none_before : (n : ℕ) → 0 + n ≡ n
@@ -69,20 +82,36 @@ sits_all part =
 
 pub sits_more : (part whole more : List ℕ) (k : ℕ) → Sits part whole k → Sits part (whole ++ more) k
 sits_more part whole more k s =
-    record { stands = λ p q i h. stands_more whole more (k + p) (k + q) i (s.stands p q i h); byte = λ p b e. get_more whole more (k + p) b (s.byte p b e) }
+    record {
+      stands = λ p q i h. stands_more whole more (k + p) (k + q) i (s.stands p q i h);
+      range = λ p q i h. let within = place_law whole (k + p) (k + q) i (s.stands p q i h) in range_more whole more (k + p) (k + q) within.0 within.1 ∙ s.range p q i h;
+    }
 
 pub sits_last : (front part : List ℕ) → Sits part (front ++ part) (length front)
-sits_last front part = record { stands = λ p q i s. stands_behind front part p q i s; byte = λ p b e. get_behind front part p b e }
+sits_last front part = record { stands = λ p q i s. stands_behind front part p q i s; range = λ p q i s. range_behind front part p q }
 
 pub sits_within : (part mid whole : List ℕ) (j k : ℕ) → Sits part mid j → Sits mid whole k → Sits part whole (k + j)
 sits_within part mid whole j k s t =
     record {
       stands = λ p q i h. subst (λ (n : ℕ). Stands whole n i ((k + j) + q)) (sym (regroup p)) (subst (λ (n : ℕ). Stands whole (k + (j + p)) i n) (sym (regroup q)) (t.stands (j + p) (j + q) i (s.stands p q i h)));
-      byte = λ p b e. ap (slice_get whole) (regroup p) ∙ t.byte (j + p) b (s.byte p b e);
+      range = λ p q i h. ap₂ (slice_range whole) (regroup p) (regroup q) ∙ t.range (j + p) (j + q) i (s.stands p q i h) ∙ s.range p q i h;
     }
   where
     regroup : (n : ℕ) → (k + j) + n ≡ k + (j + n)
     regroup n = omega arith
+
+pub written_goes : (part whole : List ℕ) (k p q : ℕ) (i : Instruction) → Sits part whole k → Written part p i q → Written whole (k + p) i (k + q)
+written_goes part whole k p q i here w = record { stands = here.stands p q i w.stands; here = here.range p q i w.stands ∙ w.here }
+
+pub over_goes : (part whole : List ℕ) (k to p q : ℕ) → Sits part whole k → JumpsOver part to p q → JumpsOver whole (k + to) (k + p) (k + q)
+over_goes part whole k to p q here j =
+    record {
+      distance = j.distance;
+      reach = j.reach;
+      stands = here.stands p q (Jump (pos j.distance)) j.stands;
+      here = here.range p q (Jump (pos j.distance)) j.stands ∙ j.here;
+      lands = omega (arith, j.lands);
+    }
 
 module _ (part whole : List ℕ) (k : ℕ) (old new : List EntryTree) (here : Sits part whole k) (kept : (n : ℕ) (x : EntryTree) → slice_get old n ≡ Some x → slice_get new n ≡ Some x) where
   -- a part that moves along
@@ -119,17 +148,17 @@ module _ (part whole : List ℕ) (k : ℕ) (old new : List EntryTree) (here : Si
   sends_goes to_super s n i h = by_goes to_super s n (sent_number to_super s) i h
 
   one_goes : (P Q : Instruction → Type 0) → ((i : Instruction) → P i → Q i) → Goes (One part P) (One whole Q)
-  one_goes P Q f p q o = record { instruction = o.instruction; is = f o.instruction o.is; stands = here.stands p q o.instruction o.stands }
+  one_goes P Q f p q o = record { instruction = o.instruction; is = f o.instruction o.is; stands = written_goes part whole k p q o.instruction here o.stands }
 
   both_go : (P Q R S : Part) → Goes P R → Goes Q S → Goes (Both P Q) (Both R S)
   both_go P Q R S f g p q b = record { mid = k + b.mid; first = f p b.mid b.first; second = g b.mid q b.second }
 
   ends_go : (position : Position) → Goes (Ends part position) (Ends whole position)
   ends_go Value p q e = same_goes p q e
-  ends_go Effect p q s = here.stands p q _ s
+  ends_go Effect p q s = written_goes part whole k p q _ here s
 
   nil_goes : (position : Position) → Goes (NilFor part position) (NilFor whole position)
-  nil_goes Value p q s = here.stands p q _ s
+  nil_goes Value p q s = written_goes part whole k p q _ here s
   nil_goes Effect p q e = same_goes p q e
 
   lands_goes : (to q : ℕ) (d : ℤ) → pos to ≡ pos q +ℤ d → pos (k + to) ≡ pos (k + q) +ℤ d
@@ -137,7 +166,7 @@ module _ (part whole : List ℕ) (k : ℕ) (old new : List EntryTree) (here : Si
       sym (pos-+ℤ-pos k to) ∙ ap (λ z. pos k +ℤ z) e ∙ sym (+ℤ_assoc (pos k) (pos q) d) ∙ ap (λ z. z +ℤ d) (pos-+ℤ-pos k q)
 
   jump_goes : (jump : ℤ → Instruction) (to p q : ℕ) → JumpsTo part jump to p q → JumpsTo whole jump (k + to) (k + p) (k + q)
-  jump_goes jump to p q j = record { distance = j.distance; stands = here.stands p q _ j.stands; lands = lands_goes to q j.distance j.lands }
+  jump_goes jump to p q j = record { distance = j.distance; stands = written_goes part whole k p q _ here j.stands; lands = lands_goes to q j.distance j.lands }
 
   choice_goes : (on : Bool) (C A B D E F : Part) → Goes C D → Goes A E → Goes B F → Goes (Chooses part on C A B) (Chooses whole on D E F)
   choice_goes on C A B D E F c a b p q h =
@@ -179,7 +208,7 @@ module _ (part whole : List ℕ) (k : ℕ) (old new : List EntryTree) (here : Si
 
   takes_go : (n first : ℕ) → Goes (Takes part first n) (Takes whole first n)
   takes_go zero first p q e = same_goes p q e
-  takes_go (suc n) first p q b = record { mid = k + b.mid; first = takes_go n (suc first) p b.mid b.first; second = here.stands b.mid q _ b.second }
+  takes_go (suc n) first p q b = record { mid = k + b.mid; first = takes_go n (suc first) p b.mid b.first; second = written_goes part whole k b.mid q _ here b.second }
 
   block_goes : (first n : ℕ) (B D : Part) (position : Position) → Goes B D → Goes (Makes part old first n B position) (Makes whole new first n D position)
   block_goes first n B D position body p q h =
@@ -190,14 +219,10 @@ module _ (part whole : List ℕ) (k : ℕ) (old new : List EntryTree) (here : Si
         start = k + h.start;
         body_at = k + h.body_at;
         after = k + h.after;
-        byte = h.byte;
-        context = here.stands p h.push _ h.context;
+        context = written_goes part whole k p h.push _ here h.context;
         parameters = one_goes (Pushes old (constant (small (pos n)))) (Pushes new (constant (small (pos n)))) (leaf_goes (constant (small (pos n)))) h.push h.copy h.parameters;
-        copies = here.stands h.copy h.jump _ h.copies;
-        over = jump_goes _ h.after h.jump h.start h.over;
-        begun = here.byte h.jump h.byte h.begun;
-        low = h.low;
-        high = h.high;
+        copies = written_goes part whole k h.copy h.jump _ here h.copies;
+        over = over_goes part whole k h.after h.jump h.start here h.over;
         takes = takes_go n first h.start h.body_at h.takes;
         body = body h.body_at h.after h.body;
         ending = ends_go position h.after q h.ending;
@@ -216,13 +241,13 @@ module _ (part whole : List ℕ) (k : ℕ) (old new : List EntryTree) (here : Si
     core_goes (one_arm on c a) Value = choice_goes on _ _ _ _ _ _ (core_goes c Value) (core_goes a Value) (nil_goes Value)
     core_goes (one_arm on c a) Effect = skip_goes on _ _ _ _ (core_goes c Value) (core_goes a Effect)
     core_goes (shortcut on c a) position =
-        both_go _ _ _ _ (choice_goes on _ _ _ _ _ _ (core_goes c Value) (core_goes a Value) (λ p q s. here.stands p q _ s)) (ends_go position)
+        both_go _ _ _ _ (choice_goes on _ _ _ _ _ _ (core_goes c Value) (core_goes a Value) (λ p q s. written_goes part whole k p q _ here s)) (ends_go position)
     core_goes (repeat on c e) position = loop_goes on _ _ _ _ position (core_goes c Value) (core_goes e Effect)
     core_goes nothing position = nil_goes position
     core_goes (before a b) position = both_go _ _ _ _ (core_goes a Effect) (core_goes b position)
-    core_goes (answer e) position = both_go _ _ _ _ (core_goes e Value) (λ p q s. here.stands p q _ s)
-    core_goes (answer_fixed n) position = λ p q s. here.stands p q _ s
-    core_goes (leave e) position = both_go _ _ _ _ (core_goes e Value) (λ p q s. here.stands p q _ s)
+    core_goes (answer e) position = both_go _ _ _ _ (core_goes e Value) (λ p q s. written_goes part whole k p q _ here s)
+    core_goes (answer_fixed n) position = λ p q s. written_goes part whole k p q _ here s
+    core_goes (leave e) position = both_go _ _ _ _ (core_goes e Value) (λ p q s. written_goes part whole k p q _ here s)
 
     pub cores_go : (cs : CoreTrees) → Goes (AllAt part old cs) (AllAt whole new cs)
     cores_go no_cores = same_goes
@@ -232,8 +257,8 @@ module _ (part whole : List ℕ) (k : ℕ) (old new : List EntryTree) (here : Si
     sends_go to_super no_sends = same_goes
     sends_go to_super (sends s es no_sends) = both_go _ _ _ _ (cores_go es) (one_goes _ _ (sends_goes to_super s (count es)))
     sends_go to_super (sends s es (sends t fs ms)) =
-        both_go _ _ _ _ (λ p q s. here.stands p q _ s)
-        (both_go _ _ _ _ (cores_go es) (both_go _ _ _ _ (one_goes _ _ (sends_goes to_super s (count es))) (both_go _ _ _ _ (λ p q s. here.stands p q _ s) (sends_go to_super (sends t fs ms)))))
+        both_go _ _ _ _ (λ p q s. written_goes part whole k p q _ here s)
+        (both_go _ _ _ _ (cores_go es) (both_go _ _ _ _ (one_goes _ _ (sends_goes to_super s (count es))) (both_go _ _ _ _ (λ p q s. written_goes part whole k p q _ here s) (sends_go to_super (sends t fs ms)))))
 
   pub takes_goes : (n first : ℕ) → Goes (Takes part first n) (Takes whole first n)
   takes_goes = takes_go

@@ -1,21 +1,22 @@
 -- Parts that are put together.
-use Rattle.std.proofs.Common.{◌≡◌, ℕ, suc, ◌+◌, ◌*◌, ◌≤◌, pos, negsuc, ◌+ℤ◌, List, [], ◌++◌, Bool, length, slice_get, Some, refl, sym, ap, subst, ◌∙◌, arith, append_assoc, length-append}
+use Rattle.std.proofs.Common.{◌≡◌, ℕ, suc, ◌+◌, ◌*◌, ◌<◌, ◌≤◌, pos, negsuc, ◌+ℤ◌, List, [], ◌++◌, Bool, length, slice_get, Some, refl, sym, ap, subst, ◌∙◌, arith, append_assoc, length-append}
 use Rattle.std.proofs.lemmas.List.{append-nil}
 use Rattle.std.proofs.Math.IntN.{pos-+ℤ-pos, +ℤ_invr}
 use Rattle.s80_base.specs.Literal.{small}
 use Rattle.s80_code.specs.Entries.{EntryTree}
 use Rattle.s80_code.specs.declared.instruction.Instruction.{Instruction}
 use Rattle.s80_code.specs.declared.instruction.Instruction.TheVariants.{Jump, PushContext, SendSpecial}
-use Rattle.s80_code.specs.Table.{Stands}
+use Rattle.s80_code.specs.Spelling.{Written, far}
+use Rattle.s80_code.proofs.SpellingLemmas.{ahead}
 use Rattle.s80_scope.specs.declared.fit.position.Position.{Position}
 use Rattle.s80_scope.specs.declared.fit.position.Position.TheVariants.{Value, Effect}
 use Rattle.s80_core.specs.Core.{CoreTree, CoreTrees, SendTrees, constant}
 use Rattle.s80_core.specs.Measures.{popped, nil_width}
-use Rattle.s80_agree.specs.Rows.{Both, Ends, NilFor, Chooses, Skips, Loops, Makes, Takes, Pushes, jump_unless}
+use Rattle.s80_agree.specs.Rows.{Both, Ends, NilFor, Chooses, JumpsOver, Skips, Loops, Makes, Takes, Pushes, jump_unless}
 use Rattle.s80_agree.specs.Compiles.{AreFirsts}
 use Rattle.s80_compile.specs.Emitted.{Row, Emitted, CoreRow, CoresRow, SendsRow, OneRow, Adds, AddsBack, AddsFar, AddsEnd, AddsNil, AddsTakes, AddsChoice, HasRoom}
 use Rattle.s80_compile.proofs.Firsts.{firsts_join, room_second}
-use Rattle.s80_compile.proofs.Moves.{Sits, sits_all, sits_more, sits_last, sits_within, get_more, core_goes, cores_go, sends_go, takes_goes, constant_goes_along}
+use Rattle.s80_compile.proofs.Moves.{Sits, sits_all, sits_more, sits_last, sits_within, written_goes, over_goes, get_more, core_goes, cores_go, sends_go, takes_goes, constant_goes_along}
 
 -- code of this form goes on standing where it is moved
 abbrev pub Moves : Row → Type 0
@@ -38,10 +39,21 @@ moved R part whole k old new more p q move here is from to r =
     (subst (λ (n : ℕ). R whole new (k + 0) n) (sym to)
     (move part whole k old new here (λ n x e. subst (λ (f : List EntryTree). slice_get f n ≡ Some x) (sym is) (get_more old more n x e)) 0 (length part) r))
 
-pub stands_moved : (i : Instruction) (part whole : List ℕ) (k p q : ℕ) → Sits part whole k → p ≡ k → q ≡ k + length part → Stands part 0 i (length part) → Stands whole p i q
+pub stands_moved : (i : Instruction) (part whole : List ℕ) (k p q : ℕ) → Sits part whole k → p ≡ k → q ≡ k + length part → Written part 0 i (length part) → Written whole p i q
 stands_moved i part whole k p q here from to s =
     let first : k + 0 ≡ p = omega (arith, from) in
-    subst (λ (n : ℕ). Stands whole n i q) first (subst (λ (n : ℕ). Stands whole (k + 0) i n) (sym to) (here.stands 0 (length part) i s))
+    subst (λ (n : ℕ). Written whole n i q) first (subst (λ (n : ℕ). Written whole (k + 0) i n) (sym to) (written_goes part whole k 0 (length part) i here s))
+
+-- the same for a jump over what follows
+pub over_moved : (d : ℕ) (whole : List ℕ) (k to p q : ℕ) → Sits (far 164 d) whole k → d < 1024 → p ≡ k → q ≡ k + 2 → to ≡ q + d → JumpsOver whole to p q
+over_moved d whole k to p q here reach from behind lands =
+    let jump : JumpsOver (far 164 d) (2 + d) 0 2 =
+    record { distance = d; reach = reach; stands = record { width = 2; is_decoded = ahead d reach []; behind = refl }; here = refl; lands = refl } in
+    let first : k + 0 ≡ p = omega (arith, from) in
+    let target : k + (2 + d) ≡ to = omega (arith, behind, lands) in
+    subst (λ (n : ℕ). JumpsOver whole n p q) target
+    (subst (λ (n : ℕ). JumpsOver whole (k + (2 + d)) n q) first
+    (subst (λ (n : ℕ). JumpsOver whole (k + (2 + d)) (k + 0) n) (sym behind) (over_goes (far 164 d) whole k (2 + d) 0 2 here jump)))
 
 -- one list behind two
 pub behind_two : {X : Type 0} (a b c x y : List X) → x ≡ a ++ b → y ≡ x ++ c → y ≡ a ++ (b ++ c)
@@ -87,14 +99,14 @@ told P v w m n f g c d same more a =
 -- what adds no entry
 pub ends_moves : (position : Position) → Moves (λ bytes entries p q. Ends bytes position p q)
 ends_moves Value part whole k old new here kept p q e = ap (λ n. k + n) e
-ends_moves Effect part whole k old new here kept p q s = here.stands p q _ s
+ends_moves Effect part whole k old new here kept p q s = written_goes part whole k p q _ here s
 
 pub nil_moves : (position : Position) → Moves (λ bytes entries p q. NilFor bytes position p q)
-nil_moves Value part whole k old new here kept p q s = here.stands p q _ s
+nil_moves Value part whole k old new here kept p q s = written_goes part whole k p q _ here s
 nil_moves Effect part whole k old new here kept p q e = ap (λ n. k + n) e
 
-pub stands_moves : (i : Instruction) → Moves (λ bytes entries p q. Stands bytes p i q)
-stands_moves i part whole k old new here kept p q s = here.stands p q i s
+pub stands_moves : (i : Instruction) → Moves (λ bytes entries p q. Written bytes p i q)
+stands_moves i part whole k old new here kept p q s = written_goes part whole k p q i here s
 
 pub ended : (position : Position) (f : List EntryTree) (c d : List ℕ) → AddsEnd position c d → Emitted (λ bytes entries p q. Ends bytes position p q) [] (popped position) f f c d
 ended position f c d a = record { part = a.part; added = []; is_code = a.is; is_frame = sym (append-nil f); firsts = refl; stands = a.stands; short = a.short }
@@ -102,7 +114,7 @@ ended position f c d a = record { part = a.part; added = []; is_code = a.is; is_
 pub nil_ended : (position : Position) (f : List EntryTree) (c d : List ℕ) → AddsNil position c d → Emitted (λ bytes entries p q. NilFor bytes position p q) [] (nil_width position) f f c d
 nil_ended position f c d a = record { part = a.part; added = []; is_code = a.is; is_frame = sym (append-nil f); firsts = refl; stands = a.stands; short = a.short }
 
-pub instructed : (i : Instruction) (most : ℕ) (f : List EntryTree) (c d : List ℕ) → Adds i most c d → Emitted (λ bytes entries p q. Stands bytes p i q) [] most f f c d
+pub instructed : (i : Instruction) (most : ℕ) (f : List EntryTree) (c d : List ℕ) → Adds i most c d → Emitted (λ bytes entries p q. Written bytes p i q) [] most f f c d
 instructed i most f c d a = record { part = a.part; added = []; is_code = a.is; is_frame = sym (append-nil f); firsts = refl; stands = a.stands; short = a.short }
 
 -- room for the second of two parts
@@ -281,15 +293,16 @@ pub made : (first n : ℕ) (B : Row) (position : Position) (v w : List EntryTree
     → Moves B → Adds PushContext 1 old context → Emitted (CountRow n) v l f g context counted → Adds (SendSpecial 24) 1 counted copied
     → AddsTakes first n [] taken → Emitted B w m g h taken body → AddsFar (length body) copied jumped → code ≡ jumped ++ body → AddsEnd position code new
     → Emitted (BlockRow first n B position) (v ++ w) (4 + l + 2 * n + m + popped position) f h old new
-made first n B position v w l m f g h old context counted copied taken body jumped code new b_moves push count special takes b far is end =
+made first n B position v w l m f g h old context counted copied taken body jumped code new b_moves push count special takes b over is end =
     let pushed = push.part ++ count.part in
     let copy = pushed ++ special.part in
-    let front = copy ++ far.adds.part in
+    let jump = far 164 (length body) in
+    let front = copy ++ jump in
     let made = front ++ body in
     let all = made ++ end.part in
     let pushed_length = length-append push.part count.part in
     let copy_length = length-append pushed special.part in
-    let front_length = length-append copy far.adds.part in
+    let front_length = length-append copy jump in
     let made_length = length-append front body in
     let all_length = length-append made end.part in
     let body_is : body ≡ takes.part ++ b.part = b.is_code ∙ ap (λ x. x ++ b.part) takes.is in
@@ -298,12 +311,12 @@ made first n B position v w l m f g h old context counted copied taken body jump
     let b_in : Sits b.part body (length takes.part) = subst (λ (x : List ℕ). Sits b.part x (length takes.part)) (sym body_is) (sits_last takes.part b.part) in
     let body_in : Sits body all (length front) = sits_more body made end.part (length front) (sits_last front body) in
     let front_in : (part : List ℕ) (k : ℕ) → Sits part front k → Sits part all k = λ part k s. sits_more part made end.part k (sits_more part front body k s) in
-    let jump_in : Sits far.adds.part all (length copy) = front_in far.adds.part (length copy) (sits_last copy far.adds.part) in
+    let jump_in : Sits jump all (length copy) = front_in jump (length copy) (sits_last copy jump) in
     record {
       part = all;
       added = count.added ++ b.added;
       is_code = behind_two old made end.part code new
-          (behind_two old front body jumped code (behind_two old copy far.adds.part copied jumped (behind_two old pushed special.part counted copied (behind_two old push.part count.part context counted push.is count.is_code) special.is) far.adds.is) is) end.is;
+          (behind_two old front body jumped code (behind_two old copy jump copied jumped (behind_two old pushed special.part counted copied (behind_two old push.part count.part context counted push.is count.is_code) special.is) over.is) is) end.is;
       is_frame = behind_two f count.added b.added g h count.is_frame b.is_frame;
       firsts = firsts_of_two f g v w count.added b.added count.is_frame count.firsts b.firsts;
       stands = record {
@@ -313,22 +326,14 @@ made first n B position v w l m f g h old context counted copied taken body jump
         start = length front;
         body_at = length front + length takes.part;
         after = length made;
-        byte = far.byte;
         context = stands_moved PushContext push.part all 0 0 (length push.part)
-            (front_in push.part 0 (sits_more push.part copy far.adds.part 0 (sits_more push.part pushed special.part 0 (sits_more push.part push.part count.part 0 (sits_all push.part))))) refl (omega arith) push.stands;
+            (front_in push.part 0 (sits_more push.part copy jump 0 (sits_more push.part pushed special.part 0 (sits_more push.part push.part count.part 0 (sits_all push.part))))) refl (omega arith) push.stands;
         parameters = moved (CountRow n) count.part all (length push.part) g h b.added (length push.part) (length pushed) (count_moves n)
-            (front_in count.part (length push.part) (sits_more count.part copy far.adds.part (length push.part) (sits_more count.part pushed special.part (length push.part) (sits_last push.part count.part))))
+            (front_in count.part (length push.part) (sits_more count.part copy jump (length push.part) (sits_more count.part pushed special.part (length push.part) (sits_last push.part count.part))))
             b.is_frame refl pushed_length count.stands;
         copies = stands_moved (SendSpecial 24) special.part all (length pushed) (length pushed) (length copy)
-            (front_in special.part (length pushed) (sits_more special.part copy far.adds.part (length pushed) (sits_last pushed special.part))) refl copy_length special.stands;
-        over = record {
-          distance = pos (length body);
-          stands = stands_moved (Jump (pos (length body))) far.adds.part all (length copy) (length copy) (length front) jump_in refl front_length far.adds.stands;
-          lands = ap pos made_length ∙ sym (pos-+ℤ-pos (length front) (length body));
-        };
-        begun = (let here : length copy + 0 ≡ length copy = omega arith in ap (slice_get all) (sym here)) ∙ jump_in.byte 0 far.byte far.begun;
-        low = far.low;
-        high = far.high;
+            (front_in special.part (length pushed) (sits_more special.part copy jump (length pushed) (sits_last pushed special.part))) refl copy_length special.stands;
+        over = over_moved (length body) all (length copy) (length made) (length copy) (length front) jump_in over.reach refl front_length made_length;
         takes = moved (λ bytes entries p q. Takes bytes first n p q) takes.part all (length front + 0) h h [] (length front) (length front + length takes.part) (takes_move first n)
             (sits_within takes.part body all 0 (length front) takes_in body_in) (sym (append-nil h)) (omega arith) (omega arith) takes.stands;
         body = moved B b.part all (length front + length takes.part) h h [] (length front + length takes.part) (length made) b_moves
@@ -336,5 +341,5 @@ made first n B position v w l m f g h old context counted copied taken body jump
         ending = moved (λ bytes entries p q. Ends bytes position p q) end.part all (length made) h h [] (length made) (length all) (ends_moves position)
             (sits_last made end.part) (sym (append-nil h)) refl all_length end.stands;
       };
-      short = omega (arith, pushed_length, copy_length, front_length, made_length, all_length, body_length, push.short, count.short, special.short, far.adds.short, takes.short, b.short, end.short);
+      short = omega (arith, pushed_length, copy_length, front_length, made_length, all_length, body_length, push.short, count.short, special.short, takes.short, b.short, end.short);
     }

@@ -3,10 +3,9 @@ use Rattle.std.specs.Prelude.{◌≡◌, ℕ, ◌+◌, ◌*◌, ◌<◌, ◌≤�
 use Rattle.std.specs.List.{Contains}
 use Rattle.s80_code.specs.Entries.{EntryTree}
 use Rattle.s80_code.specs.declared.instruction.Storage.{Storage}
-use Rattle.s80_code.specs.declared.instruction.Storage.TheVariants.{Receiver, Temporary, Constant, Variable}
 use Rattle.s80_code.specs.declared.instruction.Instruction.{Instruction}
 use Rattle.s80_code.specs.declared.instruction.Instruction.TheVariants.{Jump}
-use Rattle.s80_code.specs.Table.{Stands, storage, decoded}
+use Rattle.s80_code.specs.Spelling.{Written, far, IsSmall}
 use Rattle.s80_scope.specs.declared.fit.position.Position.{Position}
 use Rattle.s80_core.specs.Core.{VariableTree, LeafTree, variable, CoreTree, CoreTrees, SendTree, SendTrees, count}
 use Rattle.std.specs.Option.{option_map_or}
@@ -17,37 +16,19 @@ use Rattle.s80_agree.specs.Compiles.{AreFirsts}
 
 -- ---- instructions
 
--- the number of what is read or written fits into six bits
-abbrev pub IsSmall : Storage → Type 0
-IsSmall (Receiver n) = n < 64
-IsSmall (Temporary n) = n < 64
-IsSmall (Constant n) = n < 64
-IsSmall (Variable n) = n < 64
-
--- the byte stands for this instruction
-abbrev pub IsAlone : Instruction → ℕ → Type 0
-IsAlone instruction byte = decoded (byte ∷ []) ≡ Some (instruction, 1)
-
--- bytes that stand for one instruction, at most so many, are added behind others
+-- the spelling of one instruction, of at most so many bytes, is added behind others
 pub record Adds (instruction : Instruction) (most : ℕ) (old new : List ℕ) : Type 0 where
   pub part : List ℕ
   pub is : new ≡ old ++ part
-  pub stands : Stands part 0 instruction (length part)
+  pub stands : Written part 0 instruction (length part)
   pub short : length part ≤ most
 
--- the byte that names what is read or written
-abbrev pub IsOperand : Storage → ℕ → Type 0
-IsOperand s byte = storage byte ≡ s
-
--- the same for a jump over so many bytes by two, of which the first is 164 to 167
+-- a jump ahead over so many bytes by two, however few they are
 pub record AddsFar (distance : ℕ) (old new : List ℕ) : Type 0 where
-  pub adds : Adds (Jump (pos distance)) 2 old new
-  pub byte : ℕ
-  pub begun : slice_get adds.part 0 ≡ Some byte
-  pub low : 164 ≤ byte
-  pub high : byte ≤ 167
+  pub reach : distance < 1024
+  pub is : new ≡ old ++ far 164 distance
 
--- and for a jump back by two bytes
+-- and a jump back, by two bytes as each is
 pub record AddsBack (distance : ℕ) (old new : List ℕ) : Type 0 where
   pub adds : Adds (Jump (negsuc distance)) 2 old new
   pub width : length adds.part ≡ 2

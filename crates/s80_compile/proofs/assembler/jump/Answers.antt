@@ -1,7 +1,9 @@
-use Rattle.std.proofs.Common.{◌+◌, pos, [], ◌∷◌, arith}
+use Rattle.std.proofs.Common.{◌≡◌, pos, ap, w32, to_z, rules, arith}
 use Rattle.s80_code.specs.declared.instruction.Instruction.TheVariants as is
-use Rattle.s80_compile.proofs.Instructions as instruction
+use Rattle.s80_compile.proofs.Instructions.{added_as}
 use Rattle.s80_compile.proofs.assembler.jump.Goals as goal
 
-pub returns-in-1-to-8 : goal.returns-in-1-to-8
-returns-in-1-to-8 c = instruction.added c.append.result (is.Jump (pos c.args.distance)) ((143 + c.args.distance) ∷ []) c.args.code.now c.append.new.self 2 (instruction.near_jump c.args.distance (omega arith) (omega arith)) (omega arith) c.append.ensures.ok
+pub returns : goal.returns
+returns c =
+    let same : to_z w32 c.args.distance ≡ pos c.args.distance = search rules in
+    added_as c.encode.result (is.Jump (pos c.args.distance)) (is.Jump (to_z w32 c.args.distance)) 2 c.args.code.now c.encode.new.bytes (ap is.Jump same) c.requires (omega arith) c.encode.ensures

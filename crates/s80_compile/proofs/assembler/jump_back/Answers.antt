@@ -1,6 +1,5 @@
-use Rattle.std.proofs.Common.{◌-◌, arith}
-use Rattle.s80_compile.proofs.Instructions as instruction
+use Rattle.s80_compile.proofs.Instructions.{added_back, one_back}
 use Rattle.s80_compile.proofs.assembler.jump_back.Goals as goal
 
 pub returns : goal.returns
-returns c = instruction.adds_back c.append.result (1023 - c.args.distance) c.args.distance c.args.code.now c.append.new.self (omega (arith, c.requires)) c.append.ensures.ok
+returns c = added_back c.encode.result c.args.distance _ c.args.code.now c.encode.new.bytes c.requires (one_back c.args.distance c.requires) c.encode.ensures

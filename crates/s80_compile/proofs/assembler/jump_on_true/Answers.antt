@@ -1,7 +1,9 @@
-use Rattle.std.proofs.Common.{◌+◌, ◌/◌, ◌%◌, pos, [], ◌∷◌, arith}
+use Rattle.std.proofs.Common.{◌≡◌, pos, ap, w32, to_z, rules, arith}
 use Rattle.s80_code.specs.declared.instruction.Instruction.TheVariants as is
-use Rattle.s80_compile.proofs.Instructions as instruction
+use Rattle.s80_compile.proofs.Instructions.{added_as}
 use Rattle.s80_compile.proofs.assembler.jump_on_true.Goals as goal
 
 pub returns : goal.returns
-returns c = instruction.added c.append.result (is.JumpOnTrue (pos c.args.distance)) ((168 + c.args.distance / 256) ∷ c.args.distance % 256 ∷ []) c.args.code.now c.append.new.self 2 (instruction.far_true c.args.distance c.requires) (omega arith) c.append.ensures.ok
+returns c =
+    let same : to_z w32 c.args.distance ≡ pos c.args.distance = search rules in
+    added_as c.encode.result (is.JumpOnTrue (pos c.args.distance)) (is.JumpOnTrue (to_z w32 c.args.distance)) 2 c.args.code.now c.encode.new.bytes (ap is.JumpOnTrue same) c.requires (omega arith) c.encode.ensures

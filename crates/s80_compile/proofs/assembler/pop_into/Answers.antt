@@ -1,10 +1,7 @@
-use Rattle.std.proofs.Common.{[], ◌∷◌, arith}
+use Rattle.std.proofs.Common.{arith}
 use Rattle.s80_code.specs.declared.instruction.Instruction.TheVariants as is
-use Rattle.s80_compile.proofs.Instructions as instruction
+use Rattle.s80_compile.proofs.Instructions.{added}
 use Rattle.s80_compile.proofs.assembler.pop_into.Goals as goal
 
-pub returns-in-Some : goal.returns-in-Some
-returns-in-Some c = instruction.added c.append.result (is.PopInto c.args.storage) (c.in-Some.byte ∷ []) c.args.code.now c.append.new.self 2 (c.in-Some.ensures) (omega arith) c.append.ensures.ok
-
-pub returns-in-None : goal.returns-in-None
-returns-in-None c = instruction.added c.append-in-None.result (is.PopInto c.args.storage) (130 ∷ c.operand.result ∷ []) c.args.code.now c.append-in-None.new.self 2 (instruction.long_pop c.args.storage c.operand.result c.operand.ensures) (omega arith) c.append-in-None.ensures.ok
+pub returns : goal.returns
+returns c = added c.encode.result (is.PopInto c.args.storage) 2 c.args.code.now c.encode.new.bytes c.requires (omega arith) c.encode.ensures

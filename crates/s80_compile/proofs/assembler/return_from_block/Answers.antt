@@ -1,7 +1,7 @@
-use Rattle.std.proofs.Common.{[], ◌∷◌, arith}
+use Rattle.std.proofs.Common.{arith}
 use Rattle.s80_code.specs.declared.instruction.Instruction.TheVariants as is
-use Rattle.s80_compile.proofs.Instructions as instruction
+use Rattle.s80_compile.proofs.Instructions.{added}
 use Rattle.s80_compile.proofs.assembler.return_from_block.Goals as goal
 
 pub returns : goal.returns
-returns c = instruction.added c.append.result (is.ReturnFromBlock) (125 ∷ []) c.args.code.now c.append.new.self 1 (instruction.block_return) (omega arith) c.append.ensures.ok
+returns c = added c.encode.result (is.ReturnFromBlock) 1 c.args.code.now c.encode.new.bytes tt (omega arith) c.encode.ensures

@@ -1,7 +1,7 @@
-use Rattle.std.proofs.Common.{[], ◌∷◌, arith}
+use Rattle.std.proofs.Common.{arith}
 use Rattle.s80_code.specs.declared.instruction.Instruction.TheVariants as is
-use Rattle.s80_compile.proofs.Instructions as instruction
+use Rattle.s80_compile.proofs.Instructions.{added}
 use Rattle.s80_compile.proofs.assembler.store.Goals as goal
 
 pub returns : goal.returns
-returns c = instruction.added c.append.result (is.Store c.args.storage) (129 ∷ c.operand.result ∷ []) c.args.code.now c.append.new.self 2 (instruction.long_store c.args.storage c.operand.result c.operand.ensures) (omega arith) c.append.ensures.ok
+returns c = added c.encode.result (is.Store c.args.storage) 2 c.args.code.now c.encode.new.bytes c.requires (omega arith) c.encode.ensures
