@@ -7,12 +7,13 @@ use Rattle.s80_code.specs.declared.instruction.Storage.{Storage}
 use Rattle.s80_code.specs.declared.instruction.Storage.TheVariants.{Temporary}
 use Rattle.s80_code.specs.Entries.{EntryTree}
 use Rattle.s80_code.specs.Table.{Stands}
+use Rattle.s80_code.specs.Spelling.{Written}
 use Rattle.s80_code.proofs.TableLemmas.{value as same_value}
 use Rattle.s80_scope.specs.declared.fit.position.Position.{Position}
 use Rattle.s80_scope.specs.declared.fit.position.Position.TheVariants.{Value, Effect}
 use Rattle.s80_core.specs.Core.{VariableTree, temporary, instance, class_variable, outer, LeafTree, variable, constant, receiver, context, CoreTree, CoreTrees, SendTrees, leaf, assign, value, send, cascade, real_block, two_arms, one_arm, shortcut, repeat, nothing, before, answer, answer_fixed, leave, no_cores, cores, no_sends, sends, count}
 use Rattle.s80_core.specs.Measures.{fixed_number, sent_number}
-use Rattle.s80_agree.specs.Rows.{Holds as HoldsVariable, PushesConstant, Pushes, Stores, send_of, SendsBy, SendsTo, jump_unless, One, Ends, NilFor, JumpsTo, Takes, shortcut_number, At, AllAt, SendsAt}
+use Rattle.s80_agree.specs.Rows.{Holds as HoldsVariable, PushesConstant, Pushes, Stores, send_of, SendsBy, SendsTo, jump_unless, One, Ends, NilFor, JumpsTo, JumpsOver, Takes, shortcut_number, At, AllAt, SendsAt}
 use Rattle.s80_machine.specs.Sound.{of_receiver, receiver_variable_in}
 use Rattle.s80_suits.proofs.Fields.{IsBelow, LeafIsBelow, AreBelow, AllBelow, SendsBelow}
 use Rattle.s80_suits.proofs.Behind.{HoldsFrom, before_it}
@@ -51,8 +52,11 @@ module _ (bytes : List ℕ) (entries : List EntryTree) (v : ℕ) where
   here : (i : Instruction) (p q : ℕ) → NamesBelow v i → Stands bytes p i q → From q → From p
   here i p q below s from = λ n. before_it bytes (NamesBelow v) i p q below s from n
 
-  plain : (i : Instruction) (p q : ℕ) → receiver_variable_in i ≡ None → Stands bytes p i q → From q → From p
-  plain i p q none s from = here i p q (λ k some. absurd (let d : None ≡ Some k = sym none ∙ some in cc)) s from
+  plain_there : (i : Instruction) (p q : ℕ) → receiver_variable_in i ≡ None → Stands bytes p i q → From q → From p
+  plain_there i p q none s from = here i p q (λ k some. absurd (let d : None ≡ Some k = sym none ∙ some in cc)) s from
+
+  plain : (i : Instruction) (p q : ℕ) → receiver_variable_in i ≡ None → Written bytes p i q → From q → From p
+  plain i p q none w from = plain_there i p q none w.stands from
 
   same_place : (p q : ℕ) → p ≡ q → From q → From p
   same_place p q e from = subst (λ (k : ℕ). From k) (sym e) from
@@ -60,7 +64,7 @@ module _ (bytes : List ℕ) (entries : List EntryTree) (v : ℕ) where
   leaf_from : (l : LeafTree) (p q : ℕ) → LeafIsBelow v l → One bytes (Pushes entries l) p q → From q → From p
   leaf_from (variable x) p q h o from =
       let (s, is, holds) = o.is in
-      here o.instruction p q (λ k e. storage_below v entries x s h holds k (sym (ap receiver_variable_in is) ∙ e)) o.stands from
+      here o.instruction p q (λ k e. storage_below v entries x s h holds k (sym (ap receiver_variable_in is) ∙ e)) o.stands.stands from
   leaf_from (constant c) p q h o from = plain o.instruction p q (constant_plain entries c (fixed_number c) o.instruction o.is) o.stands from
   leaf_from receiver p q h o from = plain o.instruction p q (ap receiver_variable_in o.is) o.stands from
   leaf_from context p q h o from = plain o.instruction p q (ap receiver_variable_in o.is) o.stands from
@@ -68,10 +72,10 @@ module _ (bytes : List ℕ) (entries : List EntryTree) (v : ℕ) where
   store_from : (x : VariableTree) (position : Position) (p q : ℕ) → IsBelow v x → One bytes (Stores entries x position) p q → From q → From p
   store_from x Value p q h o from =
       let (s, is, holds) = o.is in
-      here o.instruction p q (λ k e. storage_below v entries x s h holds k (sym (ap receiver_variable_in is) ∙ e)) o.stands from
+      here o.instruction p q (λ k e. storage_below v entries x s h holds k (sym (ap receiver_variable_in is) ∙ e)) o.stands.stands from
   store_from x Effect p q h o from =
       let (s, is, holds) = o.is in
-      here o.instruction p q (λ k e. storage_below v entries x s h holds k (sym (ap receiver_variable_in is) ∙ e)) o.stands from
+      here o.instruction p q (λ k e. storage_below v entries x s h holds k (sym (ap receiver_variable_in is) ∙ e)) o.stands.stands from
 
   send_from : (to_super : Bool) (s : List ℕ) (n p q : ℕ) → One bytes (SendsTo entries to_super s n) p q → From q → From p
   send_from to_super s n p q o from = plain o.instruction p q (sends_plain entries to_super s n (sent_number to_super s) o.instruction o.is) o.stands from
@@ -81,6 +85,9 @@ module _ (bytes : List ℕ) (entries : List EntryTree) (v : ℕ) where
 
   jump_from : (to p q : ℕ) → JumpsTo bytes Jump to p q → From q → From p
   jump_from to p q j from = plain (Jump j.distance) p q refl j.stands from
+
+  over_from : (to p q : ℕ) → JumpsOver bytes to p q → From q → From p
+  over_from to p q j from = plain_there (Jump (pos j.distance)) p q refl j.stands from
 
   end_from : (position : Position) (p q : ℕ) → Ends bytes position p q → From q → From p
   end_from Value p q e from = same_place p q e from
@@ -109,7 +116,7 @@ module _ (bytes : List ℕ) (entries : List EntryTree) (v : ℕ) where
         plain PushContext p t.push refl t.context
         (leaf_from (constant (small (pos n))) t.push t.copy tt t.parameters
         (plain (SendSpecial 24) t.copy t.jump refl t.copies
-        (jump_from t.after t.jump t.start t.over
+        (over_from t.after t.jump t.start t.over
         (takes_from n first t.start t.body_at t.takes (core_from e Effect t.body_at t.after h t.body (end_from position t.after q t.ending from))))))
     core_from (two_arms on c a b) position p q h t from =
         core_from c Value p t.test h.0 t.condition
