@@ -17,6 +17,7 @@ use Rattle.s80_code.specs.declared.instruction.Storage.TheVariants.{Temporary}
 use Rattle.s80_code.specs.Entries.{entries_of}
 use Rattle.s80_code.specs.Entries as entry
 use Rattle.s80_code.specs.Table.{Stands}
+use Rattle.s80_code.specs.Spelling.{Written}
 use Rattle.s80_dict.specs.Table.{MethodsValue}
 use Rattle.s80_dict.specs.declared.dict.MethodEntry.{MethodEntry}
 use Rattle.s80_object.specs.Body.{BodyTree, cost, words_of, word_limit}
@@ -44,7 +45,7 @@ use Rattle.s80_prims.specs.declared.stop.Outcome.{Outcome}
 use Rattle.s80_prims.specs.declared.stop.Stop.TheVariants.{BlockActive, Budget, CannotReturn, Deep, NonBoolean, ObjectsFull}
 use Rattle.s80_scope.specs.declared.fit.position.Position.{Position}
 use Rattle.s80_scope.specs.declared.fit.position.Position.TheVariants.{Value as Wanted, Effect}
-use Rattle.s80_agree.specs.Rows.{SendsBy, SendsTo, Takes, Holds, Pushes, PushesConstant, Stores, Ends as EndsSo, JumpsTo, NilFor, One, jump_unless, shortcut_number}
+use Rattle.s80_agree.specs.Rows.{SendsBy, SendsTo, Takes, Holds, Pushes, PushesConstant, Stores, Ends as EndsSo, JumpsTo, NilFor, One, JumpsOver, jump_unless, shortcut_number}
 use Rattle.s80_machine.specs.World.{World, Key, first_world, changed, doit, home_in, reached, field_set, in_frame, is_frame_of_block, with_temporary, method, numbered, Context, Frame, own, home, block, is_home_frame, number_in, one_tick, variable_named, with_objects, with_receiver_variable, with_variable}
 use Rattle.s80_machine.specs.Turn.{State, Turn, Block, at_once, block_with, is_value, special_selectors, message_off, selector_in, unary_in, pushed_all, Goes, Ends, Stuck, depth_limit, holds_block, constant_in, decided, deliver, fixed, given, goes_on, place_at, return_from, return_home, stops, ticked}
 use Rattle.s80_machine.specs.Step.{act, activated, block_made as machine_block, copy_turn, found_turn, looked_up, not_understood, performed, places_above, places_for, places_of, send_turn, sent, special_turn, super_turn, at_home, block_activated, block_started, method_turn, started, with_home, with_room, without_home, by_effect, by_primitive, code_at, code_for, first_pushed, jump, literal_pushed, store, turn, turn_at, turn_of}
@@ -68,7 +69,7 @@ use Rattle.s80_meaning.proofs.Stays as stays
 use Rattle.s80_meaning.proofs.Stays.{Extends, IsFine, IsPlaced, Later, extends_placed, extends_then, place_in}
 use Rattle.s80_meaning.proofs.Ahead.{ahead, nil_ahead}
 use Rattle.s80_meaning.proofs.BlockMade.{IsBehind, block_alike, block_behind, block_placed, home_key}
-use Rattle.s80_meaning.proofs.Headers.{block_start, lands_ahead}
+use Rattle.s80_meaning.proofs.Headers.{over_start}
 
 -- a value on the stack, where it is wanted
 abbrev pub push : Position → Value → List Value → List Value
@@ -332,14 +333,18 @@ module _ (t : Table) (meants : MethodsValue (MethodEntry Meant)) (meant : Meant)
   gives a w f s q onto x known l = (same_alike facts w known.fine, known.seen, l)
 
   -- one instruction
-  does : (a : Active) (f : Frame) (p : ℕ) (stack : List Value) (w : World) (i : Instruction) (q : ℕ) → Known a w f → Stands a.of.bytes p i q
+  does_there : (a : Active) (f : Frame) (p : ℕ) (stack : List Value) (w : World) (i : Instruction) (q : ℕ) → Known a w f → Stands a.of.bytes p i q
       → Leads (st a f p stack w) (act t codes code budget a.of (context a f p stack) q a.below (shown w) i)
-  does a f p stack w i q known h =
+  does_there a f p stack w i q known h =
       let c = context a f p stack in
       let code_there : code_at codes code (shown w) a.number ≡ Some a.of = ap (option_and_then (code_for codes code)) known.number ∙ a.code_is in
       one_step (st a f p stack w) (act t codes code budget a.of c q a.below (shown w) i)
       (ap (turn_of t codes code budget c a.below (shown w)) code_there ∙ ap (turn_at t codes code budget c a.below (shown w) a.of) h.is_decoded
       ∙ ap (λ to. act t codes code budget a.of c to a.below (shown w) i) (sym h.behind))
+
+  does : (a : Active) (f : Frame) (p : ℕ) (stack : List Value) (w : World) (i : Instruction) (q : ℕ) → Known a w f → Written a.of.bytes p i q
+      → Leads (st a f p stack w) (act t codes code budget a.of (context a f p stack) q a.below (shown w) i)
+  does a f p stack w i q known h = does_there a f p stack w i q known h.stands
 
   moved : (a : Active) (f : Frame) (p q : ℕ) (stack : List Value) (w : World) → p ≡ q → Leads (st a f p stack w) (Goes (st a f q stack w))
   moved a f p q stack w e = subst (λ x. Leads (st a f p stack w) (Goes (st a f x stack w))) e (no_step (st a f p stack w))
@@ -394,13 +399,20 @@ module _ (t : Table) (meants : MethodsValue (MethodEntry Meant)) (meant : Meant)
   landed a f distance to place q stack w lands = ap (λ z. given (place_at z) (λ to. goes_on (context a f place stack) to stack a.below w)) (sym lands)
 
   -- a jump ahead
-  passes : (a : Active) (to p q : ℕ) (f : Frame) (stack : List Value) (w : World) → Known a w f → JumpsTo a.of.bytes instruction.Jump to p q → q ≤ to → Leads (st a f p stack w) (Goes (st a f to stack w))
-  passes a to p q f stack w known r up =
+  passes_there : (a : Active) (to p q : ℕ) (f : Frame) (stack : List Value) (w : World) → Known a w f → (distance : ℤ) → Stands a.of.bytes p (instruction.Jump distance) q → pos to ≡ pos q +ℤ distance → q ≤ to
+      → Leads (st a f p stack w) (Goes (st a f to stack w))
+  passes_there a to p q f stack w known distance stands lands up =
       let s = st a f p stack w in
-      let ahead : is_negative r.distance ≡ false = goes_ahead q to r.distance r.lands up in
-      let l = does a f p stack w (instruction.Jump r.distance) q known r.stands in
-      subst (Leads s) (landed a f r.distance to p q stack (shown w) r.lands)
-      (subst (λ b. Leads s (if b then ticked budget (shown w) (jump t codes code budget r.distance (context a f p stack) q stack a.below) else jump t codes code budget r.distance (context a f p stack) q stack a.below (shown w))) ahead l)
+      let ahead : is_negative distance ≡ false = goes_ahead q to distance lands up in
+      let l = does_there a f p stack w (instruction.Jump distance) q known stands in
+      subst (Leads s) (landed a f distance to p q stack (shown w) lands)
+      (subst (λ b. Leads s (if b then ticked budget (shown w) (jump t codes code budget distance (context a f p stack) q stack a.below) else jump t codes code budget distance (context a f p stack) q stack a.below (shown w))) ahead l)
+
+  passes : (a : Active) (to p q : ℕ) (f : Frame) (stack : List Value) (w : World) → Known a w f → JumpsTo a.of.bytes instruction.Jump to p q → q ≤ to → Leads (st a f p stack w) (Goes (st a f to stack w))
+  passes a to p q f stack w known r up = passes_there a to p q f stack w known r.distance r.stands.stands r.lands up
+
+  passes_over : (a : Active) (to p q : ℕ) (f : Frame) (stack : List Value) (w : World) → Known a w f → JumpsOver a.of.bytes to p q → Leads (st a f p stack w) (Goes (st a f to stack w))
+  passes_over a to p q f stack w known r = passes_there a to p q f stack w known (pos r.distance) r.stands (ap pos r.lands ∙ sym (pos-+ℤ-pos q r.distance)) (omega (arith, r.lands))
 
   -- a choice by a jump: the machine goes on behind it, or where it leads
   chooses : {A : Type 0} (a : Active) (wants : Bool) (to test behind q : ℕ) (onto : A → List Value) (f : Frame) (v : Value) (stack : List Value) (w : World) (wanted other : Out A) → Known a w f
@@ -422,11 +434,11 @@ module _ (t : Table) (meants : MethodsValue (MethodEntry Meant)) (meant : Meant)
   up_to : (a : Active) (e : Tree) (position : Position) (p q : ℕ) → places.At a.of.bytes (entries_of a.of.literals) a.means.blocks (starts a.key) e position p q → p ≤ q
   up_to a e position p q r = ahead a.of.bytes (entries_of a.of.literals) a.means.blocks (starts a.key) e position p q r
 
-  below_next : (bytes : List ℕ) (p : ℕ) (i : Instruction) (q : ℕ) → Stands bytes p i q → p ≤ q
-  below_next bytes p i q r = omega (arith, goes_forward bytes p i q r)
+  below_next : (bytes : List ℕ) (p : ℕ) (i : Instruction) (q : ℕ) → Written bytes p i q → p ≤ q
+  below_next bytes p i q r = omega (arith, goes_forward bytes p i q r.stands)
 
   -- the constant of `and:` or `or:`
-  shortcut_for : (a : Active) (wants : Bool) (f : Frame) (p q : ℕ) (stack : List Value) (w : World) → Known a w f → Stands a.of.bytes p (instruction.PushFixed (shortcut_number wants)) q
+  shortcut_for : (a : Active) (wants : Bool) (f : Frame) (p q : ℕ) (stack : List Value) (w : World) → Known a w f → Written a.of.bytes p (instruction.PushFixed (shortcut_number wants)) q
       → Leads (st a f p stack w) (Goes (st a f q (otherwise wants ∷ stack) w))
   shortcut_for a true f p q stack w known r = does a f p stack w (instruction.PushFixed 2) q known r
   shortcut_for a false f p q stack w known r = does a f p stack w (instruction.PushFixed 1) q known r
@@ -462,9 +474,9 @@ module _ (t : Table) (meants : MethodsValue (MethodEntry Meant)) (meant : Meant)
   repeat_down : (a : Active) (wants : Bool) (c e : Tree) (position : Position) (p q : ℕ) (r : places.At a.of.bytes (entries_of a.of.literals) a.means.blocks (starts a.key) (repeat wants c e) position p q) → p < r.done
   repeat_down a wants c e position p q r =
       let x = up_to a c Wanted p r.test r.condition in
-      let y = goes_forward a.of.bytes r.test (jump_unless wants r.unless.distance) r.body_at r.unless.stands in
+      let y = goes_forward a.of.bytes r.test (jump_unless wants r.unless.distance) r.body_at r.unless.stands.stands in
       let z = up_to a e Effect r.body_at r.over r.body in
-      let u = goes_forward a.of.bytes r.over (instruction.Jump r.back.distance) r.done r.back.stands in
+      let u = goes_forward a.of.bytes r.over (instruction.Jump r.back.distance) r.done r.back.stands.stands in
       omega (arith, x, y, z, u)
 
   -- ---- what one instruction pushes
@@ -475,7 +487,7 @@ module _ (t : Table) (meants : MethodsValue (MethodEntry Meant)) (meant : Meant)
   given_pushed a f p mid stack w None known l = l
   given_pushed a f p mid stack w (Some v) known l = gives a w f (st a f p stack w) mid (λ v. v ∷ stack) v known l
 
-  variable_pushed : (a : Active) (f : Frame) (p mid : ℕ) (stack : List Value) (w : World) (v : VariableTree) (s : Storage) → Known a w f → Holds (entries_of a.of.literals) v s → Stands a.of.bytes p (instruction.Push s) mid
+  variable_pushed : (a : Active) (f : Frame) (p mid : ℕ) (stack : List Value) (w : World) (v : VariableTree) (s : Storage) → Known a w f → Holds (entries_of a.of.literals) v s → Written a.of.bytes p (instruction.Push s) mid
       → Follows a w (st a f p stack w) mid (λ v. v ∷ stack) (with_part (read w f a.receiver v) (λ x. Gives x w f))
   variable_pushed a f p mid stack w v s known holds r =
       given_pushed a f p mid stack w (read w f a.receiver v) known
@@ -540,7 +552,7 @@ module _ (t : Table) (meants : MethodsValue (MethodEntry Meant)) (meant : Meant)
         → Follows a w (st a f p stack w) mid (λ v. v ∷ stack) (meaning.literal_value t meants meant budget w f a.number k l)
     literal_pushed_so leads = by_made (made_before a.number k w.objects) leads
 
-  constant_pushed : (a : Active) (f : Frame) (p mid : ℕ) (stack : List Value) (w : World) (l : LiteralTree) (i : Instruction) (o : Option ℕ) → Known a w f → PushesConstant (entries_of a.of.literals) l o i → Stands a.of.bytes p i mid
+  constant_pushed : (a : Active) (f : Frame) (p mid : ℕ) (stack : List Value) (w : World) (l : LiteralTree) (i : Instruction) (o : Option ℕ) → Known a w f → PushesConstant (entries_of a.of.literals) l o i → Written a.of.bytes p i mid
       → Follows a w (st a f p stack w) mid (λ v. v ∷ stack) (meaning.constant_value t meants meant budget (here_of a) w f l o)
   constant_pushed a f p mid stack w l i (Some n) known is r =
       given_pushed a f p mid stack w (slice_get (fixed a.receiver) n) known
@@ -566,12 +578,12 @@ module _ (t : Table) (meants : MethodsValue (MethodEntry Meant)) (meant : Meant)
           let wrong : true ≡ false = sym (small_so a k (entry.constant (literal.small n)) there) ∙ ap (λ key. small key k) (sym same) ∙ made.2 in
           cc
 
-  leaf_pushed : (a : Active) (f : Frame) (p mid : ℕ) (stack : List Value) (w : World) (l : LeafTree) (i : Instruction) → Known a w f → Pushes (entries_of a.of.literals) l i → Stands a.of.bytes p i mid
+  leaf_pushed : (a : Active) (f : Frame) (p mid : ℕ) (stack : List Value) (w : World) (l : LeafTree) (i : Instruction) → Known a w f → Pushes (entries_of a.of.literals) l i → Written a.of.bytes p i mid
       → Follows a w (st a f p stack w) mid (λ v. v ∷ stack) (meaning.leaf_value t meants meant budget (here_of a) w f l)
-  leaf_pushed a f p mid stack w (core.variable v) i known (s, is, holds) r = variable_pushed a f p mid stack w v s known holds (subst (λ i. Stands a.of.bytes p i mid) is r)
+  leaf_pushed a f p mid stack w (core.variable v) i known (s, is, holds) r = variable_pushed a f p mid stack w v s known holds (subst (λ i. Written a.of.bytes p i mid) is r)
   leaf_pushed a f p mid stack w (core.constant l) i known is r = constant_pushed a f p mid stack w l i (fixed_number l) known is r
-  leaf_pushed a f p mid stack w core.receiver i known is r = gives a w f (st a f p stack w) mid (λ v. v ∷ stack) a.receiver known (does a f p stack w (instruction.PushFixed 0) mid known (subst (λ i. Stands a.of.bytes p i mid) is r))
-  leaf_pushed a f p mid stack w core.context i known it r = gives a w f (st a f p stack w) mid (λ v. v ∷ stack) val.Context known (does a f p stack w instruction.PushContext mid known (subst (λ i. Stands a.of.bytes p i mid) it r))
+  leaf_pushed a f p mid stack w core.receiver i known is r = gives a w f (st a f p stack w) mid (λ v. v ∷ stack) a.receiver known (does a f p stack w (instruction.PushFixed 0) mid known (subst (λ i. Written a.of.bytes p i mid) is r))
+  leaf_pushed a f p mid stack w core.context i known it r = gives a w f (st a f p stack w) mid (λ v. v ∷ stack) val.Context known (does a f p stack w instruction.PushContext mid known (subst (λ i. Written a.of.bytes p i mid) it r))
 
   -- ---- assignments
 
@@ -597,10 +609,10 @@ module _ (t : Table) (meants : MethodsValue (MethodEntry Meant)) (meant : Meant)
           → Leads (st a f p (x ∷ stack) w) (given (written (shown w) f a.receiver v x) (λ z. goes_on (context a z.1 p (push position x stack)) q (push position x stack) a.below z.0))
       machine Wanted r =
           subst (Leads (st a f p (x ∷ stack) w)) (stored_so a f p q v r.is.0 x (x ∷ stack) (shown w) r.is.2)
-          (does a f p (x ∷ stack) w (instruction.Store r.is.0) q known (subst (λ i. Stands a.of.bytes p i q) r.is.1 r.stands))
+          (does a f p (x ∷ stack) w (instruction.Store r.is.0) q known (subst (λ i. Written a.of.bytes p i q) r.is.1 r.stands))
       machine Effect r =
           subst (Leads (st a f p (x ∷ stack) w)) (stored_so a f p q v r.is.0 x stack (shown w) r.is.2)
-          (does a f p (x ∷ stack) w (instruction.PopInto r.is.0) q known (subst (λ i. Stands a.of.bytes p i q) r.is.1 r.stands))
+          (does a f p (x ∷ stack) w (instruction.PopInto r.is.0) q known (subst (λ i. Written a.of.bytes p i q) r.is.1 r.stands))
 
       by_written : (o : Option (World × Frame)) → written w f a.receiver v x ≡ o → Follows a w (st a f p (x ∷ stack) w) q (λ v. push position v stack) (with_part o (λ p. Gives x p.0 p.1))
       by_written None e =
@@ -1161,11 +1173,11 @@ module _ (t : Table) (meants : MethodsValue (MethodEntry Meant)) (meant : Meant)
         from : List Value
         from = pushed_all xs (r ∷ stack)
 
-        by_entry : (i : Instruction) → SendsBy (entries_of a.of.literals) true selector n None i → Stands a.of.bytes q i p
+        by_entry : (i : Instruction) → SendsBy (entries_of a.of.literals) true selector n None i → Written a.of.bytes q i p
             → Follows a w (st a f q from w) p (λ v. v ∷ stack) (meaning.sent t meants meant budget next (meaning.places_above t meants meant budget next a.key) selector a.receiver xs (here_of a).alive w f)
         by_entry i (k, is, there) stands =
             let c = context a f q from in
-            let l = does a f q from w (instruction.SendSuper n k) p known (subst (λ i. Stands a.of.bytes q i p) is stands) in
+            let l = does a f q from w (instruction.SendSuper n k) p known (subst (λ i. Written a.of.bytes q i p) is stands) in
             sent_so (meaning.places_above t meants meant budget next a.key) selector a.receiver xs w w (st a f q from w) known (same_alike facts w known.fine)
             (subst (Leads (st a f q from w))
             (taken_so n r xs (super_turn t codes code budget a.of c p a.below (shown w) k) counted
@@ -1178,11 +1190,11 @@ module _ (t : Table) (meants : MethodsValue (MethodEntry Meant)) (meant : Meant)
         from : List Value
         from = pushed_all xs (r ∷ stack)
 
-        by_number : (o : Option ℕ) → special_number selector ≡ o → (i : Instruction) → SendsBy (entries_of a.of.literals) false selector n o i → Stands a.of.bytes q i p
+        by_number : (o : Option ℕ) → special_number selector ≡ o → (i : Instruction) → SendsBy (entries_of a.of.literals) false selector n o i → Written a.of.bytes q i p
             → Follows a w (st a f q from w) p (λ v. v ∷ stack) (meaning.message t meants meant budget next selector o r xs (here_of a).alive w f)
         by_number None o_is i (k, is, there) stands =
             let c = context a f q from in
-            let l = does a f q from w (instruction.Send n k) p known (subst (λ i. Stands a.of.bytes q i p) is stands) in
+            let l = does a f q from w (instruction.Send n k) p known (subst (λ i. Written a.of.bytes q i p) is stands) in
             plain_so selector r xs w (st a f q from w) known
             (subst (Leads (st a f q from w))
             (taken_so n r xs (send_turn t codes code budget a.of c p a.below (shown w) k) counted
@@ -1190,7 +1202,7 @@ module _ (t : Table) (meants : MethodsValue (MethodEntry Meant)) (meant : Meant)
             l)
         by_number (Some m) o_is i is stands =
             let c = context a f q from in
-            let l = does a f q from w (instruction.SendSpecial m) p known (subst (λ i. Stands a.of.bytes q i p) is stands) in
+            let l = does a f q from w (instruction.SendSpecial m) p known (subst (λ i. Written a.of.bytes q i p) is stands) in
             let here = special_is selector m o_is in
             special_so m selector r xs q from w (st a f q from w) known here.1
             (subst (Leads (st a f q from w))
@@ -1278,7 +1290,7 @@ module _ (t : Table) (meants : MethodsValue (MethodEntry Meant)) (meant : Meant)
       Leads (st a f p stack w) (Goes (st a f mid (val.Small (pos n) ∷ stack) w))
       ⊎ Leads (st a f p stack w) (if nat_le (words_of w.objects.bodies) word_limit then Goes (st a f mid (val.Small (pos n) ∷ stack) w) else stops (ObjectsFull (words_of w.objects.bodies)) (shown w))
 
-  count_pushed : (a : Active) (f : Frame) (p mid : ℕ) (stack : List Value) (w : World) (n : ℕ) (i : Instruction) → Known a w f → Pushes (entries_of a.of.literals) (core.constant (literal.small (pos n))) i → Stands a.of.bytes p i mid
+  count_pushed : (a : Active) (f : Frame) (p mid : ℕ) (stack : List Value) (w : World) (n : ℕ) (i : Instruction) → Known a w f → Pushes (entries_of a.of.literals) (core.constant (literal.small (pos n))) i → Written a.of.bytes p i mid
       → CountPushed a f p mid stack w n
   count_pushed a f p mid stack w n i known is r = by_small (nat_le n 2) refl is
     where
@@ -1320,7 +1332,7 @@ module _ (t : Table) (meants : MethodsValue (MethodEntry Meant)) (meant : Meant)
           let kept_so : kept a.key n ≡ Some r.block.parameters =
           ap (λ o. option_map (λ (tree : RealBlock). tree.parameters) (option_and_then (λ (m : Meant). slice_get m.blocks n) o)) a.means_is ∙ ap (option_map (λ (tree : RealBlock). tree.parameters)) r.is_block in
           let c = context a f r.copy there in
-          let begins = block_start a.of.bytes r.jump r.start r.byte r.over.distance r.over.stands r.begun r.low r.high in
+          let begins = over_start a.of.bytes r.after r.jump r.start r.over in
           let place : place_in starts w (val.Object h) n ≡ r.jump + 2 = ap (λ o. option_map_or (λ (key : Key). starts key n) o n) keyed ∙ r.starts_at ∙ begins.0 in
           let b = body.block (val.Object h) n r.block.parameters in
           let w1 = with_objects w (with_body w.objects b) in
@@ -1336,7 +1348,7 @@ module _ (t : Table) (meants : MethodsValue (MethodEntry Meant)) (meant : Meant)
           let made : Leads s (Goes (st a f r.jump (v ∷ stack) w1)) =
           subst (λ x. Leads s (Goes (record { contexts = context a f r.jump (v ∷ stack) ∷ a.below; world = x }))) (made_shown w b more.later (block_placed w h n r.block.parameters facts a.key known.fine.placed keyed kept_so))
           (subst (λ m. Leads s (Goes (record { contexts = context a f r.jump (val.Object m ∷ stack) ∷ a.below; world = with_objects w (with_body (image (place_in starts w) w.objects) (placed (place_in starts w) b)) }))) (length_image (place_in starts w) w.objects.bodies) l) in
-          (more, known.seen, on made (on (passes a r.after r.jump r.start f (v ∷ stack) w1 known1 r.over (lands_ahead r.start r.after begins.1.0 r.over.distance r.over.lands begins.1.1)) (finish a f position r.after q v stack w1 known1 r.ending))))
+          (more, known.seen, on made (on (passes_over a r.after r.jump r.start f (v ∷ stack) w1 known1 r.over) (finish a f position r.after q v stack w1 known1 r.ending))))
 
       by_room : (h : ℕ) → home_in f ≡ Some h → (x : Bool) → nat_le (words_of w.objects.bodies) word_limit ≡ x → Leads s (if x then Goes (st a f r.copy there w) else stops (ObjectsFull (words_of w.objects.bodies)) (shown w))
           → Follows a w s q (λ v. push position v stack) (in_room w (body.block (val.Object h) n r.block.parameters) (λ w1. Gives (val.Object (length w.objects.bodies)) w1 f))

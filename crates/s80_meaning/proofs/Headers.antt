@@ -1,5 +1,5 @@
 -- What a code's header and its blocks' jumps say: what a method names, which of these a literal is, and where a real block begins.
-use Rattle.std.proofs.Common.{◌≡◌, ℕ, zero, suc, ◌+◌, ◌-◌, ◌*◌, ◌<◌, ◌≤◌, ◌⊎◌, inl, inr, ℤ, pos, ◌+ℤ◌, ◌-ℤ◌, ◌*ℤ◌, List, [], ◌∷◌, ◌++◌, Bool, true, false, cond, not, drop, Option, Some, None, refl, sym, ap, ◌∙◌, subst, arith}
+use Rattle.std.proofs.Common.{◌≡◌, ℕ, zero, suc, ◌+◌, ◌-◌, ◌*◌, ◌/◌, ◌%◌, ◌<◌, ◌≤◌, ◌⊎◌, inl, inr, ℤ, pos, ◌+ℤ◌, ◌-ℤ◌, ◌*ℤ◌, List, [], ◌∷◌, ◌++◌, Bool, true, false, cond, not, drop, Option, Some, None, refl, sym, ap, ◌∙◌, subst, arith}
 use Rattle.std.proofs.Math.IntN.{pos-+ℤ-pos}
 use Rattle.std.specs.Prelude.{slice_get, if◌then◌else◌}
 use Rattle.std.specs.List.{All, Contains, list_any, position_or_len}
@@ -13,6 +13,8 @@ use Rattle.s80_code.specs.declared.instruction.Instruction.{Instruction}
 use Rattle.s80_code.specs.declared.instruction.Instruction.TheVariants.{Jump}
 use Rattle.s80_code.specs.Entries.{EntryTree, constant, class_variable, outer, owner, extension, entries_of}
 use Rattle.s80_code.specs.Table.{Stands, decoded, formed, row, with_one}
+use Rattle.s80_code.proofs.SpellingLemmas.{first_byte}
+use Rattle.s80_agree.specs.Rows.{JumpsOver}
 use Rattle.s80_code.proofs.TableLemmas.{value, row_law}
 use Rattle.s80_verify.proofs.PlaceLemmas.{front_at}
 use Rattle.s80_tree.specs.Tree.{MethodParts}
@@ -205,9 +207,9 @@ block_start bytes jump start byte distance stands begun low high =
     let t = two_wide (byte - 160) behind distance stands.width is in
     (omega (arith, t.0, stands.behind), ((byte - 164) * 256 + t.1.0, t.1.1 ∙ forward byte t.1.0 low high))
 
--- so a block ends where it begins, or behind it
-pub lands_ahead : (start after n : ℕ) (distance : ℤ) → pos after ≡ pos start +ℤ distance → distance ≡ pos n → start ≤ after
-lands_ahead start after n distance lands ahead =
-    let e : pos after ≡ pos (start + n) = lands ∙ ap (λ z. pos start +ℤ z) ahead ∙ pos-+ℤ-pos start n in
-    let same : after ≡ start + n = cc in
-    omega (arith, same)
+-- a jump over a block takes two bytes, and leads on
+pub over_start : (bytes : List ℕ) (to p q : ℕ) (j : JumpsOver bytes to p q) → (q ≡ p + 2) × (q ≤ to)
+over_start bytes to p q j =
+    let begun = first_byte bytes (j.distance % 256 ∷ []) p q (164 + j.distance / 256) j.here in
+    let start = block_start bytes p q (164 + j.distance / 256) (pos j.distance) j.stands begun (omega arith) (omega (arith, j.reach)) in
+    (start.0, omega (arith, j.lands))

@@ -12,6 +12,7 @@ use Rattle.s80_code.specs.declared.instruction.Instruction.TheVariants.{PopInto,
 use Rattle.s80_code.specs.declared.instruction.Storage.TheVariants.{Temporary}
 use Rattle.s80_code.specs.Entries.{EntryTree, entries_of}
 use Rattle.s80_code.specs.Table.{Stands}
+use Rattle.s80_code.specs.Spelling.{Written}
 use Rattle.s80_code.proofs.TableLemmas.{value as same_value}
 use Rattle.s80_tree.specs.Tree.{MethodParts}
 use Rattle.s80_scope.specs.FitLiterals.{arithmetic_selectors, common_selectors}
@@ -21,7 +22,7 @@ use Rattle.s80_core.specs.Core.{VariableTree, LeafTree, variable, constant, rece
 use Rattle.s80_core.specs.Elaborate.{place_in}
 use Rattle.s80_core.specs.Measures.{common_number, fixed_number, special_number, sent_number}
 use Rattle.s80_agree.specs.Compiles.{IsCodeOf}
-use Rattle.s80_agree.specs.Rows.{PushesConstant, Pushes, Stores, send_of, SendsBy, SendsTo, jump_unless, One, Ends, NilFor, JumpsTo, Takes, shortcut_number, At, AllAt, SendsAt}
+use Rattle.s80_agree.specs.Rows.{PushesConstant, Pushes, Stores, send_of, SendsBy, SendsTo, jump_unless, One, Ends, NilFor, JumpsTo, JumpsOver, Takes, shortcut_number, At, AllAt, SendsAt}
 use Rattle.s80_machine.specs.Turn.{begins_block, holds_block, instructions_in}
 use Rattle.s80_verify.proofs.PlaceLemmas.{goes_forward, ends_within}
 use Rattle.s80_meaning.specs.Tree.{RealBlock, size, size_all, blocks, blocks_all, blocks_sends}
@@ -139,11 +140,14 @@ module _ (bytes : List ℕ) where
       ap (λ o. list_any begins_block (option_map_or (λ r. r.0 ∷ instructions_in n (drop r.1 (drop p bytes))) o [])) s.is_decoded
       ∙ ap (λ c. begins_block i || c) later
 
-  plain : (i : Instruction) (p q : ℕ) (b : Bool) → begins_block i ≡ false → Stands bytes p i q → Found q b → Found p b
-  plain i p q b none s found = subst (λ (c : Bool). Found p c) (ap (λ c. c || b) none) (step i p q b s found)
+  plain_there : (i : Instruction) (p q : ℕ) (b : Bool) → begins_block i ≡ false → Stands bytes p i q → Found q b → Found p b
+  plain_there i p q b none s found = subst (λ (c : Bool). Found p c) (ap (λ c. c || b) none) (step i p q b s found)
 
-  begins : (p q : ℕ) (b : Bool) → Stands bytes p (SendSpecial 24) q → Found q b → Found p true
-  begins p q b s found = step (SendSpecial 24) p q b s found
+  plain : (i : Instruction) (p q : ℕ) (b : Bool) → begins_block i ≡ false → Written bytes p i q → Found q b → Found p b
+  plain i p q b none w found = plain_there i p q b none w.stands found
+
+  begins : (p q : ℕ) (b : Bool) → Written bytes p (SendSpecial 24) q → Found q b → Found p true
+  begins p q b w found = step (SendSpecial 24) p q b w.stands found
 
   at_the_end : Found (length bytes) false
   at_the_end zero enough = refl
@@ -174,6 +178,9 @@ module _ (bytes : List ℕ) where
 
     jump_from : (to p q : ℕ) (b : Bool) → JumpsTo bytes Jump to p q → Found q b → Found p b
     jump_from to p q b j from = plain (Jump j.distance) p q b refl j.stands from
+
+    over_from : (to p q : ℕ) (b : Bool) → JumpsOver bytes to p q → Found q b → Found p b
+    over_from to p q b j from = plain_there (Jump (pos j.distance)) p q b refl j.stands from
 
     end_from : (position : Position) (p q : ℕ) (b : Bool) → Ends bytes position p q → Found q b → Found p b
     end_from Value p q b e from = same_place p q b e from
@@ -206,7 +213,7 @@ module _ (bytes : List ℕ) where
           plain PushContext p t.push true refl t.context
           (leaf_from (constant (small (pos n))) t.push t.copy true t.parameters
           (begins t.copy t.jump inside t.copies
-          (jump_from t.after t.jump t.start inside t.over
+          (over_from t.after t.jump t.start inside t.over
           (takes_from n first t.start t.body_at inside t.takes
           (core_from e (suc k) Effect t.body_at t.after b t.body (end_from position t.after q b t.ending from))))))
       core_from (two_arms on c x y) k position p q b t from =

@@ -204,15 +204,11 @@ module _ (bytes : List ℕ) (entries : List EntryTree) (all : List RealBlock) (s
             jump = r.jump;
             start = r.start;
             after = r.after;
-            byte = r.byte;
             is_block = h.0;
             context = r.context;
             parameters = r.parameters;
             copies = r.copies;
             over = r.over;
-            begun = r.begun;
-            low = r.low;
-            high = r.high;
             starts_at = h.1;
             ending = r.ending;
           },

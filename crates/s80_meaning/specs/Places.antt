@@ -1,14 +1,14 @@
 -- Which code stands for a numbered tree: what stands for the core tree, where each real block begins at the place that is its own.
-use Rattle.std.specs.Prelude.{◌≡◌, ℕ, pos, ◌≤◌, List, Bool, slice_get, length, Some}
+use Rattle.std.specs.Prelude.{◌≡◌, ℕ, pos, List, Bool, slice_get, length, Some}
 use Rattle.s80_base.specs.Literal.{small}
 use Rattle.s80_code.specs.declared.code.Code.{Code}
-use Rattle.s80_code.specs.declared.instruction.Instruction.TheVariants.{Duplicate, Jump, Pop, PushContext, PushFixed, ReturnFixed, ReturnFromBlock, ReturnTop, SendSpecial}
+use Rattle.s80_code.specs.declared.instruction.Instruction.TheVariants.{Duplicate, Pop, PushContext, PushFixed, ReturnFixed, ReturnFromBlock, ReturnTop, SendSpecial}
 use Rattle.s80_code.specs.Entries.{EntryTree, entries_of}
-use Rattle.s80_code.specs.Table.{Stands}
+use Rattle.s80_code.specs.Spelling.{Written}
 use Rattle.s80_scope.specs.declared.fit.position.Position.{Position}
 use Rattle.s80_scope.specs.declared.fit.position.Position.TheVariants.{Value, Effect}
 use Rattle.s80_core.specs.Core.{constant}
-use Rattle.s80_agree.specs.Rows.{One, Both, Chooses, Ends, JumpsTo, Loops, NilFor, Pushes, SendsTo, Skips, Stores, Takes, shortcut_number}
+use Rattle.s80_agree.specs.Rows.{One, Both, Chooses, Ends, JumpsOver, Loops, NilFor, Pushes, SendsTo, Skips, Stores, Takes, shortcut_number}
 use Rattle.s80_meaning.specs.Tree.{Meant, RealBlock, Tree, Trees, Sends, leaf, assign, value, send, cascade, real, two_arms, one_arm, shortcut, repeat, nothing, before, answer, answer_fixed, leave, no_trees, trees, no_sends, sends, count}
 
 -- a real block where it stands as a value: it is made, and its code is jumped over
@@ -19,15 +19,11 @@ pub record MakesReal (bytes : List ℕ) (entries : List EntryTree) (blocks : Lis
   pub jump : ℕ
   pub start : ℕ
   pub after : ℕ
-  pub byte : ℕ
   pub is_block : slice_get blocks b ≡ Some block
-  pub context : Stands bytes p PushContext push
+  pub context : Written bytes p PushContext push
   pub parameters : One bytes (Pushes entries (constant (small (pos block.parameters)))) push copy
-  pub copies : Stands bytes copy (SendSpecial 24) jump
-  pub over : JumpsTo bytes Jump after jump start
-  pub begun : slice_get bytes jump ≡ Some byte
-  pub low : 164 ≤ byte
-  pub high : byte ≤ 167
+  pub copies : Written bytes copy (SendSpecial 24) jump
+  pub over : JumpsOver bytes after jump start
   pub starts_at : starts b ≡ start
   pub ending : Ends bytes position after q
 
@@ -45,13 +41,13 @@ module _ (bytes : List ℕ) (entries : List EntryTree) (blocks : List RealBlock)
     At (one_arm on c a) Value p q = Chooses bytes on (At c Value) (At a Value) (NilFor bytes Value) p q
     At (one_arm on c a) Effect p q = Skips bytes on (At c Value) (At a Effect) p q
     At (shortcut on c a) position p q =
-        Both (Chooses bytes on (At c Value) (At a Value) (λ m r. Stands bytes m (PushFixed (shortcut_number on)) r)) (Ends bytes position) p q
+        Both (Chooses bytes on (At c Value) (At a Value) (λ m r. Written bytes m (PushFixed (shortcut_number on)) r)) (Ends bytes position) p q
     At (repeat on c e) position p q = Loops bytes on (At c Value) (At e Effect) position p q
     At nothing position p q = NilFor bytes position p q
     At (before a b) position p q = Both (At a Effect) (At b position) p q
-    At (answer e) position p q = Both (At e Value) (λ m r. Stands bytes m ReturnTop r) p q
-    At (answer_fixed n) position p q = Stands bytes p (ReturnFixed n) q
-    At (leave e) position p q = Both (At e Value) (λ m r. Stands bytes m ReturnFromBlock r) p q
+    At (answer e) position p q = Both (At e Value) (λ m r. Written bytes m ReturnTop r) p q
+    At (answer_fixed n) position p q = Written bytes p (ReturnFixed n) q
+    At (leave e) position p q = Both (At e Value) (λ m r. Written bytes m ReturnFromBlock r) p q
 
     pub AllAt : Trees → ℕ → ℕ → Type 0
     AllAt no_trees p q = p ≡ q
@@ -61,8 +57,8 @@ module _ (bytes : List ℕ) (entries : List EntryTree) (blocks : List RealBlock)
     SendsAt to_super no_sends p q = p ≡ q
     SendsAt to_super (sends s es no_sends) p q = Both (AllAt es) (One bytes (SendsTo entries to_super s (count es))) p q
     SendsAt to_super (sends s es ms) p q =
-        Both (λ m r. Stands bytes m Duplicate r)
-        (Both (AllAt es) (Both (One bytes (SendsTo entries to_super s (count es))) (Both (λ m r. Stands bytes m Pop r) (SendsAt to_super ms)))) p q
+        Both (λ m r. Written bytes m Duplicate r)
+        (Both (AllAt es) (Both (One bytes (SendsTo entries to_super s (count es))) (Both (λ m r. Written bytes m Pop r) (SendsAt to_super ms)))) p q
 
 -- a real block's own code
 pub record BlockAt (bytes : List ℕ) (entries : List EntryTree) (blocks : List RealBlock) (starts : ℕ → ℕ) (block : RealBlock) (p : ℕ) : Type 0 where
