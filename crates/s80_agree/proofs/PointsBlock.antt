@@ -1,5 +1,5 @@
 -- The code of a real block, made of parts that are sound.
-use Rattle.std.proofs.Common.{◌≡◌, ◌≢◌, sym, ap, ◌∙◌, subst, refl, ℕ, suc, ◌+◌, ◌-◌, ◌/◌, ◌%◌, pos, ◌≤◌, inl, inr, List, [], ◌∷◌, true, false, Some, None, slice_get, arith}
+use Rattle.std.proofs.Common.{◌≡◌, ◌≢◌, sym, ap, ◌∙◌, subst, refl, ℕ, suc, ◌+◌, ◌-◌, ◌/◌, ◌%◌, pos, ◌≤◌, inl, inr, List, [], ◌∷◌, true, false, None, arith}
 use Rattle.s80_code.specs.declared.code.Code.{Code}
 use Rattle.s80_code.specs.declared.instruction.Instruction.{Instruction}
 use Rattle.s80_code.specs.declared.instruction.Instruction.TheVariants.{PushContext, SendSpecial, Jump}

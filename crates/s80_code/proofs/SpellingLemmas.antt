@@ -8,7 +8,7 @@ use Rattle.s80_code.specs.declared.instruction.Storage.{Storage}
 use Rattle.s80_code.specs.declared.instruction.Storage.TheVariants.{Receiver, Temporary, Constant, Variable}
 use Rattle.s80_code.specs.declared.instruction.Instruction.{Instruction}
 use Rattle.s80_code.specs.declared.instruction.Instruction.TheVariants.{Push, Store, PopInto, PushFixed, ReturnFixed, ReturnTop, ReturnFromBlock, Send, SendSuper, SendSpecial, Pop, Duplicate, PushContext, Jump, JumpOnTrue, JumpOnFalse}
-use Rattle.s80_code.specs.Table.{Form, alone, with_one, with_two, Row, row, rows, has, row_of, formed, storage, decoded, Stands}
+use Rattle.s80_code.specs.Table.{Form, alone, with_one, with_two, Row, row, rows, has, row_of, formed, storage, decoded}
 use Rattle.s80_code.specs.Spelling.{operand, short_below, spelled_push, spelled_pop, packed, spelled_send, far, near, spelled_jump, distance_of, spelled, IsSmall, IsInReach, IsAhead, IsSpellable, Written}
 use Rattle.s80_code.proofs.TableLemmas.{value, by_row, row_law, same_place}
 

@@ -1,5 +1,5 @@
 -- Code with its header.
-use Rattle.std.proofs.Common.{◌≡◌, ℕ, ◌+◌, ◌<◌, ◌≤◌, List, [], ◌++◌, length, refl, sym, ◌∙◌, subst, ap, arith}
+use Rattle.std.proofs.Common.{◌≡◌, ℕ, ◌≤◌, List, [], ◌++◌, length, refl, sym, ◌∙◌, subst, ap, arith}
 use Rattle.std.proofs.lemmas.List.Elements.{All-contains}
 use Rattle.std.specs.List.{Contains}
 use Rattle.s80_code.specs.Entries.{EntryTree}
@@ -12,7 +12,7 @@ use Rattle.s80_scope.specs.declared.fit.Fit.TheVariants as fits_in
 use Rattle.s80_scope.specs.declared.shape.Shape.{Shape}
 use Rattle.s80_scope.specs.declared.shape.Binding.{Binding}
 use Rattle.s80_core.specs.Core.{CoreTree}
-use Rattle.s80_core.specs.Measures.{CoreFits, entries, size}
+use Rattle.s80_core.specs.Measures.{CoreFits, entries}
 use Rattle.s80_core.specs.Elaborate.{elaborated}
 use Rattle.s80_core.proofs.FitAll.{core_fits}
 use Rattle.s80_agree.specs.Sent.{AreWellSent, IsWellSent}
@@ -20,7 +20,7 @@ use Rattle.s80_agree.proofs.SentArms.{arms_had}
 use Rattle.s80_agree.proofs.SentCore.{core_sent}
 use Rattle.s80_agree.specs.Rows.{At}
 use Rattle.s80_agree.specs.Compiles.{AreFirsts}
-use Rattle.s80_compile.specs.Emitted.{Fits, HasRoom, IsEmitted, CoreRow}
+use Rattle.s80_compile.specs.Emitted.{Fits, IsEmitted, CoreRow}
 use Rattle.s80_compile.proofs.Moves.{Sits, sits_all}
 use Rattle.s80_compile.proofs.Parts.{core_moves, moved}
 

@@ -8,7 +8,7 @@ use mir.Val.{SFits}
 use Rattle.s80_code.specs.declared.instruction.Instruction.{Instruction}
 use Rattle.s80_code.specs.declared.instruction.Instruction.TheVariants.{Jump}
 use Rattle.s80_code.specs.Table.{Stands, decoded}
-use Rattle.s80_code.specs.Spelling.{Written, spelled, IsSpellable}
+use Rattle.s80_code.specs.Spelling.{spelled, IsSpellable}
 use Rattle.s80_code.proofs.SpellingLemmas.{spelled_tells}
 use Rattle.s80_agree.proofs.WidthTable.{most_bytes, narrow_there}
 use Rattle.s80_compile.specs.Emitted.{Adds, AddsBack}
