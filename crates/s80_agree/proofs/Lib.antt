@@ -7,10 +7,15 @@ pub mod DepthInstructions
 pub mod DepthSelector
 pub mod FrameHeader
 pub mod FrameLaw
+pub mod OneFrame
 pub mod Points
 pub mod PointsBlock
 pub mod PointsRows
 pub mod PointsSound
+pub mod SameCore
+pub mod SameInstructions
+pub mod SamePart
+pub mod SameRows
 pub mod SentArms
 pub mod SentCore
 pub mod SentTrees

@@ -75,3 +75,13 @@ pub record IsCodeOf (m : MethodParts) (core : CoreTree) (class : List ℕ) (side
 -- a method, in a class of this shape, is compiled to this code
 abbrev pub Compiles : MethodParts → Shape → List ℕ → Side → Code → Type 0
 Compiles m shape class side code = IsCodeOf m (elaborated m shape) class side code
+
+-- two codes with the same header, the same entries and the same bytes, wherever their literals lie in memory
+pub record AreEqual (one other : Code) : Type 0 where
+  pub flag : one.flag ≡ other.flag
+  pub arguments : one.arguments ≡ other.arguments
+  pub primitive : one.primitive ≡ other.primitive
+  pub temporaries : one.temporaries ≡ other.temporaries
+  pub large : one.large ≡ other.large
+  pub literals : entries_of one.literals ≡ entries_of other.literals
+  pub bytes : one.bytes ≡ other.bytes

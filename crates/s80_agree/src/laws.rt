@@ -11,7 +11,7 @@ ghost use Rattle.s80_core.specs.Arms.{HaveArms};
 ghost use Rattle.s80_core.specs.Core.{CoreTree};
 ghost use Rattle.s80_core.specs.Elaborate.{elaborated};
 ghost use Rattle.s80_core.specs.Measures.{CoreFits};
-ghost use Rattle.s80_agree.specs.Compiles.{IsCodeOf};
+ghost use Rattle.s80_agree.specs.Compiles.{AreEqual, Compiles, IsCodeOf};
 ghost use Rattle.s80_agree.specs.Sent.{AreWellSent, BodyIsWellSent, IsWellSent};
 
 /// Code of a core tree that fits has a depth for each of its places, and so is verified.
@@ -31,4 +31,12 @@ pub fn messages_fit_their_selectors()
 pub fn trees_are_well_sent()
     ensures method { (text : List ℕ) (m : MethodParts) → IsMethodOf text m → AreWellSent m }
     ensures doit { (text : List ℕ) (d : DoItParts) → IsDoItOf text d → BodyIsWellSent d.body }
+{}
+
+/// Two codes of one core tree in one class are equal, wherever their literals lie in memory; and so are two of one method.
+pub fn one_code()
+    ensures core { (m : MethodParts) (core : CoreTree) (class : List ℕ) (side : Side) (one other : Code)
+        → IsCodeOf m core class side one → IsCodeOf m core class side other → AreEqual one other }
+    ensures method { (m : MethodParts) (shape : Shape) (class : List ℕ) (side : Side) (one other : Code)
+        → Compiles m shape class side one → Compiles m shape class side other → AreEqual one other }
 {}

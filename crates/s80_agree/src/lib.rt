@@ -3,4 +3,6 @@
 
 mod laws;
 
-pub use laws::{messages_fit_their_selectors, related_code_is_verified, trees_are_well_sent};
+pub use laws::{
+    messages_fit_their_selectors, one_code, related_code_is_verified, trees_are_well_sent,
+};
