@@ -5,7 +5,7 @@
 #include <string.h>
 #include <unistd.h>
 
-enum { SLOT = 64, PAYLOAD = 34, MARK = 128 };
+enum { SLOT = 64, PAYLOAD = 43, MARK = 128 };
 
 static int opened(const char *folder, const char *name) {
     char path[4096];

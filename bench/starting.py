@@ -17,7 +17,7 @@ def written(place, blocks):
     """A folder whose mark takes these blocks."""
     os.mkdir(place)
     log = b"".join(blocks)
-    slot = b"!" + struct.pack(">QBQBQQ", 1, 0, len(log), 255, 0, 0)
+    slot = b"!" + struct.pack(">QBQBQQBQ", 1, 0, len(log), 255, 0, 0, 2, len(blocks))
     for name, held in {"log0": log, "mark": slot.ljust(128, b"\0")}.items():
         with open(os.path.join(place, name), "wb") as target:
             target.write(held)

@@ -1,7 +1,8 @@
 -- How many changes a list has, by the length of its log.
-use Rattle.std.proofs.Common.{◌≡◌, ℕ, ◌+◌, ◌-◌, ◌^◌, ◌≤◌, min, List, [], ◌∷◌, ◌++◌, length, arith, length-append}
+use Rattle.std.proofs.Common.{◌≡◌, ℕ, ◌+◌, ◌≤◌, List, [], ◌∷◌, length, arith, length-append}
 use Rattle.s80_block.specs.declared.change.Change.{Change}
 use Rattle.s80_block.specs.Block.{block, blocks, IsList}
+use Rattle.s80_keeper.specs.Answers.{one_more}
 use Rattle.s80_keeper.proofs.OneList.{block_length}
 
 -- a list has no more changes than its log has bytes
@@ -13,8 +14,8 @@ no_more (change ∷ changes) =
     rw (length-append (block change) (blocks changes)) (omega arith)
 
 -- so one more is counted
-pub counts_more : (changes : List Change) (change : Change) (count : ℕ) → IsList changes → count ≡ length changes → min (count + 1) (2 ^ 64 - 1) ≡ length (changes ++ change ∷ [])
-counts_more changes change count list is =
+pub counts_more : (changes : List Change) (count : ℕ) → IsList changes → count ≡ length changes → one_more count ≡ length changes + 1
+counts_more changes count list is =
     let few = no_more changes in
     let within = list.within in
-    rw (length-append changes (change ∷ [])) (omega arith)
+    omega arith

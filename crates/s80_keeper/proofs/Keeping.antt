@@ -1,5 +1,5 @@
 -- One commit: what the log says of it, by the mark, as the keeper says it.
-use Rattle.std.proofs.Common.{◌≡◌, ◌⊎◌, inl, inr, ⊎_elim, ℕ, ◌+◌, ◌-◌, ◌^◌, min, Bool, List, [], ◌∷◌, ◌++◌, length, Ok, refl, sym, ap, ◌∙◌, subst}
+use Rattle.std.proofs.Common.{◌≡◌, ◌⊎◌, inl, inr, ⊎_elim, ℕ, Bool, List, [], ◌∷◌, ◌++◌, length, Ok, refl, sym, ap, ◌∙◌, subst, length-append}
 use Rattle.s80_block.specs.declared.change.Change.{Change}
 use Rattle.s80_disk.specs.declared.disk.FileId.{FileId}
 use Rattle.s80_disk.specs.Image.{Image}
@@ -15,7 +15,7 @@ use Rattle.s80_log.specs.Standing.{StandsFor as StandsByMark}
 use Rattle.s80_log.specs.Commit.{LeavesBeside, StandForEither, next_mark}
 use Rattle.s80_keeper.specs.Standing.{NamesNoImage, FilesStandFor, LeavesEither}
 use Rattle.s80_keeper.specs.Keeper.{KeeperState, Keeps}
-use Rattle.s80_keeper.specs.Answers.{PreparedChange, IsFor, AfterKeeping, longer}
+use Rattle.s80_keeper.specs.Answers.{PreparedChange, IsFor, AfterKeeping, longer, one_more}
 use Rattle.s80_keeper.proofs.Counting.{counts_more}
 
 -- neither of two marks names an image
@@ -51,16 +51,16 @@ installed_at inside before step prepared at now same same_step here is =
     subst AtPlace (here ∙ ap (λ (k : KeeperState). k.log.end) same) (subst OfStep same_step (subst InSystem same is))
 
 -- what becomes of the keeper's parts, once a block of this size is committed
-pub after_kept : (inside before : KeeperState) (log : LogEnd) (mark : MarkState) (system : SystemState) (count size : ℕ) (change : Change) → inside ≡ before → size ≡ length (block change) → log ≡ longer inside.log size → mark ≡ next_mark inside.mark log → count ≡ min (inside.count + 1) (2 ^ 64 - 1) → record { log = log; mark = mark; system = system; count = count; fault = inside.fault } ≡ record before {
+pub after_kept : (inside before : KeeperState) (log : LogEnd) (mark : MarkState) (system : SystemState) (count size : ℕ) (change : Change) → inside ≡ before → size ≡ length (block change) → log ≡ longer inside.log size → mark ≡ next_mark inside.mark log count → count ≡ one_more inside.count → record { log = log; mark = mark; system = system; count = count; fault = inside.fault } ≡ record before {
   log = longer before.log (length (block change));
-  mark = next_mark before.mark (longer before.log (length (block change)));
+  mark = next_mark before.mark (longer before.log (length (block change))) (one_more before.count);
   system = system;
-  count = min (before.count + 1) (2 ^ 64 - 1);
+  count = one_more before.count;
 }
 after_kept inside before log mark system count size change same size_is log_is mark_is count_is =
     let log_now : log ≡ longer before.log (length (block change)) = log_is ∙ (λ i. longer (same i).log (size_is i)) in
-    let mark_now : mark ≡ next_mark before.mark (longer before.log (length (block change))) = mark_is ∙ (λ i. next_mark (same i).mark (log_now i)) in
-    let count_now : count ≡ min (before.count + 1) (2 ^ 64 - 1) = count_is ∙ ap (λ (k : KeeperState). min (k.count + 1) (2 ^ 64 - 1)) same in
+    let count_now : count ≡ one_more before.count = count_is ∙ ap (λ (k : KeeperState). one_more k.count) same in
+    let mark_now : mark ≡ next_mark before.mark (longer before.log (length (block change))) (one_more before.count) = mark_is ∙ (λ i. next_mark (same i).mark (log_now i) (count_now i)) in
     λ i. record { log = log_now i; mark = mark_now i; system = system; count = count_now i; fault = (same i).fault }
 
 -- the keeper after one change more is kept
@@ -74,7 +74,7 @@ keeps_more tells reads may_leave new_tells new_reads new_leaves keeper now place
       end = ap (λ (k : KeeperState). k.mark.log_length) made ∙ sym (ap (λ (k : KeeperState). k.log.end) made);
       built = built_kept changes keeper.system prepared ready keeps.built;
       system = installed_kept changes keeper.system prepared ready keeper.log.end now.system (sym keeps.end ∙ keeps.stands.files.whole) after.0;
-      count = ap (λ (k : KeeperState). k.count) made ∙ counts_more changes prepared.change keeper.count keeps.stands.files.list keeps.count;
+      count = ap (λ (k : KeeperState). k.count) made ∙ counts_more changes keeper.count keeps.stands.files.list keeps.count ∙ sym (length-append changes (prepared.change ∷ []));
       faultless = ap (λ (k : KeeperState). k.fault) made ∙ keeps.faultless;
     }
 

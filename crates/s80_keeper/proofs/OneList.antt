@@ -29,7 +29,7 @@ block_length change = framed_length (frame_of change)
 some_block : (change : Change) (after : List ℕ) → [] ≡ block change ++ after → ⊥
 some_block change after e = omega (arith, ap length e ∙ length-append (block change) after, block_length change)
 
-one_list : (changes other : List Change) → All IsLawful changes → All IsLawful other → blocks changes ≡ blocks other → changes ≡ other
+pub one_list : (changes other : List Change) → All IsLawful changes → All IsLawful other → blocks changes ≡ blocks other → changes ≡ other
 one_list [] [] one two e = refl
 one_list [] (d ∷ ds) one two e = absurd (some_block d (blocks ds) e)
 one_list (c ∷ cs) [] one two e = absurd (some_block c (blocks cs) (sym e))

@@ -18,7 +18,7 @@ use Rattle.s80_block.specs.Blocks.{BeginsWith, BeginsWithNone}
 use Rattle.s80_log.specs.Faults.{IfBad}
 use Rattle.s80_log.specs.declared.read.BlockFault.{BlockFault}
 use Rattle.s80_log.specs.declared.read.BlockFault.TheVariants as block_faults
-use Rattle.s80_keeper.specs.declared.start.Damage.TheVariants.{NoMark, BadMark, LogShort, BadBlock, Replay}
+use Rattle.s80_keeper.specs.declared.start.Damage.TheVariants.{NoMark, BadMark, LogShort, BadBlock, Replay, CountDiffers}
 use Rattle.s80_keeper.specs.declared.start.StartFault.{StartFault}
 use Rattle.s80_keeper.specs.declared.start.StartFault.TheVariants as faults
 use Rattle.s80_keeper.specs.Start.{fault_of_block, IfStartDisk}
@@ -90,6 +90,7 @@ module _ (bytes : List ℕ) (place count : ℕ) (system : SystemState) (so_far :
     refused_here T now (faults.Damaged (BadMark value)) is = absurd is
     refused_here T now (faults.Damaged (LogShort marked found)) is = absurd is
     refused_here T now (faults.Damaged (BadBlock at)) is = absurd is
+    refused_here T now (faults.Damaged (CountDiffers marked found)) is = absurd is
     refused_here T now (faults.Damaged (Replay at number)) is = (
       so_far.changes,
       change,

@@ -9,18 +9,19 @@ use Rattle.s80_mark.specs.declared.read.Found.{Found}
 use Rattle.s80_mark.specs.declared.read.Found.TheVariants.{Fresh, Mark as Marked}
 use Rattle.s80_mark.specs.declared.read.MarkFault.{MarkFault}
 use Rattle.s80_mark.specs.declared.read.MarkFault.TheVariants as mark_faults
+use Rattle.s80_mark.specs.Mark.{format_two}
 use Rattle.s80_mark.specs.Found.{IsAnswer}
 use Rattle.s80_state.specs.System.{SystemState, IsSystemOf}
 use Rattle.s80_state.specs.List.{IsBuilt, state_of}
 use Rattle.s80_log.specs.Log.{LogEnd, held_in}
 use Rattle.s80_log.specs.Standing.{marked_part, StandsFor as StandsByMark}
-use Rattle.s80_keeper.specs.declared.start.Damage.TheVariants.{NoMark, BadMark, LogShort, BadBlock, Replay}
+use Rattle.s80_keeper.specs.declared.start.Damage.TheVariants.{NoMark, BadMark, LogShort, BadBlock, Replay, CountDiffers}
 use Rattle.s80_keeper.specs.declared.start.StartFault.{StartFault}
 use Rattle.s80_keeper.specs.declared.start.StartFault.TheVariants as faults
 use Rattle.s80_keeper.specs.Keeper.{KeeperState, Keeps}
 use Rattle.s80_keeper.specs.Standing.{NamesNoImage, ReadsFor}
 use Rattle.s80_keeper.specs.Start.{HasMark, IsStart, Started, log_length, fault_of_mark}
-use Rattle.s80_keeper.specs.Reading.{IsFound, AreReplayed}
+use Rattle.s80_keeper.specs.Reading.{IsFound, IsCountChecked, AreReplayed}
 use Rattle.s80_keeper.proofs.OneList.{one_mark, one_standing, some_log}
 use Rattle.s80_keeper.proofs.Damages.{no_list}
 use Rattle.s80_keeper.proofs.Replayed.{held_length}
@@ -39,9 +40,9 @@ module _ (files : Image) (mark : MarkState) (has : HasMark files mark) (no_image
   abbrev log_of : LogEnd
   log_of = record { number = mark.log; end = mark.log_length }
 
-  -- all changes are accepted
-  pub replayed_start : (found : SystemState × ℕ) (keeper : KeeperState) → keeper.log ≡ log_of → keeper.system ≡ found.0 → keeper.count ≡ found.1 → AreReplayed (marked_part mark files) (Ok found) → IsStart files (Ok keeper)
-  replayed_start found keeper same_log same_system same is = (
+  -- all changes are accepted, and the mark counts them
+  pub replayed_start : (found : SystemState × ℕ) (keeper : KeeperState) → keeper.log ≡ log_of → keeper.system ≡ found.0 → keeper.count ≡ found.1 → (mark.format ≡ format_two → mark.count ≡ found.1) → AreReplayed (marked_part mark files) (Ok found) → IsStart files (Ok keeper)
+  replayed_start found keeper same_log same_system same counted is = (
     is.0,
     inr (
       mark,
@@ -51,6 +52,7 @@ module _ (files : Image) (mark : MarkState) (has : HasMark files mark) (no_image
         list = is.1;
         whole = sym (held_length files log_of long) ∙ ap length is.3;
         bytes = is.3;
+        counted = λ two. counted two ∙ is.5;
       },
       no_image,
       is.2,
@@ -62,6 +64,32 @@ module _ (files : Image) (mark : MarkState) (has : HasMark files mark) (no_image
     },
   )
 
+  -- or it counts other than so many
+  pub miscounted_start : (found : SystemState × ℕ) (fault : StartFault) → IsCountChecked {T = Unit {0}} mark found.1 (Err fault) → AreReplayed (marked_part mark files) (Ok found) → IsStart files (Err fault)
+  miscounted_start found faults.Memory checked is = absurd checked
+  miscounted_start found (faults.Disk failed) checked is = absurd checked
+  miscounted_start found (faults.Damaged (NoMark count)) checked is = absurd checked
+  miscounted_start found (faults.Damaged (BadMark value)) checked is = absurd checked
+  miscounted_start found (faults.Damaged (LogShort marked size)) checked is = absurd checked
+  miscounted_start found (faults.Damaged (BadBlock place)) checked is = absurd checked
+  miscounted_start found (faults.Damaged (Replay place number)) checked is = absurd checked
+  miscounted_start found (faults.Damaged (CountDiffers marked count)) checked is = (
+    mark,
+    is.0,
+    record {
+      has_mark = has;
+      no_image = no_image;
+      long = long;
+      list = is.1;
+      built = is.2;
+      bytes = is.3 ∙ sym (append-nil (blocks is.0));
+    },
+    checked.0,
+    checked.1,
+    checked.2 ∙ is.5,
+    checked.3,
+  )
+
   -- or one is bad
   pub bad_start : (fault : StartFault) → AreReplayed (marked_part mark files) (Err fault) → IsStart files (Err fault)
   bad_start faults.Memory is = tt
@@ -69,6 +97,7 @@ module _ (files : Image) (mark : MarkState) (has : HasMark files mark) (no_image
   bad_start (faults.Damaged (NoMark count)) is = absurd is
   bad_start (faults.Damaged (BadMark value)) is = absurd is
   bad_start (faults.Damaged (LogShort marked found)) is = absurd is
+  bad_start (faults.Damaged (CountDiffers marked found)) is = absurd is
   bad_start (faults.Damaged (BadBlock place)) is =
       let some : is.1 ≢ [] = λ e. is.6 (is.5 ∙ ap length (sym (is.4 ∙ ap (λ l. blocks is.0 ++ l) e ∙ append-nil (blocks is.0)))) in
       (mark, is.0, is.1, record { has_mark = has; no_image = no_image; long = long; list = is.2; built = is.3; bytes = is.4 }, is.5, some, is.7)

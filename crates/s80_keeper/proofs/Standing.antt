@@ -15,6 +15,7 @@ stays_by_mark tells reads may_leave mark changes h c left = record {
   list = h.files.list;
   whole = h.files.whole;
   bytes = h.log_stays c left ∙ h.files.bytes;
+  counted = h.files.counted;
 }
 
 module _ (tells : Bool) (reads : Image) (may_leave : Image → Type 0) (changes : List Change) (h : StandsFor tells reads may_leave changes) where

@@ -7,7 +7,7 @@ use Rattle.s80_disk.specs.declared.disk.FileId.{FileId}
 use Rattle.s80_disk.specs.declared.disk.FileId.TheVariants.{Mark, Log0, Log1}
 use Rattle.s80_disk.specs.Image.{Image, Only}
 use Rattle.s80_mark.specs.declared.mark.MarkState.{MarkState}
-use Rattle.s80_mark.specs.Mark.{valid_mark}
+use Rattle.s80_mark.specs.Mark.{format_two, valid_mark}
 use Rattle.s80_mark.specs.Stays.{StillLeft}
 use Rattle.s80_mark.specs.Found.{AreLogsEmpty}
 use Rattle.s80_mark.specs.Init.{SyncsFirst}
@@ -26,7 +26,7 @@ pub none_kept : (tells : Bool) (reads : Image) (may_leave : Image → Type 0) (c
 none_kept tells reads may_leave changes stands empty = ⊎_elim (λ none. none.1) (λ by_mark. empty_list reads by_mark.0 changes empty by_mark.1) stands.stands
 
 abbrev first_mark : MarkState
-first_mark = record { sequence = 1; log = 0; log_length = 0; image = 255; image_length = 0; image_position = 0 }
+first_mark = record { sequence = 1; log = 0; log_length = 0; image = 255; image_length = 0; image_position = 0; format = format_two; count = 0 }
 
 module _ (tells : Bool) (reads : Image) (may_leave : Image → Type 0) (changes : List Change) (told : IsTrue tells) (none : changes ≡ []) (durable : Only Mark (reads Mark) may_leave) where
   -- a disk whose mark is the first one stands for no change
@@ -35,10 +35,11 @@ module _ (tells : Bool) (reads : Image) (may_leave : Image → Type 0) (changes 
     told = told;
     files = record {
       valid = valid;
-      numbers = record { log = omega arith; image = inr refl };
+      numbers = record { log = omega arith; image = inr refl; format = inr refl };
       list = record { lawful = All-nil IsLawful; within = omega arith };
       whole = refl;
       bytes = refl;
+      counted = λ two. refl;
     };
     mark_stays = durable;
     log_stays = λ c left. refl;

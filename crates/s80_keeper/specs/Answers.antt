@@ -36,13 +36,17 @@ Prepares state end change now (Err (refused.Refusal refusal)) = refusal_to state
 abbrev pub longer : LogEnd → ℕ → LogEnd
 longer log size = record log { end = log.end + size }
 
+-- a count of changes with one more; no list has so many that it stands still
+abbrev pub one_more : ℕ → ℕ
+one_more count = min (count + 1) (2 ^ 64 - 1)
+
 -- the keeper before and after a change was to be kept
 abbrev pub AfterKeeping : Result ℕ KeepFault → PreparedChange → KeeperState → KeeperState → Type 0
 AfterKeeping (Ok place) prepared before now = IsInstalled before.system prepared.step before.log.end now.system × (now ≡ record before {
   log = longer before.log (length (block prepared.change));
-  mark = next_mark before.mark (longer before.log (length (block prepared.change)));
+  mark = next_mark before.mark (longer before.log (length (block prepared.change))) (one_more before.count);
   system = now.system;
-  count = min (before.count + 1) (2 ^ 64 - 1);
+  count = one_more before.count;
 })
 AfterKeeping (Err (faults.Disk failed)) prepared before now = now ≡ record before { fault = Some failed }
 AfterKeeping (Err (faults.Closed failed)) prepared before now = now ≡ before

@@ -5,15 +5,17 @@ use Rattle.s80_change.specs.declared.refusal.Refusal.{Refusal}
 use Rattle.s80_block.specs.Block.{block, blocks, IsLawful, IsList}
 use Rattle.s80_change.specs.Refusal.{refusal_number}
 use Rattle.s80_disk.specs.Image.{Image}
+use Rattle.s80_mark.specs.declared.mark.MarkState.{MarkState}
 use Rattle.s80_mark.specs.declared.read.Found.{Found}
 use Rattle.s80_mark.specs.declared.read.Found.TheVariants.{Fresh, Mark as Marked}
+use Rattle.s80_mark.specs.Mark.{format_two}
 use Rattle.s80_mark.specs.Found.{AreLogsEmpty}
 use Rattle.s80_state.specs.State.{State}
 use Rattle.s80_state.specs.System.{SystemState, IsSystemOf}
 use Rattle.s80_state.specs.List.{IsBuilt, state_of, state_after, refusal_to, add}
 use Rattle.s80_log.specs.Log.{LogEnd, log_file}
 use Rattle.s80_block.specs.Blocks.{BeginsWithNone}
-use Rattle.s80_keeper.specs.declared.start.Damage.TheVariants.{LogShort, BadBlock, Replay}
+use Rattle.s80_keeper.specs.declared.start.Damage.TheVariants.{LogShort, BadBlock, Replay, CountDiffers}
 use Rattle.s80_keeper.specs.declared.start.StartFault.{StartFault}
 use Rattle.s80_keeper.specs.declared.start.StartFault.TheVariants as faults
 use Rattle.s80_keeper.specs.Start.{HasMark, IsDamage}
@@ -33,6 +35,14 @@ IsLengthChecked files log (Err (faults.Damaged (LogShort marked found))) = (mark
 IsLengthChecked files log (Err (faults.Damaged _)) = ⊥
 IsLengthChecked files log (Err faults.Memory) = ⊥
 IsLengthChecked files log (Err (faults.Disk failed)) = ⊤
+
+-- whether a mark, if it counts the changes, counts as many as are found; neither memory nor the disk is asked
+abbrev pub IsCountChecked : {T : Type 0} → MarkState → ℕ → Result T StartFault → Type 0
+IsCountChecked mark count (Ok done) = mark.format ≡ format_two → mark.count ≡ count
+IsCountChecked mark count (Err (faults.Damaged (CountDiffers marked found))) = (mark.format ≡ format_two) × (marked ≡ mark.count) × (found ≡ count) × (marked ≢ found)
+IsCountChecked mark count (Err (faults.Damaged _)) = ⊥
+IsCountChecked mark count (Err faults.Memory) = ⊥
+IsCountChecked mark count (Err (faults.Disk failed)) = ⊥
 
 -- the list whose blocks bytes are, by its length and the state that it makes, or what is wrong with them
 abbrev pub AreReplayed : List ℕ → Result (SystemState × ℕ) StartFault → Type 0

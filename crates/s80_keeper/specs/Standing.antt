@@ -12,8 +12,8 @@ use Rattle.s80_log.specs.Standing.{FilesStandFor as StandByMark, StandsFor as St
 abbrev pub NamesNoImage : MarkState → Type 0
 NamesNoImage mark = mark.image ≡ 255
 
--- Both logs are empty, and so is the list; or the valid mark names no image, and the part of the log that it takes is the blocks of the list,
--- each of whose changes is accepted by those before it.
+-- Both logs are empty, and so is the list; or the valid mark names no image, the part of the log that it takes is the blocks of the list, each
+-- of whose changes is accepted by those before it, and the mark counts these changes, if it is one that counts.
 abbrev pub FilesStandFor : Image → List Change → Type 0
 FilesStandFor files changes = (AreLogsEmpty files × (changes ≡ [])) ⊎ ((mark : MarkState) × StandByMark files mark changes × NamesNoImage mark × IsBuilt changes)
 

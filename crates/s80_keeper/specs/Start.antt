@@ -10,7 +10,7 @@ use Rattle.s80_disk.specs.Image.{Image}
 use Rattle.s80_mark.specs.declared.mark.MarkState.{MarkState}
 use Rattle.s80_mark.specs.declared.read.MarkFault.{MarkFault}
 use Rattle.s80_mark.specs.declared.read.MarkFault.TheVariants as mark_faults
-use Rattle.s80_mark.specs.Mark.{valid_mark}
+use Rattle.s80_mark.specs.Mark.{format_two, valid_mark}
 use Rattle.s80_mark.specs.Found.{AreLogsEmpty, HasLawfulNumbers, IsAnswer, longer_log}
 use Rattle.s80_state.specs.List.{IsBuilt, add}
 use Rattle.s80_log.specs.Log.{log_file}
@@ -19,7 +19,7 @@ use Rattle.s80_block.specs.Blocks.{BeginsWithNone}
 use Rattle.s80_log.specs.declared.read.BlockFault.{BlockFault}
 use Rattle.s80_log.specs.declared.read.BlockFault.TheVariants as block_faults
 use Rattle.s80_keeper.specs.declared.start.Damage.{Damage}
-use Rattle.s80_keeper.specs.declared.start.Damage.TheVariants.{NoMark, BadMark, LogShort, BadBlock, Replay}
+use Rattle.s80_keeper.specs.declared.start.Damage.TheVariants.{NoMark, BadMark, LogShort, BadBlock, Replay, CountDiffers}
 use Rattle.s80_keeper.specs.declared.start.StartFault.{StartFault}
 use Rattle.s80_keeper.specs.declared.start.StartFault.TheVariants as faults
 use Rattle.s80_keeper.specs.Keeper.{KeeperState, Keeps, Knows}
@@ -45,7 +45,7 @@ pub record ReadsTo (files : Image) (mark : MarkState) (changes : List Change) (r
   pub bytes : marked_part mark files ≡ blocks changes ++ rest
 
 -- the files have no valid mark, or one that is out of form or names an image; the log is shorter than the mark says; no block begins
--- where one should; or the list before a block refuses its change
+-- where one should; the list before a block refuses its change; or all blocks are read, and the mark counts other than so many changes
 abbrev pub IsDamage : Image → Damage → Type 0
 IsDamage files (NoMark count) = IsAnswer files (Err (mark_faults.NoGate count))
 IsDamage files (BadMark value) = IsAnswer files (Err (mark_faults.BadField value)) ⊎ ((mark : MarkState) × HasMark files mark × (mark.image ≢ 255) × (value ≡ mark.image))
@@ -54,6 +54,8 @@ IsDamage files (BadBlock place) = (mark : MarkState) × (changes : List Change) 
 IsDamage files (Replay place number) =
     (mark : MarkState) × (changes : List Change) × (change : Change) × (rest : List ℕ) × (refusal : Refusal) × ReadsTo files mark changes (block change ++ rest) × (place ≡ length (blocks changes)) × IsLawful change
     × (add changes change ≡ Err refusal) × (number ≡ refusal_number refusal)
+IsDamage files (CountDiffers marked found) =
+    (mark : MarkState) × (changes : List Change) × ReadsTo files mark changes [] × (mark.format ≡ format_two) × (marked ≡ mark.count) × (found ≡ length changes) × (marked ≢ found)
 
 -- what the files call for, where memory is found and no call on the disk fails
 abbrev pub IsStart : Image → Result KeeperState StartFault → Type 0

@@ -75,10 +75,14 @@ impl Keeper {
         if let Some(failed) = self.fault {
             return Err(KeepFault::Closed(failed));
         }
-        match self.log.append_and_commit(disk, &mut self.mark, &block) {
+        let count = self.count.saturating_add(1);
+        match self
+            .log
+            .append_and_commit(disk, &mut self.mark, &block, count)
+        {
             Ok(at) => {
                 self.system.install(step, at);
-                self.count = self.count.saturating_add(1);
+                self.count = count;
                 Ok(at)
             }
             Err(LogFault::Disk(failed)) => {

@@ -15,7 +15,7 @@ ghost use Rattle.s80_state.specs.System.{IsChecked, IsSystemOf};
 ghost use Rattle.s80_log.specs.Log.{log_file, held_in};
 ghost use Rattle.s80_keeper.specs.Standing.{NamesNoImage, ReadsFor, StandsFor, LeavesFor};
 ghost use Rattle.s80_keeper.specs.Start.{HasMark, IsStart, Started, StartLeaves, IfStartDisk};
-ghost use Rattle.s80_keeper.specs.Reading.{IsFound, IsLengthChecked, AreReplayed, Accepts};
+ghost use Rattle.s80_keeper.specs.Reading.{IsFound, IsLengthChecked, IsCountChecked, AreReplayed, Accepts};
 ghost use Rattle.s80_keeper.specs.Untouched.{IsUntouched};
 
 use crate::keeper::Keeper;
@@ -24,7 +24,7 @@ use s80_block::Change;
 use s80_change::{Refusal, Refused};
 use s80_disk::{Disk, FileId};
 use s80_log::{BlockFault, LOG_LIMIT, Log};
-use s80_mark::{Found, MarkFault, MarkState, NO_IMAGE, init_mark, read_mark};
+use s80_mark::{FORMAT_TWO, Found, MarkFault, MarkState, NO_IMAGE, init_mark, read_mark};
 use s80_state::{System, boot};
 use std::alloc::Global;
 use thiserror::Error;
@@ -35,8 +35,8 @@ pub enum Damage {
     /// No slot of the mark is open, and the longer log has this length.
     #[error("no slot of the mark is open, and a log has {0} bytes")]
     NoMark(u64),
-    /// The mark has this number for a log or an image.
-    #[error("the mark has the number {0} for a log or an image")]
+    /// The mark has this number for a log, an image or a format.
+    #[error("the mark has the number {0} for a log, an image or a format")]
     BadMark(u64),
     /// The mark takes so many bytes of the log, which has only so many.
     #[error("the mark takes {0} bytes of a log that has {1}")]
@@ -47,6 +47,9 @@ pub enum Damage {
     /// The block at this place is refused, by the number of the refusal.
     #[error("the change at byte {0} of the log is refused by {1}")]
     Replay(u64, u8),
+    /// The mark counts so many changes, and its part of the log has so many.
+    #[error("the mark counts {0} changes, and the log has {1}")]
+    CountDiffers(u64, u64),
 }
 
 /// Why a keeper doesn't start.
@@ -178,6 +181,7 @@ impl Keeper {
         let log = Log::resume(mark.log, mark.log_length);
         check_length(disk, &log)?;
         let (system, count) = replay(alloc, disk, &log)?;
+        check_count(&mark, count)?;
         Ok(Keeper::at(log, mark, system, count))
     }
 }
@@ -205,6 +209,16 @@ fn check_length<D: Disk>(disk: &mut D, log: &Log) -> Result<(), StartFault>
     let found = disk.length(log.file())?;
     if found < log.length() {
         return Err(StartFault::Damaged(Damage::LogShort(log.length(), found)));
+    }
+    Ok(())
+}
+
+/// A mark that counts the changes counts as many as are found.
+fn check_count(mark: &MarkState, found: u64) -> Result<(), StartFault>
+    ensures { IsCountChecked mark.now found result }
+{
+    if mark.format == FORMAT_TWO && mark.count != found {
+        return Err(StartFault::Damaged(Damage::CountDiffers(mark.count, found)));
     }
     Ok(())
 }

@@ -1,5 +1,5 @@
 -- A disk that stands for a list, while a commit is made of it.
-use Rattle.std.proofs.Common.{◌≡◌, inl, inr, ⊎_elim, ℕ, Bool, List, take, Some, refl, sym, ap, ◌∙◌, subst, arith}
+use Rattle.std.proofs.Common.{◌≡◌, inl, inr, ⊎_elim, ℕ, Bool, List, length, take, Some, refl, sym, ap, ◌∙◌, subst, arith}
 use Rattle.s80_block.specs.declared.change.Change.{Change}
 use Rattle.s80_disk.specs.declared.disk.FileId.{FileId}
 use Rattle.s80_disk.specs.declared.disk.FileId.TheVariants.{Mark}
@@ -56,8 +56,8 @@ module _ {D : Type 0} (moment : D → ℕ) (left_since : D → ℕ → ℕ → I
     abbrev Lists : ℕ → Image → Type 0
     Lists = LeavesBeside (may_leave d) (beside d).told (log_file log.number) (StandForEither old kept next all)
 
-    pub can : next ≡ next_mark old log → CanCommit (tells d) (reads d) (may_leave d) old next
-    can is = record { told = holds.stands.told; valid = holds.stands.files.valid; durable = holds.stands.mark_stays; follows = ap (λ (m : MarkState). m.sequence) is }
+    pub can : (count : ℕ) → next ≡ next_mark old log count → CanCommit (tells d) (reads d) (may_leave d) old next
+    can count is = record { told = holds.stands.told; valid = holds.stands.files.valid; durable = holds.stands.mark_stays; follows = ap (λ (m : MarkState). m.sequence) is }
 
     pub lists_still : (told : ℕ) (c : Image) → may_leave d c × (told ≡ (beside d).told) → Lists told c
     lists_still told c left = record {
@@ -74,14 +74,14 @@ module _ {D : Type 0} (moment : D → ℕ) (left_since : D → ℕ → ℕ → I
     pub lists_synced : ((told : ℕ) (c : Image) → left_since d (moment d) told c → may_leave d c × (told ≡ (beside d).told)) → Elapses moment left_since may_leave beside d mid → LeavesOnly moment left_since d mid Lists
     lists_synced only_now time = goes_on moment left_since may_leave beside d d mid Lists (started moment left_since d Lists (λ told c left. lists_still told c (only_now told c left))) time lists_mid
 
-    module _ (is : next ≡ next_mark old log) (durable : Only (log_file log.number) (reads d (log_file log.number)) (may_leave mid)) where
+    module _ (count : ℕ) (is : next ≡ next_mark old log count) (counts : count ≡ length all) (durable : Only (log_file log.number) (reads d (log_file log.number)) (may_leave mid)) where
       -- the files stand for what is kept where they have the old mark
       stands_old : (c : Image) → valid_mark (c Mark) ≡ Some old → c (log_file log.number) ≡ reads d (log_file log.number) → FilesStandFor c old kept
       stands_old c valid same_log =
           let P : FileId → Type 0 = λ f. take old.log_length (c f) ≡ take old.log_length (reads d f) in
           let part : marked_part old c ≡ marked_part old (reads d) = subst P (sym (ap log_file holds.named)) (ap (take old.log_length) same_log) in
           let files = holds.stands.files in
-          record { valid = valid; numbers = files.numbers; list = files.list; whole = files.whole; bytes = part ∙ files.bytes }
+          record { valid = valid; numbers = files.numbers; list = files.list; whole = files.whole; bytes = part ∙ files.bytes; counted = files.counted }
 
       -- and for all where they have the next
       pub stands_next : (c : Image) → valid_mark (c Mark) ≡ Some next → c (log_file log.number) ≡ reads d (log_file log.number) → FilesStandFor c next all
@@ -90,10 +90,11 @@ module _ {D : Type 0} (moment : D → ℕ) (left_since : D → ℕ → ℕ → I
           let numbers = holds.stands.files.numbers in
           subst P (sym is) record {
             valid = valid ∙ ap Some is;
-            numbers = record { log = omega (arith, holds.named, numbers.log); image = numbers.image };
+            numbers = record { log = omega (arith, holds.named, numbers.log); image = numbers.image; format = inr refl };
             list = holds.list;
             whole = holds.whole;
             bytes = ap (take log.end) same_log ∙ holds.bytes;
+            counted = λ two. counts;
           }
 
       same_log : (told : ℕ) (c : Image) → Either mid told c → c (log_file log.number) ≡ reads d (log_file log.number)
@@ -102,7 +103,7 @@ module _ {D : Type 0} (moment : D → ℕ) (left_since : D → ℕ → ℕ → I
       pub lists_on : (told : ℕ) (c : Image) → Either mid told c → Lists told c
       lists_on told c either = record {
         told_is = either.from.told_is ∙ same_told;
-        here = ⊎_elim (λ e. inl (stands_old c e (same_log told c either))) (λ e. inr (stands_next c e (same_log told c either))) (either.mark (can_on (can is)));
+        here = ⊎_elim (λ e. inl (stands_old c e (same_log told c either))) (λ e. inr (stands_next c e (same_log told c either))) (either.mark (can_on (can count is)));
         image = either.from.image;
         was = crash either.from.image either.from.was;
         others = λ other no_mark no_log. either.from.step.others other no_mark;

@@ -23,7 +23,7 @@ log_is_no_mark number e = either_is_no_mark _ (sym e)
 -- what is read of the mark and of the marked part is all that counts
 pub stands_on : (files other : Image) (mark : MarkState) (changes : List Change) → FilesStandFor files mark changes → other Mark ≡ files Mark → marked_part mark other ≡ marked_part mark files → FilesStandFor other mark changes
 stands_on files other mark changes stands same_mark same_part =
-    record { valid = rw same_mark stands.valid; numbers = stands.numbers; list = stands.list; whole = stands.whole; bytes = same_part ∙ stands.bytes }
+    record { valid = rw same_mark stands.valid; numbers = stands.numbers; list = stands.list; whole = stands.whole; bytes = same_part ∙ stands.bytes; counted = stands.counted }
 
 take_shorter : (k m : ℕ) (xs : List ℕ) → k ≤ length (take m xs) → take k (take m xs) ≡ take k xs
 take_shorter k m xs le = sym (take-append-le k (take m xs) (drop m xs) le) ∙ ap (take k) (take-append-drop m xs)

@@ -6,12 +6,19 @@ use Rattle.s80_disk.specs.declared.disk.FileId.{FileId}
 use Rattle.s80_disk.specs.declared.disk.FileId.TheVariants.{Mark}
 use Rattle.s80_disk.specs.Image.{Image}
 use Rattle.s80_mark.specs.declared.mark.MarkState.{MarkState}
+use Rattle.s80_mark.specs.Mark.{format_two}
 use Rattle.s80_log.specs.Log.{LogEnd, held_in}
 use Rattle.s80_log.specs.Standing.{FilesStandFor, StandsFor}
 
--- the mark after this one, which takes the log to its end; what it says of an image stays
-abbrev pub next_mark : MarkState → LogEnd → MarkState
-next_mark mark log = record mark { sequence = (mark.sequence + 1) % 2 ^ 64; log = log.number; log_length = log.end }
+-- the mark after this one, which takes the log to its end and counts so many changes; what it says of an image stays
+abbrev pub next_mark : MarkState → LogEnd → ℕ → MarkState
+next_mark mark log count = record mark {
+  sequence = (mark.sequence + 1) % 2 ^ 64;
+  log = log.number;
+  log_length = log.end;
+  format = format_two;
+  count = count;
+}
 
 -- The disk stands for the list that is kept, the log is the one that the mark names, and up to its end it reads as the blocks of all changes.
 pub record Holds (tells : Bool) (reads : Image) (may_leave : Image → Type 0) (log : LogEnd) (mark : MarkState) (kept all : List Change) : Type 0 where

@@ -5,7 +5,7 @@ use Rattle.s80_block.specs.Block.{blocks, IsList}
 use Rattle.s80_disk.specs.declared.disk.FileId.TheVariants.{Mark}
 use Rattle.s80_disk.specs.Image.{Image, Only}
 use Rattle.s80_mark.specs.declared.mark.MarkState.{MarkState}
-use Rattle.s80_mark.specs.Mark.{valid_mark}
+use Rattle.s80_mark.specs.Mark.{format_two, valid_mark}
 use Rattle.s80_mark.specs.Found.{HasLawfulNumbers}
 use Rattle.s80_log.specs.Log.{log_file}
 
@@ -13,13 +13,15 @@ use Rattle.s80_log.specs.Log.{log_file}
 abbrev pub marked_part : MarkState → Image → List ℕ
 marked_part mark files = take mark.log_length (files (log_file mark.log))
 
--- The valid mark is this one, its numbers are lawful, and the part of the log that it takes is the blocks of the list, whole.
+-- The valid mark is this one, its numbers are lawful, the part of the log that it takes is the blocks of the list, whole, and a mark that
+-- counts changes counts those of the list.
 pub record FilesStandFor (files : Image) (mark : MarkState) (changes : List Change) : Type 0 where
   pub valid : valid_mark (files Mark) ≡ Some mark
   pub numbers : HasLawfulNumbers mark
   pub list : IsList changes
   pub whole : mark.log_length ≡ length (blocks changes)
   pub bytes : marked_part mark files ≡ blocks changes
+  pub counted : mark.format ≡ format_two → mark.count ≡ length changes
 
 -- What the disk reads stands for the list, and every crash now leaves the mark file and the marked part of the log as they read.
 pub record StandsFor (tells : Bool) (reads : Image) (may_leave : Image → Type 0) (mark : MarkState) (changes : List Change) : Type 0 where

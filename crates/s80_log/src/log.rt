@@ -18,7 +18,7 @@ ghost use Rattle.s80_log.specs.Faults.{IfLogDisk};
 
 use s80_base::{Failed, Text};
 use s80_disk::{Disk, FileId};
-use s80_mark::{MarkState, commit_mark};
+use s80_mark::{FORMAT_TWO, MarkState, commit_mark};
 use std::marker::Model;
 use thiserror::Error;
 
@@ -163,36 +163,42 @@ impl Log {
         Ok(at)
     }
 
-    /// Syncs the log and commits the mark that takes it to its end. What the mark says of an image stays.
-    pub fn commit<D: Disk>(&mut self, disk: &mut D, mark: &mut MarkState) -> Result<(), Failed>
-        ensures mark { MatchResult result (λ _. mark.new ≡ next_mark mark.old self.old) (λ _. mark.new ≡ mark.old) }
+    /// Syncs the log and commits the mark that takes it to its end, with the number of changes that there are then. What the mark says of
+    /// an image stays.
+    pub fn commit<D: Disk>(
+        &mut self,
+        disk: &mut D,
+        mark: &mut MarkState,
+        count: u64,
+    ) -> Result<(), Failed>
+        ensures mark { MatchResult result (λ _. mark.new ≡ next_mark mark.old self.old count) (λ _. mark.new ≡ mark.old) }
         ensures same { self.new ≡ self.old }
 
         // From a disk that stands for the list kept so far, a crash at any moment, and one now, leaves files that stand for it or for
         // the list of all that was appended; after Ok the disk stands for that.
         ensures committed { (kept all : List Change)
-            → Holds (D.tells disk.old) (D.reads disk.old) (D.may_leave disk.old) self.old mark.old kept all
+            → Holds (D.tells disk.old) (D.reads disk.old) (D.may_leave disk.old) self.old mark.old kept all → count ≡ length all
             → OnOk result (Holds (D.tells disk.new) (D.reads disk.new) (D.may_leave disk.new) self.new mark.new all all) }
         ensures stands { (kept all : List Change)
-            → Holds (D.tells disk.old) (D.reads disk.old) (D.may_leave disk.old) self.old mark.old kept all
+            → Holds (D.tells disk.old) (D.reads disk.old) (D.may_leave disk.old) self.old mark.old kept all → count ≡ length all
             → LeavesOnly D.moment D.left_since disk.old disk.new
             (LeavesBeside (D.may_leave disk.old) (D.beside disk.old).told (log_file self.old.number)
-            (StandForEither mark.old kept (next_mark mark.old self.old) all)) }
+            (StandForEither mark.old kept (next_mark mark.old self.old count) all)) }
         ensures left { (kept all : List Change) (c : FileId → List ℕ)
-            → Holds (D.tells disk.old) (D.reads disk.old) (D.may_leave disk.old) self.old mark.old kept all
+            → Holds (D.tells disk.old) (D.reads disk.old) (D.may_leave disk.old) self.old mark.old kept all → count ≡ length all
             → D.may_leave disk.new c
             → LeavesBeside (D.may_leave disk.old) (D.beside disk.old).told (log_file self.old.number)
-            (StandForEither mark.old kept (next_mark mark.old self.old) all) (D.beside disk.new).told c }
+            (StandForEither mark.old kept (next_mark mark.old self.old count) all) (D.beside disk.new).told c }
 
         // Whatever the log holds, a crash leaves the old mark or the next, and the other files as it might have left them before.
         ensures any_moment { LeavesOnly D.moment D.left_since disk.old disk.new
             (HasEither (D.tells disk.old) (D.reads disk.old) (D.may_leave disk.old) (D.beside disk.old).told mark.old
-            (next_mark mark.old self.old)) }
+            (next_mark mark.old self.old count)) }
         ensures crash { (c : FileId → List ℕ) → D.may_leave disk.new c
             → HasEither (D.tells disk.old) (D.reads disk.old) (D.may_leave disk.old) (D.beside disk.old).told mark.old
-            (next_mark mark.old self.old) (D.beside disk.new).told c }
+            (next_mark mark.old self.old count) (D.beside disk.new).told c }
         ensures valid { CanCommit (D.tells disk.old) (D.reads disk.old) (D.may_leave disk.old) mark.old
-            (next_mark mark.old self.old)
+            (next_mark mark.old self.old count)
             → OnOk result (valid_mark (D.reads disk.new Mark) ≡ Some mark.new) }
         ensures durable { OnOk result (Only Mark (D.reads disk.new Mark) (D.may_leave disk.new)
             × Only (log_file self.old.number) (D.reads disk.new (log_file self.old.number)) (D.may_leave disk.new)) }
@@ -206,6 +212,8 @@ impl Log {
             sequence: mark.sequence.wrapping_add(1),
             log: self.number,
             log_length: self.end,
+            format: FORMAT_TWO,
+            count,
             ..*mark
         };
         disk.sync(self.file())?;
@@ -214,42 +222,44 @@ impl Log {
         Ok(())
     }
 
-    /// Keeps one change: appends its block and commits. After an `Err` the log and the mark are as before.
+    /// Keeps one change: appends its block and commits, with the number of changes that there are then. After an `Err` the log and the mark
+    /// are as before.
     pub fn append_and_commit<D: Disk>(
         &mut self,
         disk: &mut D,
         mark: &mut MarkState,
         block: &Text,
+        count: u64,
     ) -> Result<u64, LogFault>
         // One commit: from a disk that stands for a list by its valid mark, with a lawful change and a log that has the mark's number
         // and length, a stop at any moment, inside a write too, leaves files that stand for the list or for the list with the change.
         ensures one_commit { (changes : List Change) (change : Change)
             → StandsFor (D.tells disk.old) (D.reads disk.old) (D.may_leave disk.old) mark.old changes
             → mark.old.log ≡ self.old.number → mark.old.log_length ≡ self.old.end → IsLawful change
-            → block.now ≡ block_of change
+            → block.now ≡ block_of change → count ≡ length changes + 1
             → LeavesOnly D.moment D.left_since disk.old disk.new
             (LeavesBeside (D.may_leave disk.old) (D.beside disk.old).told (log_file self.old.number)
-            (StandForEither mark.old changes (next_mark mark.old (record self.old { end = self.old.end + length block.now }))
+            (StandForEither mark.old changes (next_mark mark.old (record self.old { end = self.old.end + length block.now }) count)
             (changes ++ change ∷ []))) }
         // After Ok the disk stands for the list with the change; after an Err a crash now leaves one of the two.
         ensures kept { (changes : List Change) (change : Change)
             → StandsFor (D.tells disk.old) (D.reads disk.old) (D.may_leave disk.old) mark.old changes
             → mark.old.log ≡ self.old.number → mark.old.log_length ≡ self.old.end → IsLawful change
-            → block.now ≡ block_of change
+            → block.now ≡ block_of change → count ≡ length changes + 1
             → OnOk result (StandsFor (D.tells disk.new) (D.reads disk.new) (D.may_leave disk.new) mark.new
             (changes ++ change ∷ [])) }
         ensures left { (changes : List Change) (change : Change) (c : FileId → List ℕ)
             → StandsFor (D.tells disk.old) (D.reads disk.old) (D.may_leave disk.old) mark.old changes
             → mark.old.log ≡ self.old.number → mark.old.log_length ≡ self.old.end → IsLawful change
-            → block.now ≡ block_of change
+            → block.now ≡ block_of change → count ≡ length changes + 1
             → D.may_leave disk.new c
-            → StandForEither mark.old changes (next_mark mark.old (record self.old { end = self.old.end + length block.now }))
+            → StandForEither mark.old changes (next_mark mark.old (record self.old { end = self.old.end + length block.now }) count)
             (changes ++ change ∷ []) c }
 
         ensures place { IfOk result (λ at. at ≡ self.old.end) }
         ensures end { MatchResult result (λ _. self.new ≡ record self.old { end = self.old.end + length block.now })
             (λ _. self.new ≡ self.old) }
-        ensures mark { MatchResult result (λ _. mark.new ≡ next_mark mark.old self.new) (λ _. mark.new ≡ mark.old) }
+        ensures mark { MatchResult result (λ _. mark.new ≡ next_mark mark.old self.new count) (λ _. mark.new ≡ mark.old) }
         ensures full { (n : ℕ) → (result ≡ Err (LogFault.Full n))
             ↔ ((n ≡ self.old.end) × (log_limit < self.old.end + length block.now)) }
         ensures within { OnOk result (self.new.end ≤ log_limit) }
@@ -265,7 +275,7 @@ impl Log {
             (λ fault. IfLogDisk fault (λ failed. (failed.call ≡ Read) ⊎ (failed.call ≡ Write) ⊎ (failed.call ≡ Sync))) }
     {
         let at = self.append(disk, block)?;
-        if let Err(failed) = self.commit(disk, mark) {
+        if let Err(failed) = self.commit(disk, mark, count) {
             self.end = at;
             return Err(LogFault::from(failed));
         }

@@ -5,6 +5,7 @@ use Rattle.std.proofs.lemmas.Bool.Decides.{nat_tests}
 use Rattle.std.proofs.lemmas.List.{get_or-take, get_or-drop, take-take, drop-take, drop-drop, take_min}
 use Rattle.std.proofs.lemmas.Slice.{between_is}
 use Rattle.s80_disk.specs.Image.{Wrote, Torn}
+use Rattle.s80_mark.specs.declared.mark.MarkState.{MarkState}
 use Rattle.s80_mark.specs.declared.slots.Slot.{Slot}
 use Rattle.s80_mark.specs.declared.slots.Slot.TheVariants.{First, Second}
 use Rattle.s80_mark.specs.Mark.{is_open, mark_behind, mark_of}
@@ -20,10 +21,10 @@ gate_in_front file at lt =
 -- a slot in them
 pub open_in_front : (file : List ℕ) (slot : Slot) → mark_in (take 128 file) slot ≡ mark_in file slot
 open_in_front file First =
-    let mark = ap (take 34) (drop-take 1 127 file) ∙ take-take 34 127 (drop 1 file) (omega arith) in
+    let mark = ap (take 43) (drop-take 1 127 file) ∙ take-take 43 127 (drop 1 file) (omega arith) in
     λ i. if gate_in_front file 0 (omega arith) i then Some (mark_of (mark i)) else None
 open_in_front file Second =
-    let mark = ap (take 34) (drop-take 65 63 file) ∙ take-take 34 63 (drop 65 file) (omega arith) in
+    let mark = ap (take 43) (drop-take 65 63 file) ∙ take-take 43 63 (drop 65 file) (omega arith) in
     λ i. if gate_in_front file 64 (omega arith) i then Some (mark_of (mark i)) else None
 
 -- what was read of the first 128 bytes
@@ -56,8 +57,15 @@ closed file slot gate =
     let is : is_open file (place_of slot) ≡ false = grind (arith, nat_tests) in
     ap (λ (b : Bool). if b then Some (mark_behind file (place_of slot)) else None) is
 
+-- the mark that is read behind an open gate
+pub read_behind : (file : List ℕ) (slot : Slot) (place : ℕ) (mark : MarkState) → place ≡ place_of slot → 128 ≤ length file → slice_index file place ≡ 33 → mark ≡ mark_of (slice_range file (place + 1) (place + 1 + 43)) → Some mark ≡ mark_in file slot
+read_behind file slot place mark here long gate is =
+    let end : place + 1 + 43 ≡ place + 44 = omega arith in
+    let behind : mark ≡ mark_behind file place = is ∙ ap (λ (n : ℕ). mark_of (slice_range file (place + 1) n)) end in
+    ap Some (behind ∙ ap (mark_behind file) here) ∙ sym (opened file slot long (ap (slice_index file) (sym here) ∙ gate))
+
 -- a slot stays where its bytes do
-pub same_slot : (old new : List ℕ) (slot : Slot) → length new ≡ length old → slice_index new (place_of slot) ≡ slice_index old (place_of slot) → slice_range new (place_of slot + 1) (place_of slot + 35) ≡ slice_range old (place_of slot + 1) (place_of slot + 35) → mark_in new slot ≡ mark_in old slot
+pub same_slot : (old new : List ℕ) (slot : Slot) → length new ≡ length old → slice_index new (place_of slot) ≡ slice_index old (place_of slot) → slice_range new (place_of slot + 1) (place_of slot + 44) ≡ slice_range old (place_of slot + 1) (place_of slot + 44) → mark_in new slot ≡ mark_in old slot
 same_slot old new slot long gate mark = λ i. if nat_le 128 (long i) && (gate i == 33) then Some (mark_of (mark i)) else None
 
 module _ (at n : ℕ) (old new : List ℕ) (torn : Torn at n old new) (fits : at + n ≤ length old) where

@@ -5,3 +5,4 @@ mod First
 mod Marks
 mod Steps
 mod OneAnswer
+mod Spelling

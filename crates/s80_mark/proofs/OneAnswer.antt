@@ -1,5 +1,5 @@
 -- Files call for one answer.
-use Rattle.std.proofs.Common.{◌≡◌, ◌<◌, ◌⊎◌, inl, inr, ⊎_elim, ℕ, length, refl, sym, ◌∙◌, ap, subst, arith, Some, None, Result, Ok, Err}
+use Rattle.std.proofs.Common.{◌≡◌, ◌≢◌, ◌<◌, ◌≤◌, ◌⊎◌, inl, inr, ⊎_elim, ℕ, length, refl, sym, ◌∙◌, ap, subst, arith, Some, None, Result, Ok, Err}
 use Rattle.s80_disk.specs.declared.disk.FileId.TheVariants.{Mark, Log0, Log1}
 use Rattle.s80_disk.specs.Image.{Image}
 use Rattle.s80_mark.specs.declared.mark.MarkState.{MarkState}
@@ -21,17 +21,27 @@ some_log files empty some =
 same_mark : (one other : MarkState) → Some one ≡ Some other → one ≡ other
 same_mark one other e = cc
 
+-- an image number isn't both lawful and not
+no_image : (image : ℕ) → (image ≤ 1) ⊎ (image ≡ 255) → 1 < image → image ≢ 255 → ⊥
+no_image image lawful above other = ⊎_elim (λ low. omega (arith, low, above)) other lawful
+
 -- lawful numbers have no first unlawful one
 not_lawful : (mark : MarkState) (value : ℕ) → HasLawfulNumbers mark → IsFirstUnlawful mark value → ⊥
 not_lawful mark value lawful (inl log) = omega (arith, lawful.log, log.0)
-not_lawful mark value lawful (inr image) = ⊎_elim (λ low. omega (arith, low, image.1)) image.2 lawful.image
+not_lawful mark value lawful (inr (inl image)) = no_image mark.image lawful.image image.1 image.2
+not_lawful mark value lawful (inr (inr format)) = ⊎_elim format.2 format.3 lawful.format
 
 -- the first unlawful number is one
 one_value : (mark : MarkState) (one other : ℕ) → IsFirstUnlawful mark one → IsFirstUnlawful mark other → one ≡ other
 one_value mark one other (inl a) (inl b) = a.1 ∙ sym b.1
-one_value mark one other (inl a) (inr b) = absurd (omega (arith, a.0, b.0))
-one_value mark one other (inr a) (inl b) = absurd (omega (arith, a.0, b.0))
-one_value mark one other (inr a) (inr b) = a.3 ∙ sym b.3
+one_value mark one other (inl a) (inr (inl b)) = absurd (omega (arith, a.0, b.0))
+one_value mark one other (inl a) (inr (inr b)) = absurd (omega (arith, a.0, b.0))
+one_value mark one other (inr (inl a)) (inl b) = absurd (omega (arith, a.0, b.0))
+one_value mark one other (inr (inl a)) (inr (inl b)) = a.3 ∙ sym b.3
+one_value mark one other (inr (inl a)) (inr (inr b)) = absurd (no_image mark.image b.1 a.1 a.2)
+one_value mark one other (inr (inr a)) (inl b) = absurd (omega (arith, a.0, b.0))
+one_value mark one other (inr (inr a)) (inr (inl b)) = absurd (no_image mark.image a.1 b.1 b.2)
+one_value mark one other (inr (inr a)) (inr (inr b)) = a.4 ∙ sym b.4
 
 -- a valid mark is there, or isn't
 some_mark : (files : Image) (mark : MarkState) → valid_mark (files Mark) ≡ Some mark → valid_mark (files Mark) ≡ None → ⊥

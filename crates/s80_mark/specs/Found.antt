@@ -8,7 +8,7 @@ use Rattle.s80_mark.specs.declared.read.Found.{Found}
 use Rattle.s80_mark.specs.declared.read.Found.TheVariants.{Fresh, Mark as Marked}
 use Rattle.s80_mark.specs.declared.read.MarkFault.{MarkFault}
 use Rattle.s80_mark.specs.declared.read.MarkFault.TheVariants.{Disk, NoGate, BadField}
-use Rattle.s80_mark.specs.Mark.{valid_mark}
+use Rattle.s80_mark.specs.Mark.{format_two, valid_mark}
 
 abbrev pub AreLogsEmpty : Image → Type 0
 AreLogsEmpty files = (files Log0 ≡ []) × (files Log1 ≡ [])
@@ -16,15 +16,18 @@ AreLogsEmpty files = (files Log0 ≡ []) × (files Log1 ≡ [])
 abbrev pub longer_log : Image → ℕ
 longer_log files = max (length (files Log0)) (length (files Log1))
 
--- the log number is 0 or 1, and the image number is 0, 1 or 255
+-- the log number is 0 or 1, the image number is 0, 1 or 255, and the format is 0 or 2
 pub record HasLawfulNumbers (mark : MarkState) : Type 0 where
   pub log : mark.log ≤ 1
   pub image : (mark.image ≤ 1) ⊎ (mark.image ≡ 255)
+  pub format : (mark.format ≡ 0) ⊎ (mark.format ≡ format_two)
 
--- the log number where that isn't lawful, else the image number
+-- the first of log number, image number and format that isn't lawful
 abbrev pub IsFirstUnlawful : MarkState → ℕ → Type 0
 IsFirstUnlawful mark value =
-    ((1 < mark.log) × (value ≡ mark.log)) ⊎ ((mark.log ≤ 1) × (1 < mark.image) × (mark.image ≢ 255) × (value ≡ mark.image))
+    ((1 < mark.log) × (value ≡ mark.log))
+    ⊎ ((mark.log ≤ 1) × (1 < mark.image) × (mark.image ≢ 255) × (value ≡ mark.image))
+    ⊎ ((mark.log ≤ 1) × ((mark.image ≤ 1) ⊎ (mark.image ≡ 255)) × (mark.format ≢ 0) × (mark.format ≢ format_two) × (value ≡ mark.format))
 
 -- a mark that is found has lawful numbers
 abbrev pub IsLawfulFound : Found → Type 0

@@ -7,7 +7,15 @@ use Rattle.s80_mark.specs.declared.mark.MarkState.{MarkState}
 abbrev pub word_at : List ℕ → ℕ → ℕ
 word_at bytes at = from_be_bytes w64 (slice_range bytes at (at + 8))
 
--- the mark that 34 bytes spell
+-- the format of marks that have a count of the changes; older ones have format 0
+abbrev pub format_two : ℕ
+format_two = 2
+
+-- the count of changes behind the format: a mark of the older format has none, whatever stands there
+abbrev pub count_in : ℕ → List ℕ → ℕ
+count_in format bytes = if format == 0 then 0 else word_at bytes 35
+
+-- the mark that 43 bytes spell
 abbrev pub mark_of : List ℕ → MarkState
 mark_of bytes =
     record {
@@ -17,6 +25,8 @@ mark_of bytes =
       image = slice_index bytes 17;
       image_length = word_at bytes 18;
       image_position = word_at bytes 26;
+      format = slice_index bytes 34;
+      count = count_in (slice_index bytes 34) bytes;
     }
 
 -- whether the gate at a place is open: in a mark file of fewer than 128 bytes none is
@@ -25,7 +35,7 @@ is_open file at = nat_le 128 (length file) && (slice_index file at == 0x21)
 
 -- the mark behind the gate at a place
 abbrev pub mark_behind : List ℕ → ℕ → MarkState
-mark_behind file at = mark_of (slice_range file (at + 1) (at + 35))
+mark_behind file at = mark_of (slice_range file (at + 1) (at + 44))
 
 -- the mark of the slot at a place, where its gate is open
 abbrev pub open_mark : List ℕ → ℕ → Option MarkState

@@ -6,7 +6,7 @@ ghost use Rattle.s80_disk.specs.declared.disk.FileId.{FileId};
 ghost use Rattle.s80_disk.specs.declared.disk.FileId.TheVariants.{Mark};
 ghost use Rattle.s80_disk.specs.Image.{Only};
 ghost use Rattle.s80_disk.specs.Moments.{Beside, LeavesOnly};
-ghost use Rattle.s80_mark.specs.Mark.{valid_mark};
+ghost use Rattle.s80_mark.specs.Mark.{format_two, valid_mark};
 ghost use Rattle.s80_mark.specs.Commit.{CanCommit, HasEither};
 
 use crate::mark::MarkState;
@@ -18,6 +18,7 @@ use s80_disk::Disk;
 /// Writes the next mark into the slot that isn't valid, and opens its gate at the end.
 /// Which slot that is the disk says: `old` stands for its valid mark in the clauses alone.
 pub fn commit_mark<D: Disk>(disk: &mut D, old: &MarkState, next: &MarkState) -> Result<(), Failed>
+    requires { next.now.format ≡ format_two }
     ensures committed { CanCommit (D.tells disk.old) (D.reads disk.old) (D.may_leave disk.old) old.now next.now
         → OnOk result (valid_mark (D.reads disk.new Mark) ≡ Some next.now) }
     ensures durable { OnOk result (Only Mark (D.reads disk.new Mark) (D.may_leave disk.new)) }

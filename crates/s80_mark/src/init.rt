@@ -6,12 +6,12 @@ ghost use Rattle.s80_disk.specs.declared.disk.FileId.{FileId};
 ghost use Rattle.s80_disk.specs.declared.disk.FileId.TheVariants.{Mark, Log0, Log1};
 ghost use Rattle.s80_disk.specs.Image.{Only, Follows};
 ghost use Rattle.s80_disk.specs.Moments.{Beside, LeavesOnly, ComesFrom};
-ghost use Rattle.s80_mark.specs.Mark.{valid_mark};
+ghost use Rattle.s80_mark.specs.Mark.{format_two, valid_mark};
 ghost use Rattle.s80_mark.specs.Stays.{Anything, StillLeft};
 ghost use Rattle.s80_mark.specs.Found.{AreLogsEmpty};
 ghost use Rattle.s80_mark.specs.Init.{EmptyLogs, StaysEmpty, SyncsFirst, KeepNothing, StaysWithout};
 
-use crate::mark::{MarkState, NO_IMAGE};
+use crate::mark::{FORMAT_TWO, MarkState, NO_IMAGE};
 use crate::slots::{MARK_LENGTH, Slot};
 use crate::write::write_slot;
 use s80_base::Failed;
@@ -35,6 +35,7 @@ fn sync_logs<D: Disk>(disk: &mut D) -> Result<(), Failed>
 
 /// Writes the mark file anew, with this mark in its first slot.
 fn write_first<D: Disk>(disk: &mut D, mark: MarkState) -> Result<(), Failed>
+    requires { mark.format ≡ format_two }
     ensures valid { IsTrue (D.tells disk.old) → OnOk result (valid_mark (D.reads disk.new Mark) ≡ Some mark) }
     ensures durable { OnOk result (Only Mark (D.reads disk.new Mark) (D.may_leave disk.new)) }
     ensures others { (other : FileId) → other ≢ Mark → D.reads disk.new other ≡ D.reads disk.old other }
@@ -59,6 +60,8 @@ pub fn init_mark<D: Disk>(disk: &mut D) -> Result<MarkState, Failed>
       image = 255;
       image_length = 0;
       image_position = 0;
+      format = format_two;
+      count = 0;
     }) }
     ensures valid { IsTrue (D.tells disk.old) → IfOk result (λ mark. valid_mark (D.reads disk.new Mark) ≡ Some mark) }
     ensures durable { OnOk result (Only Mark (D.reads disk.new Mark) (D.may_leave disk.new)) }
@@ -92,6 +95,8 @@ pub fn init_mark<D: Disk>(disk: &mut D) -> Result<MarkState, Failed>
         image: NO_IMAGE,
         image_length: 0,
         image_position: 0,
+        format: FORMAT_TWO,
+        count: 0,
     };
     sync_logs(disk)?;
     write_first(disk, mark)?;

@@ -30,8 +30,8 @@ pub enum MarkFault {
     /// No slot is open. The longer log has this length.
     #[error("no slot of the mark is open, and a log has {0} bytes")]
     NoGate(u64),
-    /// The mark names no log or no image: this number is neither.
-    #[error("the mark has the number {0} for a log or an image")]
+    /// The mark names no log, no image or no format: this number is none.
+    #[error("the mark has the number {0} for a log, an image or a format")]
     BadField(u64),
 }
 

@@ -6,6 +6,7 @@ ghost use Rattle.s80_disk.specs.declared.disk.FileId.{FileId};
 ghost use Rattle.s80_disk.specs.declared.disk.FileId.TheVariants.{Mark};
 ghost use Rattle.s80_disk.specs.Image.{Only, Follows};
 ghost use Rattle.s80_disk.specs.Moments.{Beside, LeavesOnly, ComesFrom};
+ghost use Rattle.s80_mark.specs.Mark.{format_two};
 ghost use Rattle.s80_mark.specs.Writes.{Closes, IsClosed, Fills, IsFilled};
 ghost use Rattle.s80_mark.specs.Stays.{Anything};
 
@@ -41,6 +42,7 @@ pub(crate) fn close_gate<D: Disk>(disk: &mut D, slot: Slot, was_open: bool) -> R
 
 /// Writes a mark behind a slot's closed gate, and opens the gate when the mark is on the disk.
 pub(crate) fn write_slot<D: Disk>(disk: &mut D, slot: Slot, mark: MarkState) -> Result<(), Failed>
+    requires { mark.format ≡ format_two }
     ensures filled { IsTrue (D.tells disk.old)
         → OnOk result (IsFilled slot mark (D.reads disk.old Mark) (D.reads disk.new Mark)) }
     ensures durable { OnOk result (Only Mark (D.reads disk.new Mark) (D.may_leave disk.new)) }

@@ -1,23 +1,23 @@
 -- The beginning of a command: the folder is chosen, and a session starts.
 use Rattle.std.proofs.Common.{◌≡◌, ◌≢◌, inl, inr, ⊎_elim, ℕ, List, [], length, refl, sym, ap, subst, ◌∙◌, Err, Option, Some, None, Bool, true, false, take, arith}
-use Rattle.std.specs.Prelude.{◌<◌, ◌==◌, if◌then◌else◌}
+use Rattle.std.specs.Prelude.{◌==◌, if◌then◌else◌}
 use Rattle.std.proofs.lemmas.List.{append-nil}
 use Rattle.s80_chunk.specs.Chunks.Reads.{stop}
 use Rattle.s80_block.specs.declared.change.Change.{Change}
 use Rattle.s80_disk.specs.Image.{Image}
 use Rattle.s80_disk.specs.Moments.{LeavesOnly}
 use Rattle.s80_disk.proofs.Run.{joined, weaker}
-use Rattle.s80_mark.specs.Mark.{valid_mark}
-use Rattle.s80_mark.specs.Found.{AreLogsEmpty, longer_log}
 use Rattle.s80_keeper.specs.declared.start.Damage.{Damage}
-use Rattle.s80_keeper.specs.declared.start.Damage.TheVariants as damages
 use Rattle.s80_block.specs.Block.{blocks}
 use Rattle.s80_disk.specs.declared.disk.FileId.{FileId}
 use Rattle.s80_disk.specs.declared.disk.FileId.TheVariants.{Mark, Log0, Log1}
 use Rattle.s80_log.specs.Log.{log_file}
 use Rattle.s80_keeper.specs.Keeper.{KeeperState, Knows}
-use Rattle.s80_keeper.specs.Standing.{FilesStandFor, StandsFor, ReadsFor}
+use Rattle.s80_keeper.specs.Standing.{StandsFor, ReadsFor}
 use Rattle.s80_keeper.specs.Start.{IsDamage, StartLeaves}
+use Rattle.s80_keeper.proofs.Damages.{damaged_has_log}
+use Rattle.s80_keeper.proofs.OneList.{some_log}
+use Rattle.s80_keeper.proofs.Standing.{stands_leaves}
 use Rattle.s80_session.specs.declared.end.SessionEnd.{SessionEnd}
 use Rattle.s80_session.specs.declared.end.SessionEnd.TheVariants as ends
 use Rattle.s80_session.specs.Putting.{IsAsBefore}
@@ -32,21 +32,6 @@ use Rattle.s80_program.specs.declared.status.Status.TheVariants as status
 use Rattle.s80_program.specs.Command.{default_budget}
 use Rattle.s80_program.specs.Ending.{IsDiskEnd, status_after}
 use Rattle.s80_program.specs.Leaves.{StartsWith, LeavesFor, KeepsFor, TellsDamage, beginning}
-
--- every crash of a disk that stands for a list leaves files that do
-pub stands_leaves : (tells : Bool) (reads : Image) (may_leave : Image → Type 0) (changes : List Change) → StandsFor tells reads may_leave changes → (c : Image) → may_leave c → FilesStandFor c changes
-stands_leaves tells reads may_leave changes h c left = ⊎_elim (λ empty. inl ((empty.1.log0 c left, empty.1.log1 c left), empty.2)) (λ marked. inr (
-  marked.0,
-  record {
-    valid = ap valid_mark (marked.1.mark_stays c left) ∙ marked.1.files.valid;
-    numbers = marked.1.files.numbers;
-    list = marked.1.files.list;
-    whole = marked.1.files.whole;
-    bytes = marked.1.log_stays c left ∙ marked.1.files.bytes;
-  },
-  marked.2,
-  marked.3,
-)) h.stands
 
 -- a call that shows nothing new, and after which a crash leaves no more
 module _ (old now : Shown) (same : now ≡ old) (was may_leave : Image → Type 0) (less : (c : Image) → may_leave c → was c) (changes : List Change) where
@@ -128,29 +113,14 @@ module _ {D : Type 0} (moment : D → ℕ) (left_since : D → ℕ → ℕ → I
   pub goes_on : (old mid new : D) → LeavesOnly moment left_since old mid P → LeavesOnly moment left_since mid new P → LeavesOnly moment left_since old new P
   goes_on old mid new first second = joined moment left_since old mid new P P first second (λ n c h. h)
 
--- a log holds something where files are damaged
-pub damaged_has_log : (files : Image) (damage : Damage) → IsDamage files damage → 0 < longer_log files
-damaged_has_log files (damages.NoMark count) h = h.0
-damaged_has_log files (damages.BadMark value) (inl h) = h.0
-damaged_has_log files (damages.BadMark value) (inr h) = h.1.some
-damaged_has_log files (damages.LogShort marked found) h = h.1.some
-damaged_has_log files (damages.BadBlock place) h = h.3.has_mark.some
-damaged_has_log files (damages.Replay place number) h = h.5.has_mark.some
-
-no_log : (files : Image) → 0 < longer_log files → AreLogsEmpty files → ⊥
-no_log files some empty =
-    let first = ap (λ (l : List ℕ). length l) empty.0 in
-    let second = ap (λ (l : List ℕ). length l) empty.1 in
-    omega (arith, some, first, second)
-
--- so a crash leaves what it might have left before, while a session starts on them
+-- a log holds something where files are damaged, so a crash leaves what it might have left before, while a session starts on them
 pub damaged_lasts : {D : Type 0} (moment : D → ℕ) (left_since : D → ℕ → ℕ → Image → Type 0) (files : Image) (damage : Damage) (before mid_leaves : Image → Type 0) (told_before told_mid : ℕ) (old mid new : D) → IsDamage files damage → ((c : Image) → mid_leaves c → before c) → told_mid ≡ told_before
     → LeavesOnly moment left_since old mid (IsAsBefore before told_before 0) → LeavesOnly moment left_since mid new (StartLeaves files mid_leaves told_mid) → LeavesOnly moment left_since old new (IsAsBefore before told_before 0)
 damaged_lasts moment left_since files damage before mid_leaves told_before told_mid old mid new damaged less same first second =
     joined moment left_since old mid new (IsAsBefore before told_before 0) (StartLeaves files mid_leaves told_mid) first second (λ told c h. record {
       no_fewer = omega (arith, h.told_is, same);
       no_more = omega (arith, h.told_is, same);
-      was = ⊎_elim (λ was. less c was) (λ empty. absurd (no_log files (damaged_has_log files damage damaged) empty.0)) h.files;
+      was = ⊎_elim (λ was. less c was) (λ empty. absurd (some_log files empty.0 (damaged_has_log files damage damaged))) h.files;
     })
 
 -- a session that doesn't start on damaged files

@@ -1,13 +1,13 @@
 -- A keeper at work on a disk, and what a crash now leaves of it.
-use Rattle.std.proofs.Common.{◌≡◌, inr, List, Bool, take, sym, ap, subst, ◌∙◌}
+use Rattle.std.proofs.Common.{◌≡◌, inr, List, Bool, take, sym, subst, ◌∙◌}
 use Rattle.s80_block.specs.declared.change.Change.{Change}
 use Rattle.s80_disk.specs.Image.{Image}
-use Rattle.s80_mark.specs.Mark.{valid_mark}
 use Rattle.s80_log.specs.Log.{log_file}
 use Rattle.s80_state.specs.List.{state_of}
 use Rattle.s80_state.specs.System.{IsSystemOf}
 use Rattle.s80_keeper.specs.Keeper.{KeeperState, Keeps, Knows}
 use Rattle.s80_keeper.specs.Standing.{FilesStandFor, StandsFor}
+use Rattle.s80_keeper.proofs.Standing.{stands_leaves}
 
 module _ (tells : Bool) (reads : Image) (may_leave : Image → Type 0) (keeper : KeeperState) (changes : List Change) where
   -- the same where a crash leaves no more
@@ -51,17 +51,4 @@ module _ (tells : Bool) (reads : Image) (may_leave : Image → Type 0) (keeper :
 
   -- every crash now leaves files that stand for its list
   pub keeps_leaves : Keeps tells reads may_leave keeper changes → (c : Image) → may_leave c → FilesStandFor c changes
-  keeps_leaves h c left =
-      let files = h.stands.files in
-      inr (
-        keeper.mark,
-        record {
-          valid = ap valid_mark (h.stands.mark_stays c left) ∙ files.valid;
-          numbers = files.numbers;
-          list = files.list;
-          whole = files.whole;
-          bytes = h.stands.log_stays c left ∙ files.bytes;
-        },
-        h.no_image,
-        h.built,
-      )
+  keeps_leaves h = stands_leaves tells reads may_leave changes (keeps_stands h)

@@ -16,7 +16,7 @@ staged : (g : _) (c : After-write_and_sync g) → LeavesOnly g.D.Disk.moment g.D
 staged g c =
     let D = g.D.Disk in
     let d = c.args.disk.now in
-    let few : length c.to_bytes.result ≤ 34 = omega arith in
+    let few : length c.to_bytes.result ≤ 43 = omega arith in
     weaker D.moment D.left_since d c.write_and_sync.new.disk _ _ c.write_and_sync.ensures.any_moment
     (comes_looser Mark _ (Fills (D.tells d) c.args.slot c.args.mark) (stages c.args.slot c.place-place.result c.place-place.ensures.place c.args.mark (D.tells d) (length c.to_bytes.result) few) (D.may_leave d) (D.beside d).told)
 

@@ -6,12 +6,12 @@ use Rattle.s80_disk.specs.Moments.{LeavesOnly}
 use Rattle.s80_keeper.specs.declared.start.Damage.{Damage}
 use Rattle.s80_keeper.specs.Standing.{StandsFor}
 use Rattle.s80_keeper.specs.Start.{IsDamage}
-use Rattle.s80_keeper.proofs.Damages.{no_list}
+use Rattle.s80_keeper.proofs.Damages.{damaged_has_log, no_list}
 use Rattle.s80_session.specs.Run.{Shown, shown}
 use Rattle.s80_program.specs.Command.{item_for}
 use Rattle.s80_program.specs.Leaves.{StartsWith, KeepsFor}
 use Rattle.s80_program.specs.Task.{command_of}
-use Rattle.s80_program.proofs.Beginning.{starts_on, stands_on, lost_at_start, no_session, chosen, goes_on, session_begins, damaged_has_log, damaged_lasts, tells_damage, damage_found, knows_on, shown_but_files, shown_through}
+use Rattle.s80_program.proofs.Beginning.{starts_on, stands_on, lost_at_start, no_session, chosen, goes_on, session_begins, damaged_lasts, tells_damage, damage_found, knows_on, shown_but_files, shown_through}
 use Rattle.s80_program.proofs.Ends.{reason_err, later_reason, starts_reason, undamaged, never_usage, disk_undamaged, disk_tells, no_fewer}
 use Rattle.s80_program.proofs.program.work.Goals as goal
 use Rattle.s80_program.proofs.program.work.Goals.{After-open_folder, After-start}

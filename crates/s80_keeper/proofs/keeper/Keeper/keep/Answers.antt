@@ -11,6 +11,7 @@ use Rattle.s80_log.specs.Commit.{next_mark}
 use Rattle.s80_keeper.specs.Keeper.{KeeperState, Keeps}
 use Rattle.s80_keeper.specs.Standing.{FilesStandFor, LeavesEither}
 use Rattle.s80_keeper.specs.Answers.{PreparedChange, IsFor}
+use Rattle.s80_keeper.proofs.Counting.{counts_more}
 use Rattle.s80_keeper.proofs.Keeping.{either_list, leaves_either, built_kept, installed_at, after_kept, keeps_more, keeps_still}
 use Rattle.s80_keeper.proofs.keeper.Keeper.keep.Goals as goal
 use Rattle.s80_keeper.proofs.keeper.Keeper.keep.Goals.{After-append_and_commit}
@@ -29,24 +30,28 @@ module _ (g : _) (c : After-append_and_commit g) (changes : List Change) (keeps 
       let P : KeeperState → Type 0 = λ k. Keeps (g.D.Disk.tells c.args.disk.now) (g.D.Disk.reads c.args.disk.now) (g.D.Disk.may_leave c.args.disk.now) k changes in
       subst P (sym c.self.view_is) keeps
 
+  -- the list with the change has so many changes as the mark will count
+  counted : c.saturating_add-count.result ≡ length changes + 1
+  counted = search rules ∙ counts_more changes c.self.inside.count kept.stands.files.list kept.count
+
   built_all : IsBuilt (changes ++ c.args.prepared.change ∷ [])
   built_all = built_kept changes c.args.self.now.system c.args.prepared ready keeps.built
 
   -- the mark that is committed
   abbrev next : MarkState
-  next = next_mark c.self.inside.mark (record c.self.inside.log { end = c.self.inside.log.end + length c.parts-block.result.0 })
+  next = next_mark c.self.inside.mark (record c.self.inside.log { end = c.self.inside.log.end + length c.parts-block.result.0 }) c.saturating_add-count.result
 
   run : LeavesOnly g.D.Disk.moment g.D.Disk.left_since c.args.disk.now c.append_and_commit.new.disk (LeavesEither (g.D.Disk.beside c.args.disk.now).told changes (changes ++ c.args.prepared.change ∷ []))
   run =
       let D = g.D.Disk in
       let d = c.args.disk.now in
-      weaker D.moment D.left_since d c.append_and_commit.new.disk _ _ (c.append_and_commit.ensures.one_commit changes c.args.prepared.change kept.stands kept.named kept.end lawful (is_block g c))
+      weaker D.moment D.left_since d c.append_and_commit.new.disk _ _ (c.append_and_commit.ensures.one_commit changes c.args.prepared.change kept.stands kept.named kept.end lawful (is_block g c) counted)
       (leaves_either (D.may_leave d) (D.beside d).told (log_file c.self.inside.log.number) c.self.inside.mark next changes (changes ++ c.args.prepared.change ∷ []) kept.no_image kept.no_image keeps.built built_all)
 
   left_now : (e : Image) → g.D.Disk.may_leave c.append_and_commit.new.disk e → FilesStandFor e changes ⊎ FilesStandFor e (changes ++ c.args.prepared.change ∷ [])
   left_now e left =
       either_list c.self.inside.mark next changes (changes ++ c.args.prepared.change ∷ []) e kept.no_image kept.no_image keeps.built built_all
-      (c.append_and_commit.ensures.left changes c.args.prepared.change e kept.stands kept.named kept.end lawful (is_block g c) left)
+      (c.append_and_commit.ensures.left changes c.args.prepared.change e kept.stands kept.named kept.end lawful (is_block g c) counted left)
 
 pub returns-in-Ok-clause-any_moment : goal.returns-in-Ok-clause-any_moment
 returns-in-Ok-clause-any_moment g c = run g (goal.at.returns-in-Ok-clause-any_moment g c).After-append_and_commit
@@ -62,7 +67,7 @@ pub returns-in-Ok-clause-kept : goal.returns-in-Ok-clause-kept
 returns-in-Ok-clause-kept g c = λ changes keeps lawful ready.
     let at = (goal.at.returns-in-Ok-clause-kept g c).After-append_and_commit in
     let was = kept g at changes keeps lawful ready in
-    let stands = c.in-Ok.ensures.kept changes c.args.prepared.change was.stands was.named was.end lawful (is_block g at) in
+    let stands = c.in-Ok.ensures.kept changes c.args.prepared.change was.stands was.named was.end lawful (is_block g at) (counted g at changes keeps lawful ready) in
     keeps_more _ _ _ _ _ _ c.args.self.now _ c.in-Ok.at c.args.prepared changes keeps ready (returns-in-Ok-clause-after g c) stands
 
 pub returns-in-Err-Disk-clause-any_moment : goal.returns-in-Err-Disk-clause-any_moment

@@ -1,4 +1,4 @@
-use Rattle.std.proofs.Common.{◌+◌, ℕ, List, length, IsTrue, ap, ◌∙◌, arith, rules, tests, refl}
+use Rattle.std.proofs.Common.{◌+◌, ℕ, List, length, IsTrue, ap, ◌∙◌, rules, tests, refl}
 use Rattle.std.proofs.lemmas.Result.{err_from_is_err_and}
 use Rattle.s80_block.specs.declared.change.Change.{Change}
 use Rattle.s80_disk.specs.Image.{Image, Torn, OnFile, Follows}

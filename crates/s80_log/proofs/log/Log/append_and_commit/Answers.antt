@@ -1,4 +1,4 @@
-use Rattle.std.proofs.Common.{◌≡◌, ◌++◌, ◌∷◌, [], ◌+◌, inl, ℕ, List, length, ap, subst, arith}
+use Rattle.std.proofs.Common.{◌≡◌, ◌++◌, ◌∷◌, [], ◌+◌, inl, ℕ, List, length, ap, ◌∙◌, sym, subst, arith, length-append}
 use Rattle.std.proofs.lemmas.Result.{err_from_is_err_and}
 use Rattle.s80_block.specs.declared.change.Change.{Change}
 use Rattle.s80_block.specs.Block.{block, IsLawful}
@@ -16,14 +16,14 @@ use Rattle.s80_log.proofs.log.Log.append_and_commit.Goals.{After-commit}
 -- ---- where the append failed
 
 pub returns-in_err-at-clause-one_commit : goal.returns-in_err-at-clause-one_commit
-returns-in_err-at-clause-one_commit g c = λ changes change stands named ends lawful is.
+returns-in_err-at-clause-one_commit g c = λ changes change stands named ends lawful is counts.
     let D = g.D.Disk in
     let d = c.args.disk.now in
     weaker D.moment D.left_since d c.append.new.disk _ _ (c.append.ensures.stands c.args.mark.now changes changes (holds_none (D.tells d) (D.reads d) (D.may_leave d) c.args.self.now c.args.mark.now changes stands named ends))
     (loosened (D.may_leave d) (D.beside d).told (log_file c.args.self.now.number) c.args.mark.now _ changes _)
 
 pub returns-in_err-at-clause-left : goal.returns-in_err-at-clause-left
-returns-in_err-at-clause-left g c = λ changes change e stands named ends lawful is left.
+returns-in_err-at-clause-left g c = λ changes change e stands named ends lawful is counts left.
     let D = g.D.Disk in
     let d = c.args.disk.now in
     let mid = c.append.new.disk in
@@ -50,7 +50,7 @@ returns-in-Err-clause-full g c = λ n. (
 
 -- ---- where the commit was made
 
-module _ (g : _) (c : After-commit g) (changes : List Change) (change : Change) (stands : StandsFor (g.D.Disk.tells c.args.disk.now) (g.D.Disk.reads c.args.disk.now) (g.D.Disk.may_leave c.args.disk.now) c.args.mark.now changes) (named : c.args.mark.now.log ≡ c.args.self.now.number) (ends : c.args.mark.now.log_length ≡ c.args.self.now.end) (lawful : IsLawful change) (is : c.args.block.now ≡ block change) where
+module _ (g : _) (c : After-commit g) (changes : List Change) (change : Change) (stands : StandsFor (g.D.Disk.tells c.args.disk.now) (g.D.Disk.reads c.args.disk.now) (g.D.Disk.may_leave c.args.disk.now) c.args.mark.now changes) (named : c.args.mark.now.log ≡ c.args.self.now.number) (ends : c.args.mark.now.log_length ≡ c.args.self.now.end) (lawful : IsLawful change) (is : c.args.block.now ≡ block change) (counts : c.args.count ≡ length changes + 1) where
   -- the log behind the block
   abbrev longer : LogEnd
   longer = record c.args.self.now { end = c.args.self.now.end + length c.args.block.now }
@@ -61,13 +61,17 @@ module _ (g : _) (c : After-commit g) (changes : List Change) (change : Change) 
   appended : Holds (g.D.Disk.tells c.append.new.disk) (g.D.Disk.reads c.append.new.disk) (g.D.Disk.may_leave c.append.new.disk) c.append.new.self c.args.mark.now changes (changes ++ change ∷ [])
   appended = c.in_ok-at.ensures.holds c.args.mark.now changes changes change nothing_yet lawful is
 
+  -- the count takes the change in
+  count_more : c.args.count ≡ length (changes ++ change ∷ [])
+  count_more = counts ∙ sym (length-append changes (change ∷ []))
+
   abbrev Lists : (before : Image → Type 0) → ℕ → LogEnd → ℕ → Image → Type 0
-  Lists before told_before log = LeavesBeside before told_before (log_file log.number) (StandForEither c.args.mark.now changes (next_mark c.args.mark.now log) (changes ++ change ∷ []))
+  Lists before told_before log = LeavesBeside before told_before (log_file log.number) (StandForEither c.args.mark.now changes (next_mark c.args.mark.now log c.args.count) (changes ++ change ∷ []))
 
   committing : LeavesOnly g.D.Disk.moment g.D.Disk.left_since c.append.new.disk c.commit.new.disk (Lists (g.D.Disk.may_leave c.append.new.disk) (g.D.Disk.beside c.append.new.disk).told longer)
   committing =
       let P : LogEnd → Type 0 = λ l. LeavesOnly g.D.Disk.moment g.D.Disk.left_since c.append.new.disk c.commit.new.disk (Lists (g.D.Disk.may_leave c.append.new.disk) (g.D.Disk.beside c.append.new.disk).told l) in
-      subst P c.in_ok-at.ensures.end (c.commit.ensures.stands changes (changes ++ change ∷ []) appended)
+      subst P c.in_ok-at.ensures.end (c.commit.ensures.stands changes (changes ++ change ∷ []) appended count_more)
 
   run : LeavesOnly g.D.Disk.moment g.D.Disk.left_since c.args.disk.now c.commit.new.disk (Lists (g.D.Disk.may_leave c.args.disk.now) (g.D.Disk.beside c.args.disk.now).told longer)
   run =
@@ -79,26 +83,28 @@ module _ (g : _) (c : After-commit g) (changes : List Change) (change : Change) 
       committing
       (beside_on _ (log_file c.args.self.now.number) _ (D.may_leave d) (D.may_leave mid) _ _ (ap (λ (b : Beside). b.told) c.append.ensures.beside) c.append.ensures.crash)
 
-  left_now : (e : Image) → g.D.Disk.may_leave c.commit.new.disk e → StandForEither c.args.mark.now changes (next_mark c.args.mark.now longer) (changes ++ change ∷ []) e
+  left_now : (e : Image) → g.D.Disk.may_leave c.commit.new.disk e → StandForEither c.args.mark.now changes (next_mark c.args.mark.now longer c.args.count) (changes ++ change ∷ []) e
   left_now e left =
-      let P : LogEnd → Type 0 = λ l. StandForEither c.args.mark.now changes (next_mark c.args.mark.now l) (changes ++ change ∷ []) e in
+      let P : LogEnd → Type 0 = λ l. StandForEither c.args.mark.now changes (next_mark c.args.mark.now l c.args.count) (changes ++ change ∷ []) e in
       let all = changes ++ change ∷ [] in
-      let leaves = c.commit.ensures.left changes all e appended left in
+      let leaves = c.commit.ensures.left changes all e appended count_more left in
       subst P c.in_ok-at.ensures.end leaves.here
 
 pub returns-in-Err-clause-one_commit : goal.returns-in-Err-clause-one_commit
-returns-in-Err-clause-one_commit g c = λ changes change stands named ends lawful is. run g (goal.at.returns-in-Err-clause-one_commit g c).After-commit changes change stands named ends lawful is
+returns-in-Err-clause-one_commit g c = λ changes change stands named ends lawful is counts. run g (goal.at.returns-in-Err-clause-one_commit g c).After-commit changes change stands named ends lawful is counts
 
 pub returns-in-Err-clause-left : goal.returns-in-Err-clause-left
-returns-in-Err-clause-left g c = λ changes change e stands named ends lawful is left. left_now g (goal.at.returns-in-Err-clause-left g c).After-commit changes change stands named ends lawful is e left
+returns-in-Err-clause-left g c = λ changes change e stands named ends lawful is counts left. left_now g (goal.at.returns-in-Err-clause-left g c).After-commit changes change stands named ends lawful is counts e left
 
 pub returns-clause-one_commit : goal.returns-clause-one_commit
-returns-clause-one_commit g c = λ changes change stands named ends lawful is. run g (goal.at.returns-clause-one_commit g c).After-commit changes change stands named ends lawful is
+returns-clause-one_commit g c = λ changes change stands named ends lawful is counts. run g (goal.at.returns-clause-one_commit g c).After-commit changes change stands named ends lawful is counts
 
 pub returns-clause-left : goal.returns-clause-left
-returns-clause-left g c = λ changes change e stands named ends lawful is left. left_now g (goal.at.returns-clause-left g c).After-commit changes change stands named ends lawful is e left
+returns-clause-left g c = λ changes change e stands named ends lawful is counts left. left_now g (goal.at.returns-clause-left g c).After-commit changes change stands named ends lawful is counts e left
 
 pub returns-clause-kept : goal.returns-clause-kept
-returns-clause-kept g c = λ changes change stands named ends lawful is.
-    let holds = c.in_default.ensures.committed changes (changes ++ change ∷ []) (appended g (goal.at.returns-clause-kept g c).After-commit changes change stands named ends lawful is) in
+returns-clause-kept g c = λ changes change stands named ends lawful is counts.
+    let at = (goal.at.returns-clause-kept g c).After-commit in
+    let all = changes ++ change ∷ [] in
+    let holds = c.in_default.ensures.committed changes all (appended g at changes change stands named ends lawful is counts) (count_more g at changes change stands named ends lawful is counts) in
     holds.stands
