@@ -11,6 +11,7 @@ mod outside;
 mod plan;
 mod real;
 mod recorded;
+mod streams;
 
 pub use disk::{Disk, FileId};
 pub use durable::write_and_sync;
@@ -19,3 +20,4 @@ pub use memory_outside::MemOutside;
 pub use outside::{Outside, put_output, take_input, time_now};
 pub use plan::FaultPlan;
 pub use real::RealDisk;
+pub use streams::{read_some, write_some};

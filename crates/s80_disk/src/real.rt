@@ -1,26 +1,39 @@
 // The disk over real files. It tells nothing of what they hold.
-ghost use Rattle.std.specs.Prelude.{◌≡◌, ◌≤◌, ℕ, false, None, [], length, IfOk};
+ghost use Rattle.std.specs.Prelude.{◌≡◌, ◌≤◌, ◌<◌, ℕ, false, None, [], length, take, IfOk, OnOk};
+ghost use Rattle.std.specs.Io.KnownBytes.{Consumes, IsAtEnd};
+ghost use Rattle.std.specs.Io.Seek.{MovesTo};
 ghost use Rattle.std.specs.Result.{result_ok};
 ghost use Rattle.s80_base.specs.Causes.{HasCause, Names};
+ghost use Rattle.s80_disk.specs.Real.{HasRead, HasWritten};
 ghost use Rattle.s80_disk.specs.Untold.{untold};
 
-use crate::{Disk, FileId};
+use crate::{Disk, FileId, read_some};
 use s80_base::{Call, Failed, Text, fault};
-use std::fs::{Files, OpenFile, OpenOptions};
-use std::io;
+use std::fs::{File, Files, OpenFile, OpenOptions, TryLockError};
 use std::io::{ErrorKind, Read, Seek, SeekFrom, Write};
+use std::rt::Clock;
+use std::time::{Duration, Instant};
+use std::{io, thread};
 
-/// The five files of a folder, which stay open from `attach` on.
+/// How long the lock of a folder is waited for while another program holds it.
+const LONGEST_WAIT_SECONDS: u64 = 5;
+
+/// The pause between two tries, and how many fill that time.
+const PAUSE_MILLISECONDS: u64 = 10;
+
+const TRIES: u32 = 500;
+
+/// The five files of a folder, which stay open and locked from `attach` on.
 #[derive(Drop)]
-pub struct RealDisk<R: Files + AllocGlobal + Drop> {
+pub struct RealDisk<R: Files<File = File> + AllocGlobal + Clock + Drop> {
     rt: R,
-    files: Vec<R::File>,
+    files: Vec<File>,
     /// The folder, opened so often that no file of it gets the number of a standard stream that is closed.
-    folders: Vec<R::File>,
+    folders: Vec<File>,
     faults: u64,
 }
 
-impl<R: Files + AllocGlobal + Drop> RealDisk<R> {
+impl<R: Files<File = File> + AllocGlobal + Clock + Drop> RealDisk<R> {
     ghost use Rattle.s80_disk.specs.Real.{faults_of_real, runtime_of};
 
     /// A disk without a folder. Until one is attached each other call fails.
@@ -47,7 +60,11 @@ impl<R: Files + AllocGlobal + Drop> RealDisk<R> {
 }
 
 /// Opens a file, and makes an absent one, empty.
-fn open_one<R: Files + AllocGlobal>(rt: &R, folder: &str, name: &str) -> io::Result<R::File> {
+fn open_one<R: Files<File = File> + AllocGlobal>(
+    rt: &R,
+    folder: &str,
+    name: &str,
+) -> io::Result<File> {
     let path = format!(in rt.alloc(); "{folder}/{name}")?;
     OpenOptions::new()
         .read(true)
@@ -57,7 +74,10 @@ fn open_one<R: Files + AllocGlobal>(rt: &R, folder: &str, name: &str) -> io::Res
 }
 
 /// Opens the folder for reading, once for each standard stream.
-fn open_folders<R: Files + AllocGlobal>(rt: &R, folder: &str) -> io::Result<Vec<R::File>> {
+fn open_folders<R: Files<File = File> + AllocGlobal>(
+    rt: &R,
+    folder: &str,
+) -> io::Result<Vec<File>> {
     let mut folders = Vec::with_capacity(rt.alloc(), 3)?;
     for _ in 0..3 {
         folders.push(OpenOptions::new().read(true).open(rt, folder)?)?;
@@ -66,7 +86,7 @@ fn open_folders<R: Files + AllocGlobal>(rt: &R, folder: &str) -> io::Result<Vec<
 }
 
 /// Opens the files in the order of `FileId`.
-fn open_files<R: Files + AllocGlobal>(rt: &R, folder: &str) -> io::Result<Vec<R::File>> {
+fn open_files<R: Files<File = File> + AllocGlobal>(rt: &R, folder: &str) -> io::Result<Vec<File>> {
     let mut files = Vec::with_capacity(rt.alloc(), 5)?;
     for name in ["mark", "log0", "log1", "image0", "image1"] {
         files.push(open_one(rt, folder, name)?)?;
@@ -74,45 +94,82 @@ fn open_files<R: Files + AllocGlobal>(rt: &R, folder: &str) -> io::Result<Vec<R:
     Ok(files)
 }
 
-/// Opens the folder and its files, and syncs the folder, so that the names of those that it made outlive a power cut.
-fn open_all<R: Files + AllocGlobal>(
+/// Takes the lock of an open file, and waits while another program holds it. The system frees it when this program ends, however it ends.
+fn lock<R: Clock>(rt: &R, file: &File) -> io::Result<()> {
+    let begun = Instant::now(rt)?;
+    for _ in 0..TRIES {
+        match file.try_lock() {
+            Ok(()) => return Ok(()),
+            Err(TryLockError::WouldBlock) => {}
+            Err(TryLockError::Error(error)) => return Err(error),
+        }
+        if begun.elapsed(rt)?.as_secs() >= LONGEST_WAIT_SECONDS {
+            break;
+        }
+        thread::sleep(rt, Duration::from_millis(PAUSE_MILLISECONDS));
+    }
+    Err(io::Error::from(ErrorKind::WouldBlock))
+}
+
+/// Opens the folder and its files, takes the lock of the first one, and syncs the folder, so that the names of those that it made outlive
+/// a power cut.
+fn open_all<R: Files<File = File> + AllocGlobal + Clock>(
     rt: &R,
     folder: &[u8],
-) -> io::Result<(Vec<R::File>, Vec<R::File>)> {
+) -> io::Result<(Vec<File>, Vec<File>)> {
     let folder = match std::str::from_utf8(folder) {
         Ok(folder) => folder,
         Err(_) => return Err(io::Error::from(ErrorKind::InvalidInput)),
     };
     let folders = open_folders(rt, folder)?;
     let files = open_files(rt, folder)?;
+    if let Some(mark) = files.first() {
+        lock(rt, mark)?;
+    }
     if let Some(opened) = folders.first() {
         opened.sync_all()?;
     }
     Ok((folders, files))
 }
 
-/// Reads on until the buffer is full or the file has ended.
-fn read_all<F: Read + Seek>(file: &mut F, at: u64, buf: &mut [u8]) -> io::Result<usize>
-    ensures { IfOk result (λ count. count ≤ length buf.new) }
+/// Goes to a place of a file.
+fn go_to<F: Seek>(file: &mut F, at: u64) -> io::Result<()>
+    ensures { MovesTo (F.stream_position file.old) (F.stream_position file.new) at result }
 {
     file.seek(SeekFrom::Start(at))?;
-    let mut count = 0;
-    for _ in 0..u64::MAX {
-        if count >= buf.len() {
-            return Ok(count);
-        }
-        match file.read(&mut buf[count..]) {
-            Ok(0) => return Ok(count),
-            Ok(more) => count += more,
-            Err(e) if e.kind() == ErrorKind::Interrupted => {}
-            Err(e) => return Err(e),
-        }
-    }
-    Err(io::Error::from(ErrorKind::Other))
+    Ok(())
 }
 
-fn write_whole<F: Write + Seek>(file: &mut F, at: u64, piece: &[u8]) -> io::Result<()> {
-    file.seek(SeekFrom::Start(at))?;
+/// Reads on until the buffer is full or the file has ended.
+fn read_on<F: Read>(file: &mut F, buf: &mut [u8]) -> io::Result<usize>
+    ensures bound { IfOk result (λ count. count ≤ length buf.new) }
+    ensures bytes { IfOk result (λ count. Consumes (F.remaining file.old) (F.remaining file.new) (take count buf.new)) }
+    ensures end { IfOk result (λ count. count < length buf.new → IsAtEnd (F.remaining file.new)) }
+{
+    let mut count = 0;
+    while count < buf.len() {
+        match read_some(file, &mut buf[count..])? {
+            0 => return Ok(count),
+            more => count += more,
+        }
+    }
+    Ok(count)
+}
+
+/// Reads from a place on until the buffer is full or the file has ended.
+fn read_all<F: Read + Seek>(file: &mut F, at: u64, buf: &mut [u8]) -> io::Result<usize>
+    ensures bound { IfOk result (λ count. count ≤ length buf.new) }
+    ensures read { IfOk result (λ count. HasRead F.stream_position F.remaining file.old file.new at count buf.new) }
+{
+    go_to(file, at)?;
+    read_on(file, buf)
+}
+
+/// Writes a whole piece from a place on.
+fn write_whole<F: Write + Seek>(file: &mut F, at: u64, piece: &[u8]) -> io::Result<()>
+    ensures { OnOk result (HasWritten F.stream_position F.contents file.old file.new at piece.now) }
+{
+    go_to(file, at)?;
     file.write_all(piece)
 }
 
@@ -143,7 +200,7 @@ fn noted<T>(faults: &mut u64, call: Call, outcome: io::Result<T>) -> Result<T, F
     }
 }
 
-impl<R: Files + AllocGlobal + Drop> Disk for RealDisk<R> {
+impl<R: Files<File = File> + AllocGlobal + Clock + Drop> Disk for RealDisk<R> {
     ghost use Rattle.s80_disk.specs.Real.{faults_of_real};
 
     ghost tells = { λ _. false };
@@ -167,6 +224,9 @@ impl<R: Files + AllocGlobal + Drop> Disk for RealDisk<R> {
     ghost only_now = { λ _ _ _ left. absurd left };
 
     fn attach(&mut self, folder: &Text) -> Result<(), Failed> {
+        // What is attached already is closed first: its lock would be in the way.
+        self.files.clear();
+        self.folders.clear();
         let opened = open_all(&self.rt, folder.bytes());
         let (folders, files) = noted(&mut self.faults, Call::Attach, opened)?;
         self.folders = folders;
@@ -214,6 +274,3 @@ impl<R: Files + AllocGlobal + Drop> Disk for RealDisk<R> {
         noted(&mut self.faults, Call::Sync, outcome)
     }
 }
-
-#[cfg(test)]
-mod tests;

@@ -2,34 +2,30 @@
 #![tactic(auto)]
 
 mod real;
+mod words;
+
+ghost use Rattle.std.specs.Prelude.{◌≡◌};
+ghost use Rattle.std.specs.Process.{exit_status};
+ghost use Rattle.s80_program.specs.Ending.{number_of};
 
 pub use real::RealOutside;
-use s80_base::Text;
 use s80_program::{Status, st80};
-use std::env::Env;
-use std::io::ErrorKind;
+use std::env;
 use std::process::ExitCode;
-use std::{env, io};
+use words::words_of;
 
-/// The words that the program was started with.
-fn words_given<R: Env + AllocGlobal>(rt: &R) -> io::Result<Vec<Text>> {
-    let mut words = Vec::new(rt.alloc());
-    for word in env::args(rt)? {
-        let Ok(text) = Text::from_bytes(rt.alloc(), word.as_bytes()) else {
-            return Err(io::Error::from(ErrorKind::OutOfMemory));
-        };
-        words.push(text)?;
+/// Runs on the standard streams and the machine's files.
+fn run(rt: HostRuntime) -> Status {
+    match words_of(rt.alloc(), env::args(&rt)) {
+        Ok(words) => st80(rt.alloc(), &words, &mut RealOutside::make(rt)),
+        Err(status) => status,
     }
-    Ok(words)
 }
 
-/// Runs on the standard streams and the machine's files. A word that is no text is bad usage.
-fn run(rt: HostRuntime) -> Status {
-    match words_given(&rt) {
-        Ok(words) => st80(rt.alloc(), &words, &mut RealOutside::make(rt)),
-        Err(error) if error.kind() == ErrorKind::OutOfMemory => Status::OutOfMemory,
-        Err(_) => Status::Usage,
-    }
+fn code_of(status: Status) -> ExitCode
+    ensures { exit_status result ≡ number_of status }
+{
+    ExitCode::from(status.number())
 }
 
 fn main(rt: HostRuntime) -> ExitCode {
@@ -37,5 +33,5 @@ fn main(rt: HostRuntime) -> ExitCode {
     if let Some(line) = status.message() {
         let _ = eprintln!(rt; "{line}");
     }
-    ExitCode::from(status.number())
+    code_of(status)
 }

@@ -1,30 +1,28 @@
 // The outside of a program that runs: the standard streams, a folder and the machine's clock.
 ghost use Rattle.std.specs.Prelude.{◌≡◌, ◌≤◌, ◌<◌, ◌+◌, ◌^◌, ℕ, List, false, None, refl, [], length, IfOk, IsTrue, OnOk};
 ghost use Rattle.std.proofs.Common.{ap, sym};
-ghost use Rattle.std.specs.Io.{ReadsAtMost, WritesAtMost};
 ghost use Rattle.s80_disk.specs.declared.disk.FileId.{FileId};
 ghost use Rattle.s80_disk.specs.Real.{faults_of_real};
 ghost use Rattle.s80_disk.specs.Untold.{untold, files_untold, no_moment_untold};
 
 use s80_base::{Call, Clock, Failed, Sink, Source, Text, fault};
-use s80_disk::{Disk, FileId, Outside, RealDisk};
-use std::fs::Files;
+use s80_disk::{Disk, FileId, Outside, RealDisk, read_some, write_some};
+use std::fs::{File, Files};
 use std::io;
-use std::io::{ErrorKind, Read, Write};
 use std::rt::Clock as SystemClock;
 use std::time::{SystemTime, UNIX_EPOCH};
 
 /// Standard input and output, the five files of a folder, and the machine's clock. It tells nothing of what these hold, but how
 /// many bytes it has put.
 #[derive(Drop)]
-pub struct RealOutside<R: Files + AllocGlobal + Input + Print + SystemClock + Drop> {
+pub struct RealOutside<R: Files<File = File> + AllocGlobal + Input + Print + SystemClock + Drop> {
     disk: RealDisk<R>,
     told: u64,
     read_faults: u64,
     write_faults: u64,
 }
 
-impl<R: Files + AllocGlobal + Input + Print + SystemClock + Drop> RealOutside<R> {
+impl<R: Files<File = File> + AllocGlobal + Input + Print + SystemClock + Drop> RealOutside<R> {
     /// An outside on which no folder is chosen yet.
     pub fn make(rt: R) -> Self {
         RealOutside {
@@ -34,46 +32,6 @@ impl<R: Files + AllocGlobal + Input + Print + SystemClock + Drop> RealOutside<R>
             write_faults: 0,
         }
     }
-}
-
-/// Reads at least one byte where input is left. An interrupted read is tried again.
-fn read_some<F: Read>(mut reader: F, buf: &mut [u8]) -> io::Result<usize>
-where
-    F: Drop,
-    ensures { ReadsAtMost result buf.new }
-{
-    for _ in 0..u64::MAX {
-        match reader.read(buf) {
-            Ok(count) => return Ok(count),
-            Err(e) if e.kind() == ErrorKind::Interrupted => {}
-            Err(e) => return Err(e),
-        }
-    }
-    Err(io::Error::from(ErrorKind::Other))
-}
-
-/// Writes at least one byte of a piece that isn't empty. An interrupted write is tried again.
-fn write_some<F: Write>(mut writer: F, piece: &[u8]) -> io::Result<usize>
-where
-    F: Drop,
-    ensures bound { WritesAtMost result piece.now }
-    ensures some { 0 < length piece.now → IfOk result (λ count. 0 < count) }
-{
-    if piece.is_empty() {
-        return Ok(0);
-    }
-    for _ in 0..u64::MAX {
-        match writer.write(piece) {
-            Ok(0) => return Err(io::Error::from(ErrorKind::WriteZero)),
-            Ok(count) => {
-                writer.flush()?;
-                return Ok(count);
-            }
-            Err(e) if e.kind() == ErrorKind::Interrupted => {}
-            Err(e) => return Err(e),
-        }
-    }
-    Err(io::Error::from(ErrorKind::Other))
 }
 
 /// The seconds since 1970, or 0 where the clock can't be read or stands before it.
@@ -87,7 +45,8 @@ fn seconds_now<R: SystemClock>(rt: &R) -> u64 {
     }
 }
 
-impl<R: Files + AllocGlobal + Input + Print + SystemClock + Drop> Source for RealOutside<R> {
+impl<R: Files<File = File> + AllocGlobal + Input + Print + SystemClock + Drop> Source
+    for RealOutside<R> {
     ghost left = { λ _. None };
 
     ghost read_faults = { λ o. o.read_faults };
@@ -95,14 +54,15 @@ impl<R: Files + AllocGlobal + Input + Print + SystemClock + Drop> Source for Rea
     ghost take_keeps = { λ o p. (p.disk ≡ o.disk) × (p.told ≡ o.told) × (p.write_faults ≡ o.write_faults) };
 
     fn take(&mut self, buf: &mut [u8]) -> Result<usize, Failed> {
-        match read_some(self.disk.runtime().reader(), buf) {
+        match read_some(&mut self.disk.runtime().reader(), buf) {
             Ok(count) => Ok(count),
             Err(_) => Err(fault(&mut self.read_faults, Call::Take)),
         }
     }
 }
 
-impl<R: Files + AllocGlobal + Input + Print + SystemClock + Drop> Sink for RealOutside<R> {
+impl<R: Files<File = File> + AllocGlobal + Input + Print + SystemClock + Drop> Sink
+    for RealOutside<R> {
     ghost taken = { λ _. None };
 
     ghost told = { λ o. o.told };
@@ -116,7 +76,7 @@ impl<R: Files + AllocGlobal + Input + Print + SystemClock + Drop> Sink for RealO
         if u64::MAX - self.told < piece.len() as u64 {
             return Err(fault(&mut self.write_faults, Call::Put));
         }
-        match write_some(io::writer(self.disk.runtime()), piece) {
+        match write_some(&mut io::writer(self.disk.runtime()), piece) {
             Ok(count) => {
                 self.told += count as u64;
                 Ok(count)
@@ -126,7 +86,8 @@ impl<R: Files + AllocGlobal + Input + Print + SystemClock + Drop> Sink for RealO
     }
 }
 
-impl<R: Files + AllocGlobal + Input + Print + SystemClock + Drop> Clock for RealOutside<R> {
+impl<R: Files<File = File> + AllocGlobal + Input + Print + SystemClock + Drop> Clock
+    for RealOutside<R> {
     ghost seconds = { λ _. None };
 
     ghost now_keeps = { λ o p. p ≡ o };
@@ -136,7 +97,8 @@ impl<R: Files + AllocGlobal + Input + Print + SystemClock + Drop> Clock for Real
     }
 }
 
-impl<R: Files + AllocGlobal + Input + Print + SystemClock + Drop> Disk for RealOutside<R> {
+impl<R: Files<File = File> + AllocGlobal + Input + Print + SystemClock + Drop> Disk
+    for RealOutside<R> {
     ghost tells = { λ _. false };
 
     ghost reads = { λ _ _. [] };
@@ -189,7 +151,8 @@ impl<R: Files + AllocGlobal + Input + Print + SystemClock + Drop> Disk for RealO
     }
 }
 
-impl<R: Files + AllocGlobal + Input + Print + SystemClock + Drop> Outside for RealOutside<R> {
+impl<R: Files<File = File> + AllocGlobal + Input + Print + SystemClock + Drop> Outside
+    for RealOutside<R> {
     ghost beside_is = { λ o. refl };
 
     ghost take_keeps_files = { λ o p h. files_untold (λ x. faults_of_real x.disk) (λ x. Self.beside x) o p (ap faults_of_real h.0) };
