@@ -1,5 +1,5 @@
 // Definitions of classes, and their texts.
-ghost use Rattle.std.specs.Prelude.{◌≡◌, ◌++◌, IfOk, OnOk};
+ghost use Rattle.std.specs.Prelude.{◌≡◌, ◌++◌, ℕ, List, IfOk, OnOk, OnErr};
 ghost use Rattle.s80_lex.specs.Spelling.{quoted};
 ghost use Rattle.s80_change.specs.Definition.{definition_text, first_line, defining_word, next_line, joined};
 
@@ -80,9 +80,10 @@ fn add_line(text: &mut Text, word: &[u8], string: &[u8]) -> Result<(), OutOfMemo
     add_quoted(text, string)
 }
 
-/// Adds a string as a source has it: between quotes, and with each quote in it doubled.
+/// Adds a string as a source has it: between quotes, and with each quote in it doubled. When out of memory, the text may have a part of it.
 pub fn add_quoted(text: &mut Text, string: &[u8]) -> Result<(), OutOfMemory>
-    ensures { OnOk result (text.new ≡ text.old ++ quoted 39 string.now) }
+    ensures ok { OnOk result (text.new ≡ text.old ++ quoted 39 string.now) }
+    ensures err { OnErr result ((more : List ℕ) × (text.new ≡ text.old ++ more)) }
 {
     text.append(b"'")?;
     for byte in string {

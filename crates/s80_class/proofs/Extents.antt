@@ -98,6 +98,7 @@ module _ (table : Table) (is : IsKnown table) (c : ℕ) (top : Totals) (found : 
 
   pub are_family : IsFamily table.names new name found
   are_family = record {
+    distinct = so_far.distinct;
     each = λ k p at.
         let q = class_found table is c top name named found next so_far k p at in
         let old = is.known p.0 q.0 q.1 in

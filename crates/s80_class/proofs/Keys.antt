@@ -1,5 +1,5 @@
 -- Names that rise: the place of a name, and the keys of a map after a change.
-use Rattle.std.proofs.Common.{◌≡◌, ◌≢◌, ◌≤◌, ◌<◌, ◌∙◌, ◌||◌, ◌&&◌, T, ◌+◌, inl, inr, ℕ, suc, zero, Bool, cond, true, false, refl, sym, ap, List, [], ◌∷◌, length, get_or, map as list_map, Option, Some, None, is_some, true≢false, arith}
+use Rattle.std.proofs.Common.{◌≡◌, ◌≢◌, ◌≤◌, ◌<◌, ◌∙◌, ◌||◌, ◌&&◌, T, ◌+◌, inl, inr, ℕ, suc, zero, Bool, cond, true, false, refl, sym, ap, ap₂, List, [], ◌∷◌, length, get_or, slice_get, map as list_map, Option, Some, None, is_some, true≢false, arith}
 use Rattle.std.specs.List.{list_any, insert, remove}
 use Rattle.std.specs.Str.{bytes_eq}
 use Rattle.std.specs.Ordering.{nat_cmp, eq_by_cmp, is_lt, is_eq, ordering_reverse}
@@ -12,15 +12,13 @@ use Rattle.std.specs.FinMap.Entries.{below_all}
 use Rattle.std.proofs.lemmas.Bool.{cases_lt}
 use Rattle.std.proofs.lemmas.List.Edits.{get_or-insert_at, length-insert}
 use Rattle.std.proofs.lemmas.List.{length-map}
+use Rattle.std.proofs.lemmas.Option.{slice_get_within, slice_get-get_or}
 use Rattle.s80_class.specs.Classes.{Name, ClassRow, Classes}
 use Rattle.s80_class.specs.Kept.{is_below, IsRising, IsPlace}
 use Rattle.s80_class.proofs.Lines.{Entry, get-inserted, get-removed}
 
 abbrev R : Name → Name → Ordering
 R = slice_cmp nat_cmp
-
-abbrev keys_in : List Entry → List Name
-keys_in es = list_map (λ e. e.0) es
 
 first_of : (a b : Bool) → T (a && b) → T a
 first_of true b h = tt
@@ -34,24 +32,45 @@ is_true : (a : Bool) → T a → a ≡ true
 is_true true h = refl
 is_true false h = absurd h
 
-below_at : (x : Name) (es : List Entry) → T (below_all R x es) → (j : ℕ) → j < length es → is_below x (get_or (keys_in es) j []) ≡ true
-below_at x [] h j lt = absurd (omega arith)
-below_at x (e ∷ es) h zero lt = is_true _ (first_of _ _ h)
-below_at x (e ∷ es) h (suc j) lt = below_at x es (second_of _ _ h) j (omega arith)
+abbrev keys_in : {V : Type 0} → List (Name × V) → List Name
+keys_in es = list_map (λ e. e.0) es
 
-rising : (es : List Entry) → T (map.is_sorted R es) → IsRising (keys_in es)
-rising [] h i j lt within = absurd (omega arith)
-rising (e ∷ es) h i zero lt within = absurd (omega arith)
-rising (e ∷ es) h zero (suc j) lt within = below_at e.0 es (first_of _ _ h) j (omega (arith, length-map es (λ (x : Entry). x.0)))
-rising (e ∷ es) h (suc i) (suc j) lt within = rising es (second_of _ _ h) i j (omega arith) (omega arith)
+module _ {V : Type 0} where
+  below_at : (x : Name) (es : List (Name × V)) → T (below_all R x es) → (j : ℕ) → j < length es → is_below x (get_or (keys_in es) j []) ≡ true
+  below_at x [] h j lt = absurd (omega arith)
+  below_at x (e ∷ es) h zero lt = is_true _ (first_of _ _ h)
+  below_at x (e ∷ es) h (suc j) lt = below_at x es (second_of _ _ h) j (omega arith)
 
-pub keys_rise : (m : Classes) → IsRising (map.keys m)
-keys_rise m = rising (map.entries m) (map.entries_sorted m)
+  rising : (es : List (Name × V)) → T (map.is_sorted R es) → IsRising (keys_in es)
+  rising [] h i j lt within = absurd (omega arith)
+  rising (e ∷ es) h i zero lt within = absurd (omega arith)
+  rising (e ∷ es) h zero (suc j) lt within = below_at e.0 es (first_of _ _ h) j (omega (arith, length-map es (λ (x : Name × V). x.0)))
+  rising (e ∷ es) h (suc i) (suc j) lt within = rising es (second_of _ _ h) i j (omega arith) (omega arith)
+
+  pub keys_rise : (m : map.FinMap {K = Name} R V) → IsRising (map.keys m)
+  keys_rise m = rising (map.entries m) (map.entries_sorted m)
 
 -- ---- one place
 
 not_below_itself : (q : Name) → is_below q q ≡ false
 not_below_itself q = ap is_lt (tied_itself nat_list_cmp_total q)
+
+-- names that rise are there once
+pub one_place : (ks : List Name) (i j : ℕ) (q : Name) → IsRising ks → slice_get ks i ≡ Some q → slice_get ks j ≡ Some q → i ≡ j
+one_place ks i j q rises a b = elim (cases_lt i j) [
+  | inl lt ↦ absurd (apart i j a b lt)
+  | inr ge ↦ elim (cases_lt j i) [
+    | inl lt ↦ absurd (apart j i b a lt)
+    | inr le ↦ omega arith
+  ]
+]
+  where
+    here : (k : ℕ) → slice_get ks k ≡ Some q → get_or ks k [] ≡ q
+    here k at = let same : Some (get_or ks k []) ≡ Some q = sym (slice_get-get_or ks k [] (slice_get_within ks k q at)) ∙ at in cc
+
+    apart : (k l : ℕ) → slice_get ks k ≡ Some q → slice_get ks l ≡ Some q → k < l → ⊥
+    apart k l at there lt =
+        true≢false (sym (rises k l lt (slice_get_within ks l q there)) ∙ ap₂ is_below (here k at) (here l there) ∙ not_below_itself q)
 
 is_less : (r : Ordering) → is_lt r ≡ true → r ≡ Less
 is_less Less e = refl

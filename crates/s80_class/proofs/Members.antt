@@ -53,8 +53,14 @@ module _ (table : Table) (is : IsKnown table) (c : ℕ) (top : Totals) (found : 
       (finds name row.0 named (subst IsValid (sym same) is.valid) (is_top ∙ ap (λ (m : Classes). totals (inherited_of m name)) (sym same)))
 
   pub are_members : (numbers : List ℕ) → numbers ≡ numbers_of found → AreFamily table name numbers
-  are_members numbers are = subst (AreFamily table name) (sym are) (record { each = each; all = all })
+  are_members numbers are = subst (AreFamily table name) (sym are) (record { distinct = distinct; each = each; all = all })
     where
+      distinct : (j k number : ℕ) → slice_get (numbers_of found) j ≡ Some number → slice_get (numbers_of found) k ≡ Some number → j ≡ k
+      distinct j k number a b =
+          let p = with_number found j number a in
+          let q = with_number found k number b in
+          family_now.distinct j k p.0 q.0 p.1 q.1 (p.2 ∙ sym q.2)
+
       each : (k number : ℕ) → slice_get (numbers_of found) k ≡ Some number → (q : Name) × IsNumberOf table.names number q × (is_under table.classes q name ≡ true)
       each k number at =
           let p = with_number found k number at in

@@ -40,8 +40,9 @@ pub record AreSubclasses (table : Table) (number : ℕ) (totals : Totals) (more 
 abbrev pub Grows : Table → ℕ → Totals → List Found → List Found → Type 0
 Grows table number totals old new = (more : List Found) × (new ≡ old ++ more) × AreSubclasses table number totals more
 
--- these are the class of that name and its descendants, with their totals
+-- these are the class of that name and its descendants, each once, with their totals
 pub record IsFamily (names : List (Option Name)) (classes : Classes) (name : Name) (found : List Found) : Type 0 where
+  pub distinct : AreDistinct found
   pub each : (k : ℕ) (p : Found) → slice_get found k ≡ Some p → (q : Name) × IsNumberOf names p.0 q × (map.contains_key classes q ≡ true) × (is_under classes q name ≡ true) × (p.1 ≡ totals (inherited_of classes q))
   pub all : (q : Name) → map.contains_key classes q ≡ true → is_under classes q name ≡ true → (k : ℕ) × (p : Found) × (slice_get found k ≡ Some p) × IsNumberOf names p.0 q × (p.1 ≡ totals (inherited_of classes q))
 
@@ -51,7 +52,8 @@ FindsFamily table number top found =
     (name : Name) (row : ClassRow) → IsNumberOf table.names number name → IsValid (map.insert table.classes name row)
     → top ≡ totals (inherited_of (map.insert table.classes name row) name) → IsFamily table.names (map.insert table.classes name row) name found
 
--- these are the numbers of the class of that name and of its descendants
+-- these are the numbers of the class of that name and of its descendants, each once
 pub record AreFamily (table : Table) (name : Name) (numbers : List ℕ) : Type 0 where
+  pub distinct : (j k number : ℕ) → slice_get numbers j ≡ Some number → slice_get numbers k ≡ Some number → j ≡ k
   pub each : (k number : ℕ) → slice_get numbers k ≡ Some number → (q : Name) × IsNumberOf table.names number q × (is_under table.classes q name ≡ true)
   pub all : (number : ℕ) (q : Name) → IsNumberOf table.names number q → is_under table.classes q name ≡ true → (k : ℕ) × (slice_get numbers k ≡ Some number)

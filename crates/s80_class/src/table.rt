@@ -112,7 +112,7 @@ impl ClassTable {
         self.totals[c as usize]
     }
 
-    /// The numbers of a class and its descendants. No other class is looked at.
+    /// The numbers of a class and its descendants, each once. No other class is looked at.
     pub fn family(&self, alloc: Global, c: u32) -> Result<Vec<u32>, OutOfMemory>
         requires { IsClass self.now.names c }
         ensures { (name : List ℕ) → IsNumberOf self.now.names c name → IfOk result (λ family. AreFamily self.now name family.items) }

@@ -7,7 +7,7 @@ use Rattle.s80_base.specs.declared.names.Side.{Side}
 use Rattle.s80_base.specs.declared.names.Side.TheVariants.{Instance, Class}
 use Rattle.s80_dict.specs.Dict.{Bytes}
 use Rattle.s80_dict.specs.Slots.{DictValue}
-use Rattle.s80_dict.specs.Table.{SidesValue, MethodsValue, same_side, no_sides, on_side, with_side, methods_at, is_place, put_at, taken_at, put_in, taken_in}
+use Rattle.s80_dict.specs.Table.{SidesValue, MethodsValue, same_side, no_dict, no_sides, on_side, with_side, dict_at, methods_at, is_place, put_at, taken_at, cleared_at, put_in, taken_in}
 
 module _ {X : Type 0} where
   pub one_added : (sides : List (SidesValue X)) (n : ℕ) → get_or (sides ++ no_sides ∷ []) n no_sides ≡ get_or sides n no_sides
@@ -49,6 +49,21 @@ module _ {X : Type 0} where
   taken_shown true d k = refl
   taken_shown false d k = refl
 
+  no_side : (s : Side) → on_side {X = X} no_sides s ≡ no_dict
+  no_side Instance = refl
+  no_side Class = refl
+
+  -- the list `sides`, where the class of that number is emptied
+  at_clear : (sides : List (SidesValue X)) (number : ℕ) → number < length sides → (n : ℕ) (s : Side)
+      → on_side (get_or (set sides number no_sides) n no_sides) s ≡ cond (nat_eq n number) no_dict (on_side (get_or sides n no_sides) s)
+  at_clear sides number h n s =
+      elim (nat_eq n number) as (λ b. nat_eq n number ≡ b → on_side (get_or (set sides number no_sides) n no_sides) s
+      ≡ cond b no_dict (on_side (get_or sides n no_sides) s)) [
+        | true ↦ λ e. subst (λ m. on_side (get_or (set sides number no_sides) m no_sides) s ≡ no_dict)
+            (sym (eqb-true n number e)) (ap (λ x. on_side x s) (get_or-set_same sides number no_sides no_sides h) ∙ no_side s)
+        | false ↦ λ e. ap (λ x. on_side x s) (get_or-set_other sides number n no_sides no_sides (eqb-false n number e))
+      ] refl
+
   module _ (sides : List (SidesValue X)) (spare : ℕ) (now : MethodsValue X) (is : record { sides = sides; spare = spare } ≡ now) (number : ℕ) (side : Side)
       (old new : SidesValue X) (h : number < length now.sides) (there : old ≡ get_or sides number old) where
     within : number < length sides
@@ -73,3 +88,8 @@ module _ {X : Type 0} where
     methods_taken k e n s =
         ap (λ (d : DictValue X). d.methods) (shown (λ d. taken_in d k) e n s) ∙ taken_shown (is_place number side n s) (on_side (get_or sides n no_sides) s) k
         ∙ ap (λ t. taken_at (methods_at t) number side k n s) is
+
+    pub dicts_cleared : new ≡ no_sides → (n : ℕ) (s : Side) → on_side (get_or (set sides number new) n no_sides) s ≡ cleared_at (dict_at now) number n s
+    dicts_cleared e n s =
+        ap (λ x. on_side (get_or (set sides number x) n no_sides) s) e ∙ at_clear sides number within n s
+        ∙ ap (λ t. cleared_at (dict_at t) number n s) is

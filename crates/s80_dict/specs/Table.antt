@@ -62,13 +62,17 @@ module _ {X : Type 0} where
   abbrev pub room_at : MethodsValue X → ℕ → Side → List Bytes
   room_at table n s = (dict_at table n s).room
 
-  -- ---- one method put, and one taken away: all others stay
+  -- ---- one method put, one taken away, and all of a class: all others stay
 
   abbrev pub put_at : (ℕ → Side → Methods X) → ℕ → Side → Bytes → X → ℕ → Side → Methods X
   put_at at number side selector entry n s = cond (is_place number side n s) (map.insert (at n s) selector entry) (at n s)
 
   abbrev pub taken_at : (ℕ → Side → Methods X) → ℕ → Side → Bytes → ℕ → Side → Methods X
   taken_at at number side selector n s = cond (is_place number side n s) (map.remove (at n s) selector) (at n s)
+
+  -- both dictionaries of one class emptied: no method, and no selector with room
+  abbrev pub cleared_at : (ℕ → Side → DictValue X) → ℕ → ℕ → Side → DictValue X
+  cleared_at at number n s = cond (nat_eq n number) no_dict (at n s)
 
   abbrev pub put_in : DictValue X → Bytes → X → DictValue X
   put_in dict selector entry = record { methods = map.insert dict.methods selector entry; room = dict.room }

@@ -89,4 +89,12 @@ impl<C: Drop> MethodSides<C> {
             Side::Class => self.class.remove(selector),
         }
     }
+
+    /// Takes all methods away from both sides, and the room of their selectors. Takes no memory.
+    pub(crate) fn clear(&mut self, alloc: Global)
+        ensures { self.new ≡ no_sides }
+    {
+        self.instance = MethodDict::empty(alloc);
+        self.class = MethodDict::empty(alloc);
+    }
 }

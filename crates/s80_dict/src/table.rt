@@ -3,7 +3,7 @@ ghost use Rattle.std.specs.Prelude.{◌≡◌, ◌<◌, ◌≤◌, ◌+◌, ◌+
 ghost use Rattle.std.specs.FinMap as map;
 ghost use Rattle.s80_base.specs.declared.names.Side.{Side};
 ghost use Rattle.s80_dict.specs.Dict.{HasRoom};
-ghost use Rattle.s80_dict.specs.Table.{no_sides, dict_at, methods_at, room_at, put_at, taken_at};
+ghost use Rattle.s80_dict.specs.Table.{no_sides, dict_at, methods_at, room_at, put_at, taken_at, cleared_at};
 
 use crate::dict::{MethodDict, MethodEntry};
 use crate::sides::MethodSides;
@@ -134,5 +134,16 @@ impl<C: Drop> MethodTable<C> {
     {
         let sides = &mut self.sides[number as usize];
         sides.remove(side, selector)
+    }
+
+    /// Takes all methods of a class away, on both sides, and the room of their selectors. Takes no memory.
+    pub fn clear(&mut self, alloc: Global, number: u32)
+        requires { number < length self.old.sides }
+        ensures dicts { (n : ℕ) (s : Side) → dict_at self.new n s ≡ cleared_at (dict_at self.old) number n s }
+        ensures count { length self.new.sides ≡ length self.old.sides }
+        ensures spare { self.new.spare ≡ self.old.spare }
+    {
+        let sides = &mut self.sides[number as usize];
+        sides.clear(alloc);
     }
 }

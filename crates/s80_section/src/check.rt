@@ -1,9 +1,10 @@
 // Why a text is refused by itself.
-ghost use Rattle.std.specs.Prelude.{◌≡◌, ◌≤◌, ℕ, List, length, IfOk};
+ghost use Rattle.std.specs.Prelude.{◌≡◌, ◌≤◌, ℕ, List, length, IfOk, OnErr};
 ghost use Rattle.s80_tree.specs.Tree.{doit_of, method_of};
 ghost use Rattle.s80_grammar.specs.Faults.{IsDoItText, IsMethodText};
 ghost use Rattle.s80_section.specs.declared.source_check.SourceCheck.{SourceCheck as Check};
 ghost use Rattle.s80_syntax.specs.Text.{IsFaultOf};
+ghost use Rattle.s80_syntax.specs.declared.fault.ParseFault.TheVariants.{Memory};
 ghost use Rattle.s80_section.specs.Check.{IsCheckOf, IsSyntaxRefusal, IsTreeChecked, as_method, size_refusal, too_large, word_of};
 
 use crate::source_check::SourceCheck;
@@ -34,10 +35,11 @@ fn check_tree(alloc: Global, tree: &MethodTree) -> Result<SourceCheck, OutOfMemo
     }
 }
 
-/// The refusal of a text with this fault.
+/// The refusal of a text with this fault. Takes no memory: that there was none is the one fault without a refusal.
 pub fn syntax_refusal(fault: ParseFault) -> Result<Refusal, OutOfMemory>
     ensures method { (text : List ℕ) → IsFaultOf IsMethodText text fault → IfOk result (IsSyntaxRefusal IsMethodText text) }
     ensures doit { (text : List ℕ) → IsFaultOf IsDoItText text fault → IfOk result (IsSyntaxRefusal IsDoItText text) }
+    ensures err { OnErr result (fault ≡ Memory) }
 {
     let (kind, place) = match fault {
         ParseFault::Memory => return Err(OutOfMemory),
