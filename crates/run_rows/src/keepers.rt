@@ -1,5 +1,4 @@
 // What a keeper has of a folder: the code of its methods, and sources where they stand.
-use crate::bytes;
 use anyhow::{Context, Result, bail};
 use s80_base::{Side, Text};
 use s80_code::Code;
@@ -7,6 +6,7 @@ use s80_dict::MethodEntry;
 use s80_disk::{Disk, FileId, MemDisk};
 use s80_keeper::Keeper;
 use s80_log::Log;
+use s80_rows::bytes;
 use s80_source::{read_source, unspelled};
 use s80_state::System;
 use std::alloc::Global;

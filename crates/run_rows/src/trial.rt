@@ -1,14 +1,15 @@
 // A folder in memory on which rows work one after the other.
 ghost use Rattle.s80_session.specs.Session.{IsFaultless};
 
-use crate::disks::{Ran, contents, empty, file_named, planned, run, words};
+use crate::disks::{Ran, contents, empty, file_named, long, planned, run, words};
+use crate::keepers;
 use crate::sweeps::{crashes_of, faults, killed, sweep, sweep_again};
-use crate::{bytes, keepers};
 use anyhow::{Context, Result, bail};
 use s80_base::{FixedClock, MemSink, MemSource, RepeatSource, Text};
 use s80_disk::{Disk, FaultPlan, FileId, MemDisk, MemOutside};
 use s80_keeper::{Keeper, StartFault};
 use s80_program::Status;
+use s80_rows::bytes;
 use s80_session::Session;
 use std::alloc::Global;
 
@@ -179,6 +180,7 @@ impl Trial {
                 let (call, spelled) = number(rest)?;
                 killed(alloc, self.room, call, &bytes::read(alloc, spelled)?)
             }
+            "long" => long(alloc, rest),
             "crashes" => crashes_of(alloc, &self.disk, self.room, file_named(rest)?),
             _ => match keepers::row(alloc, &self.disk, word, rest)? {
                 Some(lines) => Ok(lines),

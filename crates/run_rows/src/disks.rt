@@ -1,8 +1,9 @@
 // Folders in memory, and runs of the program over them.
-use anyhow::{Result, bail};
-use s80_base::{FixedClock, MemSink, OutOfMemory, Source, Text};
+use anyhow::{Context, Result, bail};
+use s80_base::{FixedClock, MemSink, MemSource, OutOfMemory, Source, Text};
 use s80_disk::{Disk, FaultPlan, FileId, MemDisk, MemOutside};
 use s80_program::{Status, st80};
+use s80_rows::bytes;
 use std::alloc::Global;
 
 /// How many calls a disk records.
@@ -102,7 +103,25 @@ pub(crate) fn run<S: Source + Drop>(
 pub(crate) fn words(alloc: Global, spelled: &str) -> Result<Vec<Text>> {
     let mut list = Vec::new(alloc);
     for word in spelled.split('|') {
-        list.push(crate::bytes::read(alloc, word)?)?;
+        list.push(bytes::read(alloc, word)?)?;
     }
     Ok(list)
+}
+
+/// Runs an input over a new folder, and shows how many bytes are written, and so many of the last.
+pub(crate) fn long(alloc: Global, rest: &str) -> Result<Text> {
+    let (count, spelled) = rest.split_once(' ').context("no input")?;
+    let count: usize = count.parse().context("no number")?;
+    let input = bytes::read(alloc, spelled)?;
+    let disk = empty(alloc, 1 << 16, FaultPlan::Never)?;
+    let source = MemSource::make(alloc, input.bytes(), 4096, &[])?;
+    let ran = run(alloc, disk, source, &[], &words(alloc, "st80|F|run")?)?;
+    let written = ran.written.bytes();
+    let last = written
+        .get(written.len().saturating_sub(count)..)
+        .context("fewer bytes")?;
+    let head = format!(in alloc; "{} bytes, the last: ", written.len())?;
+    let mut out = Text::from_bytes(alloc, head.as_bytes())?;
+    bytes::spell(alloc, &mut out, last)?;
+    Ok(out)
 }

@@ -1,8 +1,8 @@
 // Code as rows spell it: its header, a colon, the entries of its frame, a bar, and its bytes in hexadecimal.
-use crate::bytes::digit;
 use anyhow::{Context, Result, bail};
 use s80_base::{Literal, OutOfMemory, Side, Text};
 use s80_code::{Code, Entry, Frame};
+use s80_rows::bytes::digit;
 use std::alloc::Global;
 
 /// The byte of two hexadecimal digits.
@@ -23,7 +23,7 @@ fn add_bytes(bytes: &mut Text, digits: &str) -> Result<()> {
 }
 
 /// The bytes of words in hexadecimal. `511x7087` stands for 511 times the bytes 70 and 87.
-pub(super) fn bytes(alloc: Global, spelled: &str) -> Result<Text> {
+pub(crate) fn bytes(alloc: Global, spelled: &str) -> Result<Text> {
     let mut bytes = Text::empty(alloc);
     for word in spelled.split_whitespace() {
         let (count, digits) = word.split_once('x').unwrap_or(("1", word));
@@ -36,7 +36,7 @@ pub(super) fn bytes(alloc: Global, spelled: &str) -> Result<Text> {
 }
 
 /// The code of a spelling.
-pub(super) fn code(alloc: Global, spelled: &str) -> Result<Code> {
+pub(crate) fn code(alloc: Global, spelled: &str) -> Result<Code> {
     let (front, hexadecimal) = spelled.split_once('|').context("no bytes")?;
     let (header, entries) = front.split_once(':').context("no frame")?;
     let mut fields = Vec::new(alloc);
@@ -94,7 +94,7 @@ fn text(alloc: Global, word: &str) -> Result<Text, OutOfMemory> {
 }
 
 /// Bytes in hexadecimal, parted by spaces.
-pub(super) fn in_hexadecimal(alloc: Global, bytes: &[u8]) -> Result<Text, OutOfMemory> {
+pub(crate) fn in_hexadecimal(alloc: Global, bytes: &[u8]) -> Result<Text, OutOfMemory> {
     let mut out = Text::empty(alloc);
     for (i, byte) in bytes.iter().enumerate() {
         if i > 0 {
@@ -106,7 +106,7 @@ pub(super) fn in_hexadecimal(alloc: Global, bytes: &[u8]) -> Result<Text, OutOfM
 }
 
 /// Flag, arguments, primitive, temporaries, size and frame.
-pub(super) fn header(alloc: Global, code: &Code) -> Result<Text, OutOfMemory> {
+pub(crate) fn header(alloc: Global, code: &Code) -> Result<Text, OutOfMemory> {
     let (flag, arguments) = (code.flag, code.arguments);
     let (primitive, temporaries) = (code.primitive, code.temporaries);
     let size = size_word(code);
@@ -120,7 +120,7 @@ pub(super) fn header(alloc: Global, code: &Code) -> Result<Text, OutOfMemory> {
     Ok(out)
 }
 
-pub(super) fn size_word(code: &Code) -> &'static str {
+pub(crate) fn size_word(code: &Code) -> &'static str {
     if code.large { "large" } else { "small" }
 }
 

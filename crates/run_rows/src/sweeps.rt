@@ -1,11 +1,11 @@
 // Runs that are stopped at each of their calls on the disk, and what is found after crashes.
-use crate::bytes;
 use crate::disks::{Ran, contents, empty, planned, run, words};
 use anyhow::{Context, Result, bail, ensure};
 use s80_base::{MemSource, Text};
 use s80_disk::{FaultPlan, FileId, MemDisk};
 use s80_keeper::Keeper;
 use s80_program::Status;
+use s80_rows::bytes;
 use std::alloc::Global;
 
 /// What may stand where a crash leaves any bytes, those that open the gate of a slot among it.

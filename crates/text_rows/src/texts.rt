@@ -7,11 +7,11 @@ mod cores;
 mod recogniser;
 mod shown;
 
-use crate::bytes;
 use anyhow::{Context, Result, bail, ensure};
 use s80_base::{Names, Text};
 use s80_core::{elaborate, temporaries_are_declarations};
 use s80_lex::tokens;
+use s80_rows::bytes;
 use s80_scope::{Binding, Bindings, Shape, doit_method, fits, measured, places_of_uses_rise};
 use s80_syntax::{MethodTree, parse_doit, parse_method};
 use std::alloc::Global;

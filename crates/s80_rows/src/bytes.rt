@@ -5,7 +5,7 @@ use s80_base::{OutOfMemory, Text};
 use std::alloc::Global;
 
 /// The value of a hexadecimal digit.
-pub(crate) fn digit(byte: u8) -> Option<u8> {
+pub fn digit(byte: u8) -> Option<u8> {
     match byte {
         b'0'..=b'9' => Some(byte - b'0'),
         b'A'..=b'F' => Some(byte - b'A' + 10),
@@ -31,7 +31,7 @@ fn escaped(rest: &[u8]) -> Option<(u8, &[u8])> {
 }
 
 /// The bytes that a row spells.
-pub(crate) fn read(alloc: Global, spelled: &str) -> Result<Text> {
+pub fn read(alloc: Global, spelled: &str) -> Result<Text> {
     let mut bytes = Vec::new(alloc);
     let mut pieces = spelled.split("\\{");
     add(&mut bytes, pieces.next().unwrap_or(""))?;
@@ -70,7 +70,7 @@ fn add(bytes: &mut Vec<u8>, spelled: &str) -> Result<()> {
 }
 
 /// Appends bytes as rows spell them.
-pub(crate) fn spell(alloc: Global, out: &mut Text, bytes: &[u8]) -> Result<(), OutOfMemory> {
+pub fn spell(alloc: Global, out: &mut Text, bytes: &[u8]) -> Result<(), OutOfMemory> {
     for byte in bytes {
         match byte {
             b'\n' => out.append(b"\\n")?,

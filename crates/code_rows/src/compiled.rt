@@ -3,14 +3,14 @@ ghost use Rattle.std.specs.Prelude.{◌≡◌, ◌≤◌, length, IfOk, OnOk, If
 ghost use Rattle.s80_class.specs.Table.{IsClass, IsNumberOf};
 ghost use Rattle.s80_doit.specs.DoIt.{Fits};
 
-use super::spelled;
-use crate::bytes;
+use crate::spelled;
 use anyhow::{Context, Result, bail, ensure};
 use s80_base::{OutOfMemory, Side, Text};
 use s80_change::split_names;
 use s80_class::{ClassEntry, ClassTable, Kind};
 use s80_doit::compile;
 use s80_method::{compile_source, shape_of};
+use s80_rows::bytes;
 use s80_section::{SourceCheck, check_source, size_refusal};
 use s80_state::boot;
 use s80_syntax::parse_doit;
@@ -99,7 +99,7 @@ fn side_of(spelled: &str) -> (&str, Side) {
 }
 
 /// The variables that the methods of a side of a class see: those of instances, and each class variable behind its class.
-pub(super) fn shape(alloc: Global, spelled: &str) -> Result<Text> {
+pub(crate) fn shape(alloc: Global, spelled: &str) -> Result<Text> {
     let (name, side) = side_of(spelled);
     let classes = table(alloc)?;
     let Some(c) = find(alloc, &classes, name.as_bytes())? else {
@@ -149,13 +149,13 @@ fn method(alloc: Global, rest: &str) -> Result<Verified> {
 }
 
 /// The bytes of a method.
-pub(super) fn method_bytes(alloc: Global, rest: &str) -> Result<Text> {
+pub(crate) fn method_bytes(alloc: Global, rest: &str) -> Result<Text> {
     let code = method(alloc, rest)?;
     Ok(spelled::in_hexadecimal(alloc, code.code().bytes.bytes())?)
 }
 
 /// The header and the frame of a method.
-pub(super) fn method_header(alloc: Global, rest: &str) -> Result<Text> {
+pub(crate) fn method_header(alloc: Global, rest: &str) -> Result<Text> {
     let code = method(alloc, rest)?;
     Ok(spelled::header(alloc, code.code())?)
 }
@@ -183,13 +183,13 @@ fn doit(alloc: Global, spelled: &str) -> Result<Verified> {
 }
 
 /// The bytes of a doIt.
-pub(super) fn doit_bytes(alloc: Global, spelled: &str) -> Result<Text> {
+pub(crate) fn doit_bytes(alloc: Global, spelled: &str) -> Result<Text> {
     let code = doit(alloc, spelled)?;
     Ok(spelled::in_hexadecimal(alloc, code.code().bytes.bytes())?)
 }
 
 /// How many bytes and entries a doIt has, and the size of its contexts.
-pub(super) fn doit_size(alloc: Global, spelled: &str) -> Result<Text> {
+pub(crate) fn doit_size(alloc: Global, spelled: &str) -> Result<Text> {
     let verified = doit(alloc, spelled)?;
     let code = verified.code();
     let told = format!(in alloc;

@@ -1,42 +1,21 @@
-// Values: objects, dictionaries, classes and what is told of them.
+// Tables: dictionaries of methods, and the table of classes.
 ghost use Rattle.std.specs.Prelude.{◌≡◌, ◌<◌, length, IfOk, IfSome};
 ghost use Rattle.s80_class.specs.Table.{IsNumberOf};
 
-use crate::bytes::{read, spell};
-use crate::disks::{empty, run, words};
-use anyhow::{Context, Result, bail, ensure};
-use s80_base::{MemSource, Names, OutOfMemory, Side, Text};
+use anyhow::{Result, bail, ensure};
+use s80_base::{Names, OutOfMemory, Side, Text};
 use s80_class::{ClassEntry, ClassTable, Kind, Totals};
 use s80_dict::{MethodEntry, MethodTable};
-use s80_disk::FaultPlan;
+use s80_rows::bytes::{read, spell};
 use std::alloc::Global;
 
 /// What a row of this module shows, if it is one.
 pub(crate) fn row(alloc: Global, word: &str, rest: &str) -> Result<Option<Text>> {
     match word {
-        "long" => Ok(Some(long(alloc, rest)?)),
         "methods" => Ok(Some(methods(alloc, rest)?)),
         "table" => Ok(Some(table(alloc, rest)?)),
         _ => Ok(None),
     }
-}
-
-/// Runs an input over a new folder, and shows how many bytes are written, and so many of the last.
-fn long(alloc: Global, rest: &str) -> Result<Text> {
-    let (count, spelled) = rest.split_once(' ').context("no input")?;
-    let count: usize = count.parse().context("no number")?;
-    let input = read(alloc, spelled)?;
-    let disk = empty(alloc, 1 << 16, FaultPlan::Never)?;
-    let source = MemSource::make(alloc, input.bytes(), 4096, &[])?;
-    let ran = run(alloc, disk, source, &[], &words(alloc, "st80|F|run")?)?;
-    let written = ran.written.bytes();
-    let last = written
-        .get(written.len().saturating_sub(count)..)
-        .context("fewer bytes")?;
-    let head = format!(in alloc; "{} bytes, the last: ", written.len())?;
-    let mut out = Text::from_bytes(alloc, head.as_bytes())?;
-    spell(alloc, &mut out, last)?;
-    Ok(out)
 }
 
 /// The words of a step.

@@ -1,7 +1,7 @@
 // Instructions that bytes are.
 ghost use Rattle.std.specs.Prelude.{◌<◌, ◌^◌, length, IfOk};
 
-use super::spelled;
+use crate::spelled;
 use anyhow::{Context, Result, ensure};
 use s80_base::Text;
 use s80_code::{Code, Frame, Instruction, Storage, decode, disassemble};
@@ -39,7 +39,7 @@ fn add_instruction(alloc: Global, out: &mut Text, bytes: Text, at: u32) -> Resul
 }
 
 /// The instruction at a place of bytes, and its width: the place, and the bytes.
-pub(super) fn at_place(alloc: Global, rest: &str) -> Result<Text> {
+pub(crate) fn at_place(alloc: Global, rest: &str) -> Result<Text> {
     let (at, hexadecimal) = rest.split_once(' ').context("no bytes")?;
     let bytes = spelled::bytes(alloc, hexadecimal)?;
     let mut out = Text::empty(alloc);
@@ -50,7 +50,7 @@ pub(super) fn at_place(alloc: Global, rest: &str) -> Result<Text> {
 
 /// The instructions that sixteen first bytes are with the bytes behind them, and their widths: the first of the sixteen, and the bytes
 /// behind.
-pub(super) fn sixteen(alloc: Global, rest: &str) -> Result<Text> {
+pub(crate) fn sixteen(alloc: Global, rest: &str) -> Result<Text> {
     let spelled = spelled::bytes(alloc, rest)?;
     let (first, behind) = spelled.bytes().split_first().context("no byte")?;
     let mut out = Text::empty(alloc);
@@ -67,7 +67,7 @@ pub(super) fn sixteen(alloc: Global, rest: &str) -> Result<Text> {
 }
 
 /// The listing of bytes.
-pub(super) fn listing(alloc: Global, hexadecimal: &str) -> Result<Text> {
+pub(crate) fn listing(alloc: Global, hexadecimal: &str) -> Result<Text> {
     let code = code_of(alloc, spelled::bytes(alloc, hexadecimal)?)?;
     Ok(disassemble(alloc, &code)?)
 }

@@ -1,7 +1,7 @@
 use Rattle.std.proofs.Common.{ap, arith}
 use Rattle.s80_tree.specs.Tree.{method_of}
 use Rattle.s80_scope.specs.declared.fit.Measures.{Measures}
-use Rattle.rows.proofs.texts.core_line.Goals as goal
+use Rattle.text_rows.proofs.texts.core_line.Goals as goal
 
 pub elaborate-requires-clause-declarations : goal.elaborate-requires-clause-declarations
 elaborate-requires-clause-declarations c =
