@@ -14,7 +14,7 @@ ghost use Rattle.s80_mark.specs.Commit.{CanCommit, HasEither};
 ghost use Rattle.s80_log.specs.Log.{log_file};
 ghost use Rattle.s80_log.specs.Standing.{FilesStandFor, StandsFor};
 ghost use Rattle.s80_log.specs.Commit.{next_mark, Holds, LeavesBeside, StandForEither};
-ghost use Rattle.s80_log.specs.Faults.{IfLogDisk};
+ghost use Rattle.s80_log.specs.Faults.{IfLogDisk, UnlessLogDisk};
 
 use s80_base::{Failed, Text};
 use s80_disk::{Disk, FileId};
@@ -150,6 +150,7 @@ impl Log {
         ensures later { D.disk_faults disk.old ≤ D.disk_faults disk.new }
         ensures cause { IfErr result
             (λ fault. IfLogDisk fault (λ failed. Rose (D.disk_faults disk.old) (D.disk_faults disk.new))) }
+        ensures faults_stay { UnlessLogDisk result (D.disk_faults disk.new ≡ D.disk_faults disk.old) }
         ensures named { IfErr result (λ fault. IfLogDisk fault (λ failed. failed.call ≡ Write)) }
     {
         let at = self.end;
@@ -271,6 +272,7 @@ impl Log {
         ensures later { D.disk_faults disk.old ≤ D.disk_faults disk.new }
         ensures cause { IfErr result
             (λ fault. IfLogDisk fault (λ failed. Rose (D.disk_faults disk.old) (D.disk_faults disk.new))) }
+        ensures faults_stay { UnlessLogDisk result (D.disk_faults disk.new ≡ D.disk_faults disk.old) }
         ensures named { IfErr result
             (λ fault. IfLogDisk fault (λ failed. (failed.call ≡ Read) ⊎ (failed.call ≡ Write) ⊎ (failed.call ≡ Sync))) }
     {

@@ -8,7 +8,7 @@ ghost use Rattle.s80_disk.specs.Moments.{Beside, LeavesOnly};
 ghost use Rattle.s80_mark.specs.Stays.{StillLeft};
 ghost use Rattle.s80_log.specs.Log.{held_in};
 ghost use Rattle.s80_block.specs.Blocks.{BeginsWith, BeginsWithNone};
-ghost use Rattle.s80_log.specs.Faults.{IfBlockDisk, IfBad};
+ghost use Rattle.s80_log.specs.Faults.{IfBlockDisk, UnlessBlockDisk, IfBad};
 
 use crate::log::Log;
 use s80_base::{Failed, OutOfMemory};
@@ -88,6 +88,7 @@ impl Log {
         ensures later { D.disk_faults disk.old ≤ D.disk_faults disk.new }
         ensures cause { IfErr result
             (λ fault. IfBlockDisk fault (λ failed. Rose (D.disk_faults disk.old) (D.disk_faults disk.new))) }
+        ensures faults_stay { UnlessBlockDisk result (D.disk_faults disk.new ≡ D.disk_faults disk.old) }
         ensures named { IfErr result (λ fault. IfBlockDisk fault (λ failed. failed.call ≡ Read)) }
     {
         let within = self.length().saturating_sub(at) as usize;
@@ -129,6 +130,7 @@ fn read_piece<D: Disk>(
     ensures later { D.disk_faults disk.old ≤ D.disk_faults disk.new }
     ensures cause { IfErr result
         (λ fault. IfBlockDisk fault (λ failed. Rose (D.disk_faults disk.old) (D.disk_faults disk.new))) }
+    ensures faults_stay { UnlessBlockDisk result (D.disk_faults disk.new ≡ D.disk_faults disk.old) }
     ensures named { IfErr result (λ fault. IfBlockDisk fault (λ failed. failed.call ≡ Read)) }
 {
     let mut piece = vec![in alloc; 0; size]?;

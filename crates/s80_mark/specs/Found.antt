@@ -49,6 +49,13 @@ IfDisk (Err (NoGate count)) P = ⊤
 IfDisk (Err (BadField value)) P = ⊤
 IfDisk (Ok found) P = ⊤
 
+-- this holds, but where a call on the disk failed
+abbrev pub UnlessDisk : Result Found MarkFault → Type 0 → Type 0
+UnlessDisk (Err (Disk failed)) P = ⊤
+UnlessDisk (Err (NoGate count)) P = P
+UnlessDisk (Err (BadField value)) P = P
+UnlessDisk (Ok found) P = P
+
 -- a call on the disk failed
 abbrev pub IsDiskFault : Result Found MarkFault → Type 0
 IsDiskFault result = (failed : Failed) × (result ≡ Err (Disk failed))

@@ -5,7 +5,7 @@ ghost use Rattle.s80_base.specs.declared.outside.Call.TheVariants.{Length, Read}
 ghost use Rattle.s80_disk.specs.declared.disk.FileId.{FileId};
 ghost use Rattle.s80_disk.specs.Moments.{Beside, LeavesOnly};
 ghost use Rattle.s80_mark.specs.Stays.{StillLeft};
-ghost use Rattle.s80_mark.specs.Found.{IsAnswer, IsLawfulFound, IfDisk, AreLogsEmpty, longer_log};
+ghost use Rattle.s80_mark.specs.Found.{IsAnswer, IsLawfulFound, IfDisk, UnlessDisk, AreLogsEmpty, longer_log};
 
 use crate::mark::MarkState;
 use crate::slots::Slots;
@@ -58,6 +58,7 @@ pub fn read_mark<D: Disk>(disk: &mut D) -> Result<Found, MarkFault>
     ensures lawful { IfOk result IsLawfulFound }
     ensures later { D.disk_faults disk.old ≤ D.disk_faults disk.new }
     ensures cause { IfDisk result (λ _. Rose (D.disk_faults disk.old) (D.disk_faults disk.new)) }
+    ensures faults_stay { UnlessDisk result (D.disk_faults disk.new ≡ D.disk_faults disk.old) }
     ensures named { IfDisk result (λ failed. (failed.call ≡ Length) ⊎ (failed.call ≡ Read)) }
     // Where both logs are empty, nothing else is read.
     ensures logs_alone { IsTrue (D.tells disk.old) → AreLogsEmpty (D.reads disk.old)

@@ -13,6 +13,7 @@ invariant-pieces g l = record {
   run : LeavesOnly g.D.Disk.moment g.D.Disk.left_since l.fn.disk l.disk (StillLeft (g.D.Disk.may_leave l.fn.disk) (g.D.Disk.beside l.fn.disk).told);
   beside : g.D.Disk.beside l.disk ≡ g.D.Disk.beside l.fn.disk;
   later : g.D.Disk.disk_faults l.fn.disk ≤ g.D.Disk.disk_faults l.disk;
+  faults_stay : g.D.Disk.disk_faults l.disk ≡ g.D.Disk.disk_faults l.fn.disk;
 }
 
 abbrev pub decreases-pieces : goal.decreases-pieces
