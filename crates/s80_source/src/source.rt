@@ -10,7 +10,7 @@ ghost use Rattle.s80_state.specs.State.{MethodRow};
 ghost use Rattle.s80_state.specs.Source.{StandsAt, text_for};
 ghost use Rattle.s80_state.specs.Entries.{row_in};
 ghost use Rattle.s80_log.specs.Log.{held_in};
-ghost use Rattle.s80_log.specs.Faults.{IfBad, IfBlockDisk};
+ghost use Rattle.s80_log.specs.Faults.{IfBad, IfBlockDisk, UnlessBlockDisk};
 ghost use Rattle.s80_source.specs.Read.{IsRead, IsSpelledAt, IsThis};
 
 use crate::unspell::unspelled;
@@ -47,6 +47,7 @@ pub fn read_source<D: Disk, C>(
     ensures later { D.disk_faults disk.old ≤ D.disk_faults disk.new }
     ensures cause { IfErr result
         (λ fault. IfBlockDisk fault (λ failed. Rose (D.disk_faults disk.old) (D.disk_faults disk.new))) }
+    ensures faults_stay { UnlessBlockDisk result (D.disk_faults disk.new ≡ D.disk_faults disk.old) }
     ensures named { IfErr result (λ fault. IfBlockDisk fault (λ failed. failed.call ≡ Read)) }
 {
     if entry.from_kernel {
@@ -92,6 +93,7 @@ fn log_source<D: Disk>(
     ensures later { D.disk_faults disk.old ≤ D.disk_faults disk.new }
     ensures cause { IfErr result
         (λ fault. IfBlockDisk fault (λ failed. Rose (D.disk_faults disk.old) (D.disk_faults disk.new))) }
+    ensures faults_stay { UnlessBlockDisk result (D.disk_faults disk.new ≡ D.disk_faults disk.old) }
     ensures named { IfErr result (λ fault. IfBlockDisk fault (λ failed. failed.call ≡ Read)) }
 {
     if !is_within(position, size, log.length()) {
