@@ -347,7 +347,7 @@ impl Trial {
 
     /// Shows the slot at a place of the mark file by its fields.
     fn slot(&self, alloc: Global, at: u64) -> Result<Text> {
-        let mut slot = [0u8; 35];
+        let mut slot = [0u8; 44];
         self.disk
             .crash(alloc, 1)?
             .read_at(FileId::Mark, at, &mut slot)?;
