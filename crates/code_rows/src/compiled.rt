@@ -5,14 +5,14 @@ ghost use Rattle.s80_doit.specs.DoIt.{Fits};
 
 use crate::spelled;
 use anyhow::{Context, Result, bail, ensure};
+use s80_apply::boot;
 use s80_base::{OutOfMemory, Side, Text};
-use s80_change::split_names;
+use s80_change::{SourceCheck, check_source, size_refusal};
 use s80_class::{ClassEntry, ClassTable, Kind};
 use s80_doit::compile;
+use s80_form::split_names;
 use s80_method::{compile_source, shape_of};
 use s80_rows::bytes;
-use s80_section::{SourceCheck, check_source, size_refusal};
-use s80_state::boot;
 use s80_syntax::parse_doit;
 use s80_verify::Verified;
 use std::alloc::Global;

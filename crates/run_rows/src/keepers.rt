@@ -1,14 +1,13 @@
 // What a keeper has of a folder: the code of its methods, and sources where they stand.
 use anyhow::{Context, Result, bail};
+use s80_apply::System;
 use s80_base::{Side, Text};
 use s80_code::Code;
 use s80_dict::MethodEntry;
 use s80_disk::{Disk, FileId, MemDisk};
-use s80_keeper::Keeper;
+use s80_keeper::{Keeper, read_source, unspelled};
 use s80_log::Log;
 use s80_rows::bytes;
-use s80_source::{read_source, unspelled};
-use s80_state::System;
 use std::alloc::Global;
 
 /// What a row of this module shows, if it is one.

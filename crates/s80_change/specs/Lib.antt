@@ -1,5 +1,7 @@
-pub mod Refusal
-pub mod Name
-pub mod Definition
-pub mod Form
-pub mod Read
+pub mod Check
+pub mod HeadForm
+pub mod Head
+pub mod HeadParts
+pub mod Block
+pub mod Blocks
+pub mod Fronts

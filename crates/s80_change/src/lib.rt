@@ -1,18 +1,24 @@
-//! Definitions of classes, the forms by which doIts are recognised as such, names, and why a change is refused.
+//! Changes of the programmer's work: heads of sections, what a method's source is by itself, and the blocks that keep changes in a log.
 #![tactic(auto)]
 
-mod definition;
-mod form;
-mod name;
-mod names;
-mod read;
-mod refusal;
+mod block;
+mod change;
+mod check;
+mod first;
+mod frame;
+mod front;
+mod head;
+mod head_form;
+mod head_parts;
+mod logged_head;
+mod source_check;
 
-pub use definition::{Definition, Kind, add_quoted, definition_text};
-pub use form::{
-    Recognised, a_definition_is_a_form, joined_names_are_split, one_definition, one_form, recognise,
-};
-pub use name::{is_class_name, is_name};
-pub use names::{joined, split_names};
-pub use read::read_definition;
-pub use refusal::{FitWord, ManyKind, Refusal, Refused, SyntaxKind};
+pub use block::{block_text, blocks_part_in_one_way, read_change};
+pub use change::{Change, Method};
+pub use check::{check_source, one_check, size_refusal, syntax_refusal};
+pub use first::{FirstBlock, first_block};
+pub use frame::Frame;
+pub use head::{HeadFault, SectionHead, head_of, one_head};
+pub use logged_head::{a_head_text_is_a_head, head_text, one_head_text, read_head};
+pub use s80_form::{Definition, Recognised, recognise};
+pub use source_check::{SourceCheck, copy_refusal};

@@ -4,8 +4,8 @@ use Rattle.std.specs.List.{sum_by}
 use Rattle.std.specs.Str.{bytes_eq}
 use Rattle.std.specs.FinMap as map
 use Rattle.std.proofs.lemmas.List.Sums.{sum_by-cons}
-use Rattle.s80_change.specs.declared.definition.Kind.{Kind}
-use Rattle.s80_change.specs.declared.definition.Kind.TheVariants.{Plain, Pointers, Bytes, Words}
+use Rattle.s80_form.specs.declared.definition.Kind.{Kind}
+use Rattle.s80_form.specs.declared.definition.Kind.TheVariants.{Plain, Pointers, Bytes, Words}
 use Rattle.s80_class.specs.declared.entry.ClassEntry.{ClassEntry}
 use Rattle.s80_class.specs.declared.inherited.Totals.{Totals}
 use Rattle.s80_class.specs.Classes.{Name, ClassRow, Classes, upwards, then_up, lineage, descends, inherited_in, own_or}

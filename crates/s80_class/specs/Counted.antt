@@ -1,7 +1,7 @@
 -- What a class inherits as the table counts it: a count stands still at the end of its type.
 use Rattle.std.specs.Prelude.{ℕ, ◌+◌, ◌-◌, ◌^◌, List, length, min, max, if◌then◌else◌}
-use Rattle.s80_change.specs.declared.definition.Kind.{Kind}
-use Rattle.s80_change.specs.declared.definition.Kind.TheVariants.{Plain}
+use Rattle.s80_form.specs.declared.definition.Kind.{Kind}
+use Rattle.s80_form.specs.declared.definition.Kind.TheVariants.{Plain}
 use Rattle.s80_class.specs.declared.inherited.Totals.{Totals}
 use Rattle.s80_class.specs.declared.inherited.Greatest.{Greatest}
 use Rattle.s80_class.specs.Classes.{Name, ClassRow, Inherited, Extent, own_or, is_bits}

@@ -1,6 +1,6 @@
 // What the table has of a class.
 use s80_base::{Names, Text};
-use s80_change::Kind;
+use s80_form::Kind;
 
 /// A class: its definition, its comment and its class-side variables.
 #[derive(Debug, Drop)]

@@ -4,7 +4,7 @@ ghost use Rattle.s80_class.specs.Counted.{nothing, over, own, raised};
 ghost use Rattle.s80_class.specs.Family.{least};
 
 use crate::entry::ClassEntry;
-use s80_change::Kind;
+use s80_form::Kind;
 
 /// How many variables a class has with all that it inherits, and its effective kind: its own, or that of the nearest superclass
 /// that isn't plain.

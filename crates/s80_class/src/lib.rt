@@ -11,5 +11,5 @@ mod tree;
 pub use entry::ClassEntry;
 pub use inherited::{Greatest, Totals};
 pub use laws::{apart_is_not_under, lineage_is_the_line, one_line};
-pub use s80_change::Kind;
+pub use s80_form::Kind;
 pub use table::ClassTable;

@@ -14,7 +14,7 @@ use Rattle.s80_scope.specs.Fit.{fit, measures, cut_measures}
 use Rattle.s80_scope.specs.Walk.{cut}
 use Rattle.s80_code.specs.declared.code.Code.{Code}
 use Rattle.s80_agree.specs.Compiles.{Compiles}
-use Rattle.s80_section.specs.Check.{as_method, size_refusal, too_large}
+use Rattle.s80_change.specs.Check.{as_method, size_refusal, too_large}
 use Rattle.s80_doit.specs.DoIt.{Fits, IsDoItCode}
 
 -- ---- measures that fit where their cuts do

@@ -7,11 +7,11 @@ use Rattle.s80_object.specs.Objects.{State}
 use Rattle.s80_prims.specs.declared.stop.End.{End}
 use Rattle.s80_prims.specs.declared.stop.End.TheVariants.{Answer, Stopped}
 use Rattle.s80_prims.specs.declared.stop.Outcome.{Outcome}
-use Rattle.s80_state.specs.Entries.{Entry}
-use Rattle.s80_state.specs.System.{SystemState}
+use Rattle.s80_apply.specs.Entries.{Entry}
+use Rattle.s80_apply.specs.System.{SystemState}
 use Rattle.s80_machine.specs.Came.{AnswersKnown, EndIsKnown, RanValue}
 use Rattle.s80_machine.specs.Run.{RunsTo}
-use Rattle.s80_outcome.specs.Outcome.{HasKnownAnswer}
+use Rattle.s80_print.specs.Outcome.{HasKnownAnswer}
 use Rattle.s80_doit.specs.DoIt.{IsDoItCode, IsRunOf}
 
 -- a run among tables that are the system's

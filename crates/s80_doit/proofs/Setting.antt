@@ -8,8 +8,8 @@ use Rattle.s80_tree.specs.Tree.{DoItParts}
 use Rattle.s80_syntax.specs.Text.{IsDoItOf}
 use Rattle.s80_code.specs.declared.code.Code.{Code}
 use Rattle.s80_agree.specs.Compiles.{Compiles}
-use Rattle.s80_section.specs.Check.{IsCheckOf, as_method, size_refusal}
-use Rattle.s80_section.specs.declared.source_check.SourceCheck.TheVariants as checks
+use Rattle.s80_change.specs.Check.{IsCheckOf, as_method, size_refusal}
+use Rattle.s80_change.specs.declared.source_check.SourceCheck.TheVariants as checks
 use Rattle.s80_class.specs.Classes.{Name, ClassRow, Classes, inherited_of, is_bits}
 use Rattle.s80_class.specs.Known.{IsKnown}
 use Rattle.s80_class.specs.Table.{Table, IsClass, IsNumberOf}
@@ -20,13 +20,13 @@ use Rattle.s80_prims.specs.Kept.{HasNumbers}
 use Rattle.s80_prims.specs.Known.{HasKernel}
 use Rattle.s80_method.specs.Code.{IsMethodCode}
 use Rattle.s80_method.specs.Shape.{shape_of}
-use Rattle.s80_block.specs.declared.change.Change.{Change}
-use Rattle.s80_state.specs.Codes.{AreCodes}
-use Rattle.s80_state.specs.Kernel.{kernel_classes}
-use Rattle.s80_state.specs.Entries.{Entry}
-use Rattle.s80_state.specs.List.{AreOfList, classes_of}
-use Rattle.s80_state.specs.System.{SystemState}
-use Rattle.s80_state.proofs.Booted.{built_has}
+use Rattle.s80_change.specs.declared.change.Change.{Change}
+use Rattle.s80_apply.specs.Codes.{AreCodes}
+use Rattle.s80_apply.specs.Kernel.{kernel_classes}
+use Rattle.s80_apply.specs.Entries.{Entry}
+use Rattle.s80_apply.specs.List.{AreOfList, classes_of}
+use Rattle.s80_apply.specs.System.{SystemState}
+use Rattle.s80_apply.proofs.Booted.{built_has}
 use Rattle.s80_machine.specs.Sound.{IsSetting, Suits, SuitsMethod}
 use Rattle.s80_doit.specs.DoIt.{IsDoItCode}
 

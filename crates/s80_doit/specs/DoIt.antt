@@ -5,10 +5,10 @@ use Rattle.s80_tree.specs.Tree.{DoItParts}
 use Rattle.s80_syntax.specs.Text.{IsDoItOf}
 use Rattle.s80_code.specs.declared.code.Code.{Code}
 use Rattle.s80_agree.specs.Compiles.{Compiles}
-use Rattle.s80_section.specs.Check.{as_method, size_refusal}
+use Rattle.s80_change.specs.Check.{as_method, size_refusal}
 use Rattle.s80_class.specs.Known.{IsKnown}
-use Rattle.s80_state.specs.Codes.{AreCodes}
-use Rattle.s80_state.specs.System.{SystemState}
+use Rattle.s80_apply.specs.Codes.{AreCodes}
+use Rattle.s80_apply.specs.System.{SystemState}
 use Rattle.s80_prims.specs.declared.stop.End.{End}
 use Rattle.s80_prims.specs.declared.stop.End.TheVariants.{Answer, Stopped}
 use Rattle.s80_machine.specs.Came.{RanValue}

@@ -6,7 +6,7 @@ ghost use Rattle.s80_scope.specs.Fit.{fit, measures};
 ghost use Rattle.s80_scope.specs.Names.{AreInOrder, uses_of};
 ghost use Rattle.s80_scope.specs.declared.fit.Fit.TheVariants.{Fits as TreeFits};
 ghost use Rattle.s80_agree.specs.Sent.{AreWellSent};
-ghost use Rattle.s80_section.specs.Check.{as_method, size_refusal};
+ghost use Rattle.s80_change.specs.Check.{as_method, size_refusal};
 ghost use Rattle.s80_doit.specs.DoIt.{Fits, IsDoItCode};
 
 use s80_agree::trees_are_well_sent;

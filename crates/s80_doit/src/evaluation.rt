@@ -3,22 +3,21 @@ ghost use Rattle.std.specs.Prelude.{◌≡◌, ◌≤◌, ℕ, List, length, IfO
 ghost use Rattle.s80_code.specs.declared.code.Code.{Code};
 ghost use Rattle.s80_machine.specs.Came.{AnswersKnown, RanValue};
 ghost use Rattle.s80_machine.specs.Sound.{IsSetting};
-ghost use Rattle.s80_outcome.specs.Outcome.{outcome_text};
+ghost use Rattle.s80_print.specs.Outcome.{outcome_text};
 ghost use Rattle.s80_prims.specs.Known.{HasKernel};
 ghost use Rattle.s80_doit.specs.DoIt.{AreGiven, Fits, IsDoItCode, IsRunOf, is_stopped};
 
 use crate::code::doit_code;
-use s80_base::{OutOfMemory, Text};
-use s80_lasting::{
-    classes_have_few_variables, classes_of_bits_have_no_variables,
+use crate::suits::{doit_code_suits, method_code_suits};
+use s80_apply::{
+    System, classes_have_few_variables, classes_of_bits_have_no_variables,
     kernel_classes_have_their_variables, kernel_classes_last,
 };
+use s80_base::{OutOfMemory, Text};
 use s80_machine::{Ran, a_run_ends, run};
 use s80_method::shapes_have_as_many_variables;
-use s80_outcome::outcome_text;
 use s80_prims::End;
-use s80_state::System;
-use s80_suits::{doit_code_suits, method_code_suits};
+use s80_print::outcome_text;
 use s80_verify::Verified;
 use std::alloc::Global;
 

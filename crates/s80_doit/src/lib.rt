@@ -1,7 +1,9 @@
-//! DoIts: compiled, run among the classes and their methods, and answered.
+//! DoIts: compiled, run among the classes and their methods, and answered; with the laws that their code suits the machine.
 #![tactic(auto)]
 
 mod code;
 mod evaluation;
+mod suits;
 
 pub use evaluation::{answer, compile, evaluate, is_stopped};
+pub use suits::{doit_code_suits, method_code_suits};

@@ -1,14 +1,14 @@
 -- Changes that are accepted where there is room for them, and changes that are refused.
 use Rattle.std.proofs.Common.{◌≡◌, inl, inr, ℕ, ◌+◌, ◌<◌, ◌≤◌, List, [], ◌∷◌, ◌++◌, length, Some, None, Result, Ok, Err, refl, sym, ap, ◌∙◌, subst, arith}
 use Rattle.std.proofs.lemmas.Bool.Decides.{leb_tells}
-use Rattle.s80_block.specs.declared.change.Change.{Change}
-use Rattle.s80_change.specs.declared.refusal.Refusal.{Refusal}
-use Rattle.s80_change.specs.declared.refusal.Refusal.TheVariants.{LogFull}
-use Rattle.s80_block.specs.Block.{block, blocks, log_limit}
-use Rattle.s80_state.specs.State.{State}
-use Rattle.s80_state.specs.Accept.{accept}
-use Rattle.s80_state.specs.List.{state_of, state_after, IsAccepted, too_full, refused_or, refusal_to, added, add}
-use Rattle.s80_state.proofs.Lists.{is_after}
+use Rattle.s80_change.specs.declared.change.Change.{Change}
+use Rattle.s80_form.specs.declared.refusal.Refusal.{Refusal}
+use Rattle.s80_form.specs.declared.refusal.Refusal.TheVariants.{LogFull}
+use Rattle.s80_change.specs.Block.{block, blocks, log_limit}
+use Rattle.s80_apply.specs.State.{State}
+use Rattle.s80_apply.specs.Accept.{accept}
+use Rattle.s80_apply.specs.List.{state_of, state_after, IsAccepted, too_full, refused_or, refusal_to, added, add}
+use Rattle.s80_apply.proofs.Lists.{is_after}
 
 -- ---- room
 

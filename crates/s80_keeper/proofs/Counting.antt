@@ -1,7 +1,7 @@
 -- How many changes a list has, by the length of its log.
 use Rattle.std.proofs.Common.{◌≡◌, ℕ, ◌+◌, ◌≤◌, List, [], ◌∷◌, length, arith, length-append}
-use Rattle.s80_block.specs.declared.change.Change.{Change}
-use Rattle.s80_block.specs.Block.{block, blocks, IsList}
+use Rattle.s80_change.specs.declared.change.Change.{Change}
+use Rattle.s80_change.specs.Block.{block, blocks, IsList}
 use Rattle.s80_keeper.specs.Answers.{one_more}
 use Rattle.s80_keeper.proofs.OneList.{block_length}
 

@@ -1,10 +1,10 @@
 -- Files have one damage at most, and then stand for no list.
 use Rattle.std.proofs.Common.{◌≡◌, inl, inr, ⊎_elim, ℕ, ◌<◌, ◌≤◌, List, [], ◌∷◌, ◌++◌, length, take, Some, None, Result, Err, refl, sym, ap, ◌∙◌, subst, arith, append_assoc, append-nil, length-append, length-take}
 use Rattle.std.proofs.lemmas.List.Elements.{All-push}
-use Rattle.s80_block.specs.declared.change.Change.{Change}
-use Rattle.s80_change.specs.declared.refusal.Refusal.{Refusal}
-use Rattle.s80_block.specs.Block.{block, blocks, IsLawful, IsList}
-use Rattle.s80_change.specs.Refusal.{refusal_number}
+use Rattle.s80_change.specs.declared.change.Change.{Change}
+use Rattle.s80_form.specs.declared.refusal.Refusal.{Refusal}
+use Rattle.s80_change.specs.Block.{block, blocks, IsLawful, IsList}
+use Rattle.s80_form.specs.Refusal.{refusal_number}
 use Rattle.s80_disk.specs.declared.disk.FileId.TheVariants.{Mark}
 use Rattle.s80_disk.specs.Image.{Image}
 use Rattle.s80_mark.specs.declared.mark.MarkState.{MarkState}
@@ -15,8 +15,8 @@ use Rattle.s80_log.specs.Log.{log_file}
 use Rattle.s80_log.specs.Standing.{FilesStandFor as StandByMark, marked_part}
 use Rattle.s80_keeper.specs.declared.start.Damage.{Damage}
 use Rattle.s80_keeper.specs.declared.start.Damage.TheVariants.{NoMark, BadMark, LogShort, BadBlock, Replay, CountDiffers}
-use Rattle.s80_state.specs.List.{IsBuilt, add}
-use Rattle.s80_state.proofs.Lists.{blocks_more}
+use Rattle.s80_apply.specs.List.{IsBuilt, add}
+use Rattle.s80_apply.proofs.Lists.{blocks_more}
 use Rattle.s80_keeper.specs.Standing.{NamesNoImage, FilesStandFor}
 use Rattle.s80_keeper.specs.Start.{HasMark, ReadsTo, IsDamage, log_length}
 use Rattle.s80_keeper.proofs.Readings.{stops_last, refuses_last, one_refused}

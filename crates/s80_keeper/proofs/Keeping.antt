@@ -1,15 +1,15 @@
 -- One commit: what the log says of it, by the mark, as the keeper says it.
 use Rattle.std.proofs.Common.{◌≡◌, ◌⊎◌, inl, inr, ⊎_elim, ℕ, Bool, List, [], ◌∷◌, ◌++◌, length, Ok, refl, sym, ap, ◌∙◌, subst, length-append}
-use Rattle.s80_block.specs.declared.change.Change.{Change}
+use Rattle.s80_change.specs.declared.change.Change.{Change}
 use Rattle.s80_disk.specs.declared.disk.FileId.{FileId}
 use Rattle.s80_disk.specs.Image.{Image}
 use Rattle.s80_mark.specs.declared.mark.MarkState.{MarkState}
-use Rattle.s80_block.specs.Block.{block, blocks}
-use Rattle.s80_state.specs.declared.step.Step.{Step}
-use Rattle.s80_state.specs.Accept.{accept}
-use Rattle.s80_state.specs.System.{SystemState, IsSystemOf, IsInstalled}
-use Rattle.s80_state.specs.List.{IsBuilt, state_of}
-use Rattle.s80_state.proofs.Lists.{built_more, state_is_more, is_accepted, is_after}
+use Rattle.s80_change.specs.Block.{block, blocks}
+use Rattle.s80_apply.specs.declared.step.Step.{Step}
+use Rattle.s80_apply.specs.Accept.{accept}
+use Rattle.s80_apply.specs.System.{SystemState, IsSystemOf, IsInstalled}
+use Rattle.s80_apply.specs.List.{IsBuilt, state_of}
+use Rattle.s80_apply.proofs.Lists.{built_more, state_is_more, is_accepted, is_after}
 use Rattle.s80_log.specs.Log.{LogEnd}
 use Rattle.s80_log.specs.Standing.{StandsFor as StandsByMark}
 use Rattle.s80_log.specs.Commit.{LeavesBeside, StandForEither, next_mark}

@@ -10,3 +10,6 @@ pub mod Standing
 mod Starts
 mod Sourced
 mod Preparing
+pub mod Spells
+pub mod Pieces
+mod StandingSource

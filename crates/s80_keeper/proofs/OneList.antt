@@ -1,13 +1,13 @@
 -- Files stand for one list at most.
 use Rattle.std.proofs.Common.{◌≡◌, inl, inr, ℕ, zero, suc, ◌<◌, Bool, true, false, List, [], ◌∷◌, ◌++◌, length, take, Some, refl, sym, ap, ◌∙◌, arith, append-nil, length-append, if◌then◌else◌}
 use Rattle.std.proofs.lemmas.Grind.{flat_map-append}
-use Rattle.s80_block.specs.declared.change.Change.{Change}
-use Rattle.s80_block.specs.declared.frame.Frame.{Frame}
-use Rattle.s80_block.specs.declared.frame.Frame.TheVariants.{Plain, Section}
-use Rattle.s80_block.specs.Block.{framed, frame_of, block, blocks, IsLawful}
+use Rattle.s80_change.specs.declared.change.Change.{Change}
+use Rattle.s80_change.specs.declared.frame.Frame.{Frame}
+use Rattle.s80_change.specs.declared.frame.Frame.TheVariants.{Plain, Section}
+use Rattle.s80_change.specs.Block.{framed, frame_of, block, blocks, IsLawful}
 use Rattle.std.specs.List.{All}
 use Rattle.std.proofs.lemmas.List.Elements.{All-head, All-tail}
-use Rattle.s80_block.proofs.BlockLaws.{block_unique}
+use Rattle.s80_change.proofs.BlockLaws.{block_unique}
 use Rattle.s80_disk.specs.declared.disk.FileId.TheVariants.{Mark, Log0, Log1}
 use Rattle.s80_disk.specs.Image.{Image}
 use Rattle.s80_mark.specs.declared.mark.MarkState.{MarkState}

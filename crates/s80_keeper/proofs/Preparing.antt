@@ -1,13 +1,13 @@
 -- What preparing a change answers, as the state below says it.
 use Rattle.std.proofs.Common.{◌≡◌, ℕ, ◌+◌, ◌<◌, ◌≤◌, length, Some, Ok, Err, refl}
-use Rattle.s80_block.specs.declared.change.Change.{Change}
-use Rattle.s80_change.specs.declared.refusal.Refused.{Refused}
-use Rattle.s80_change.specs.declared.refusal.Refused.TheVariants as refused
-use Rattle.s80_change.specs.declared.refusal.Refusal.TheVariants.{LogFull}
-use Rattle.s80_block.specs.Block.{block, log_limit}
-use Rattle.s80_state.specs.declared.step.Step.{Step}
-use Rattle.s80_state.specs.State.{State}
-use Rattle.s80_state.specs.System.{SystemState, IsReady, Prepares as PreparesStep}
+use Rattle.s80_change.specs.declared.change.Change.{Change}
+use Rattle.s80_form.specs.declared.refusal.Refused.{Refused}
+use Rattle.s80_form.specs.declared.refusal.Refused.TheVariants as refused
+use Rattle.s80_form.specs.declared.refusal.Refusal.TheVariants.{LogFull}
+use Rattle.s80_change.specs.Block.{block, log_limit}
+use Rattle.s80_apply.specs.declared.step.Step.{Step}
+use Rattle.s80_apply.specs.State.{State}
+use Rattle.s80_apply.specs.System.{SystemState, IsReady, Prepares as PreparesStep}
 use Rattle.s80_keeper.specs.Answers.{Prepares}
 use Rattle.s80_keeper.proofs.Accepted.{refuses_so, refuses_full}
 

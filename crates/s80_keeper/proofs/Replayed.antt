@@ -4,17 +4,17 @@ use Rattle.std.proofs.lemmas.List.Elements.{All-nil, All-push}
 use Rattle.std.proofs.Math.ListN.{drop_of_length-le}
 use Rattle.std.proofs.Math.Seq.{drop-append_seam}
 use Rattle.s80_base.specs.declared.outside.Failed.{Failed}
-use Rattle.s80_block.specs.declared.change.Change.{Change}
-use Rattle.s80_block.specs.declared.change.Change.TheVariants.{Define, Method, DoIt}
-use Rattle.s80_block.specs.Block.{block, blocks, log_limit, IsLawful, IsList}
+use Rattle.s80_change.specs.declared.change.Change.{Change}
+use Rattle.s80_change.specs.declared.change.Change.TheVariants.{Define, Method, DoIt}
+use Rattle.s80_change.specs.Block.{block, blocks, log_limit, IsLawful, IsList}
 use Rattle.s80_disk.specs.Image.{Image}
-use Rattle.s80_state.specs.State.{State, kernel_state}
-use Rattle.s80_state.specs.Accept.{accept}
-use Rattle.s80_state.specs.System.{SystemState, IsChecked, IsSystemOf}
-use Rattle.s80_state.specs.List.{IsBuilt, state_of, state_after, refusal_to}
-use Rattle.s80_state.proofs.Lists.{blocks_more, built_more, state_is_more}
+use Rattle.s80_apply.specs.State.{State, kernel_state}
+use Rattle.s80_apply.specs.Accept.{accept}
+use Rattle.s80_apply.specs.System.{SystemState, IsChecked, IsSystemOf}
+use Rattle.s80_apply.specs.List.{IsBuilt, state_of, state_after, refusal_to}
+use Rattle.s80_apply.proofs.Lists.{blocks_more, built_more, state_is_more}
 use Rattle.s80_log.specs.Log.{LogEnd, log_file, held_in}
-use Rattle.s80_block.specs.Blocks.{BeginsWith, BeginsWithNone}
+use Rattle.s80_change.specs.Blocks.{BeginsWith, BeginsWithNone}
 use Rattle.s80_log.specs.Faults.{IfBad}
 use Rattle.s80_log.specs.declared.read.BlockFault.{BlockFault}
 use Rattle.s80_log.specs.declared.read.BlockFault.TheVariants as block_faults

@@ -1,7 +1,7 @@
 -- A start from a valid mark.
 use Rattle.std.proofs.Common.{◌≡◌, ◌≢◌, inl, inr, ⊎_elim, ℕ, ◌≤◌, Bool, List, [], ◌++◌, length, None, Result, Ok, Err, IfOk, refl, append_assoc, sym, ap, ◌∙◌, subst, append-nil}
-use Rattle.s80_block.specs.declared.change.Change.{Change}
-use Rattle.s80_block.specs.Block.{block, blocks}
+use Rattle.s80_change.specs.declared.change.Change.{Change}
+use Rattle.s80_change.specs.Block.{block, blocks}
 use Rattle.s80_disk.specs.declared.disk.FileId.TheVariants.{Mark}
 use Rattle.s80_disk.specs.Image.{Image, Only}
 use Rattle.s80_mark.specs.declared.mark.MarkState.{MarkState}
@@ -11,8 +11,8 @@ use Rattle.s80_mark.specs.declared.read.MarkFault.{MarkFault}
 use Rattle.s80_mark.specs.declared.read.MarkFault.TheVariants as mark_faults
 use Rattle.s80_mark.specs.Mark.{format_two}
 use Rattle.s80_mark.specs.Found.{IsAnswer}
-use Rattle.s80_state.specs.System.{SystemState, IsSystemOf}
-use Rattle.s80_state.specs.List.{IsBuilt, state_of}
+use Rattle.s80_apply.specs.System.{SystemState, IsSystemOf}
+use Rattle.s80_apply.specs.List.{IsBuilt, state_of}
 use Rattle.s80_log.specs.Log.{LogEnd, held_in}
 use Rattle.s80_log.specs.Standing.{marked_part, StandsFor as StandsByMark}
 use Rattle.s80_keeper.specs.declared.start.Damage.TheVariants.{NoMark, BadMark, LogShort, BadBlock, Replay, CountDiffers}

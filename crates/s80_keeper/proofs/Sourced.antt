@@ -2,20 +2,20 @@
 use Rattle.std.proofs.Common.{◌≡◌, ◌∙◌, ℕ, List, Option, Some, None, Result, Ok, Err, option_map, refl, sym, ap, subst}
 use Rattle.std.specs.FinMap as map
 use Rattle.s80_base.specs.declared.names.Side.{Side}
-use Rattle.s80_block.specs.declared.change.Change.{Change}
-use Rattle.s80_block.specs.Block.{blocks}
+use Rattle.s80_change.specs.declared.change.Change.{Change}
+use Rattle.s80_change.specs.Block.{blocks}
 use Rattle.s80_class.specs.Classes.{Name}
 use Rattle.s80_class.specs.Table.{IsNumberOf}
 use Rattle.s80_dict.specs.Table.{methods_at}
 use Rattle.s80_disk.specs.Image.{Image}
-use Rattle.s80_state.specs.State.{MethodRow}
-use Rattle.s80_state.specs.Entries.{Entry, row_in}
-use Rattle.s80_state.specs.List.{state_of}
-use Rattle.s80_state.specs.Source.{AllStand, StandsAt, text_for}
+use Rattle.s80_apply.specs.State.{MethodRow}
+use Rattle.s80_apply.specs.Entries.{Entry, row_in}
+use Rattle.s80_apply.specs.List.{state_of}
+use Rattle.s80_apply.specs.Source.{AllStand, StandsAt, text_for}
 use Rattle.s80_log.specs.Log.{held_in}
 use Rattle.s80_log.specs.declared.read.BlockFault.{BlockFault}
 use Rattle.s80_log.specs.declared.read.BlockFault.TheVariants as block_faults
-use Rattle.s80_source.specs.Read.{IsRead, IsThis as IsSource}
+use Rattle.s80_keeper.specs.SourceAt.{IsRead, IsThis as IsSource}
 use Rattle.s80_keeper.specs.declared.keep.KeepFault.{KeepFault}
 use Rattle.s80_keeper.specs.declared.keep.KeepFault.TheVariants as faults
 use Rattle.s80_keeper.specs.declared.start.Damage.TheVariants.{BadBlock}

@@ -1,6 +1,6 @@
 -- Disks that stand for a list, and what a crash leaves of them.
 use Rattle.std.proofs.Common.{inl, inr, ⊎_elim, List, Bool, ap, ◌∙◌}
-use Rattle.s80_block.specs.declared.change.Change.{Change}
+use Rattle.s80_change.specs.declared.change.Change.{Change}
 use Rattle.s80_disk.specs.Image.{Image}
 use Rattle.s80_mark.specs.declared.mark.MarkState.{MarkState}
 use Rattle.s80_mark.specs.Mark.{valid_mark}

@@ -1,8 +1,8 @@
 -- What a start leaves of the files, and the first mark that it makes.
 use Rattle.std.proofs.Common.{◌≡◌, inl, inr, ⊎_elim, ℕ, Bool, IsTrue, List, [], Some, None, Ok, refl, sym, ap, ◌∙◌, subst, arith}
 use Rattle.std.proofs.lemmas.List.Elements.{All-nil}
-use Rattle.s80_block.specs.declared.change.Change.{Change}
-use Rattle.s80_block.specs.Block.{IsLawful}
+use Rattle.s80_change.specs.declared.change.Change.{Change}
+use Rattle.s80_change.specs.Block.{IsLawful}
 use Rattle.s80_disk.specs.declared.disk.FileId.{FileId}
 use Rattle.s80_disk.specs.declared.disk.FileId.TheVariants.{Mark, Log0, Log1}
 use Rattle.s80_disk.specs.Image.{Image, Only}
@@ -11,8 +11,8 @@ use Rattle.s80_mark.specs.Mark.{format_two, valid_mark}
 use Rattle.s80_mark.specs.Stays.{StillLeft}
 use Rattle.s80_mark.specs.Found.{AreLogsEmpty}
 use Rattle.s80_mark.specs.Init.{SyncsFirst}
-use Rattle.s80_state.specs.State.{kernel_state}
-use Rattle.s80_state.specs.System.{SystemState, IsSystemOf}
+use Rattle.s80_apply.specs.State.{kernel_state}
+use Rattle.s80_apply.specs.System.{SystemState, IsSystemOf}
 use Rattle.s80_log.specs.Log.{LogEnd, held_in}
 use Rattle.s80_log.specs.Standing.{StandsFor as StandsByMark}
 use Rattle.s80_keeper.specs.Keeper.{KeeperState, Keeps}

@@ -1,15 +1,15 @@
 -- What the calls of a keeper answer, and what they leave.
 use Rattle.std.specs.Prelude.{◌≡◌, ◌⊎◌, ◌≤◌, ◌+◌, ◌-◌, ◌^◌, min, ℕ, Bool, List, [], ◌∷◌, ◌++◌, length, Some, Result, Ok, Err, ⊤}
 use Rattle.s80_base.specs.declared.outside.Failed.{Failed}
-use Rattle.s80_block.specs.declared.change.Change.{Change}
-use Rattle.s80_change.specs.declared.refusal.Refused.{Refused}
-use Rattle.s80_change.specs.declared.refusal.Refused.TheVariants as refused
-use Rattle.s80_block.specs.Block.{block, log_limit}
+use Rattle.s80_change.specs.declared.change.Change.{Change}
+use Rattle.s80_form.specs.declared.refusal.Refused.{Refused}
+use Rattle.s80_form.specs.declared.refusal.Refused.TheVariants as refused
+use Rattle.s80_change.specs.Block.{block, log_limit}
 use Rattle.s80_disk.specs.Image.{Image}
-use Rattle.s80_state.specs.declared.step.Step.{Step}
-use Rattle.s80_state.specs.State.{State}
-use Rattle.s80_state.specs.List.{refusal_to}
-use Rattle.s80_state.specs.System.{SystemState, IsReady, IsInstalled, Makes}
+use Rattle.s80_apply.specs.declared.step.Step.{Step}
+use Rattle.s80_apply.specs.State.{State}
+use Rattle.s80_apply.specs.List.{refusal_to}
+use Rattle.s80_apply.specs.System.{SystemState, IsReady, IsInstalled, Makes}
 use Rattle.s80_log.specs.Log.{LogEnd}
 use Rattle.s80_log.specs.Commit.{next_mark}
 use Rattle.s80_keeper.specs.declared.keep.KeepFault.{KeepFault}

@@ -1,12 +1,12 @@
 -- A keeper at work on a disk.
 use Rattle.std.specs.Prelude.{◌≡◌, ℕ, Bool, List, length, Option, None}
 use Rattle.s80_base.specs.declared.outside.Failed.{Failed}
-use Rattle.s80_block.specs.declared.change.Change.{Change}
+use Rattle.s80_change.specs.declared.change.Change.{Change}
 use Rattle.s80_disk.specs.Image.{Image}
 use Rattle.s80_mark.specs.declared.mark.MarkState.{MarkState}
-use Rattle.s80_block.specs.Block.{blocks}
-use Rattle.s80_state.specs.System.{SystemState, IsSystemOf}
-use Rattle.s80_state.specs.List.{IsBuilt, state_of}
+use Rattle.s80_change.specs.Block.{blocks}
+use Rattle.s80_apply.specs.System.{SystemState, IsSystemOf}
+use Rattle.s80_apply.specs.List.{IsBuilt, state_of}
 use Rattle.s80_log.specs.Log.{LogEnd, held_in}
 use Rattle.s80_log.specs.Standing.{StandsFor as StandsByMark}
 use Rattle.s80_keeper.specs.Standing.{NamesNoImage}

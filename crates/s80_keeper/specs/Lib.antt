@@ -5,3 +5,5 @@ pub mod Reading
 pub mod Untouched
 pub mod Answers
 pub mod Source
+pub mod Unspelled
+pub mod SourceAt

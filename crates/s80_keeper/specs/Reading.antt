@@ -1,20 +1,20 @@
 -- How the start reads a log.
 use Rattle.std.specs.Prelude.{◌≡◌, ◌≢◌, ◌<◌, ◌≤◌, ℕ, List, ◌++◌, length, Some, None, Result, Ok, Err, ⊤}
-use Rattle.s80_block.specs.declared.change.Change.{Change}
-use Rattle.s80_change.specs.declared.refusal.Refusal.{Refusal}
-use Rattle.s80_block.specs.Block.{block, blocks, IsLawful, IsList}
-use Rattle.s80_change.specs.Refusal.{refusal_number}
+use Rattle.s80_change.specs.declared.change.Change.{Change}
+use Rattle.s80_form.specs.declared.refusal.Refusal.{Refusal}
+use Rattle.s80_change.specs.Block.{block, blocks, IsLawful, IsList}
+use Rattle.s80_form.specs.Refusal.{refusal_number}
 use Rattle.s80_disk.specs.Image.{Image}
 use Rattle.s80_mark.specs.declared.mark.MarkState.{MarkState}
 use Rattle.s80_mark.specs.declared.read.Found.{Found}
 use Rattle.s80_mark.specs.declared.read.Found.TheVariants.{Fresh, Mark as Marked}
 use Rattle.s80_mark.specs.Mark.{format_two}
 use Rattle.s80_mark.specs.Found.{AreLogsEmpty}
-use Rattle.s80_state.specs.State.{State}
-use Rattle.s80_state.specs.System.{SystemState, IsSystemOf}
-use Rattle.s80_state.specs.List.{IsBuilt, state_of, state_after, refusal_to, add}
+use Rattle.s80_apply.specs.State.{State}
+use Rattle.s80_apply.specs.System.{SystemState, IsSystemOf}
+use Rattle.s80_apply.specs.List.{IsBuilt, state_of, state_after, refusal_to, add}
 use Rattle.s80_log.specs.Log.{LogEnd, log_file}
-use Rattle.s80_block.specs.Blocks.{BeginsWithNone}
+use Rattle.s80_change.specs.Blocks.{BeginsWithNone}
 use Rattle.s80_keeper.specs.declared.start.Damage.TheVariants.{LogShort, BadBlock, Replay, CountDiffers}
 use Rattle.s80_keeper.specs.declared.start.StartFault.{StartFault}
 use Rattle.s80_keeper.specs.declared.start.StartFault.TheVariants as faults

@@ -1,11 +1,11 @@
 -- What reading the source of a method answers, and what it leaves.
 use Rattle.std.specs.Prelude.{◌≡◌, ℕ, List, Option, Some, None, Result, Ok, Err, ⊤}
 use Rattle.s80_disk.specs.Image.{Image}
-use Rattle.s80_state.specs.Entries.{Entry}
-use Rattle.s80_state.specs.Source.{text_for}
+use Rattle.s80_apply.specs.Entries.{Entry}
+use Rattle.s80_apply.specs.Source.{text_for}
 use Rattle.s80_log.specs.Log.{held_in}
 use Rattle.s80_log.specs.declared.read.BlockFault.TheVariants as block_faults
-use Rattle.s80_source.specs.Read.{IsRead}
+use Rattle.s80_keeper.specs.SourceAt.{IsRead}
 use Rattle.s80_keeper.specs.declared.keep.KeepFault.{KeepFault}
 use Rattle.s80_keeper.specs.declared.keep.KeepFault.TheVariants as faults
 use Rattle.s80_keeper.specs.declared.start.Damage.{Damage}

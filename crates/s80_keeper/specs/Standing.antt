@@ -1,11 +1,11 @@
 -- Files and disks that stand for a list of changes.
 use Rattle.std.specs.Prelude.{◌≡◌, ◌⊎◌, ℕ, Bool, IsTrue, List, []}
-use Rattle.s80_block.specs.declared.change.Change.{Change}
+use Rattle.s80_change.specs.declared.change.Change.{Change}
 use Rattle.s80_disk.specs.Image.{Image}
 use Rattle.s80_mark.specs.declared.mark.MarkState.{MarkState}
 use Rattle.s80_mark.specs.Found.{AreLogsEmpty}
 use Rattle.s80_mark.specs.Init.{EmptyLogs}
-use Rattle.s80_state.specs.List.{IsBuilt}
+use Rattle.s80_apply.specs.List.{IsBuilt}
 use Rattle.s80_log.specs.Standing.{FilesStandFor as StandByMark, StandsFor as StandsByMark, marked_part}
 
 -- a mark that names no image

@@ -1,10 +1,10 @@
 -- What is found at the start: the list that the files stand for, or the first thing that is wrong with them.
 use Rattle.std.specs.Prelude.{◌≡◌, ◌≢◌, ◌⊎◌, ◌<◌, ◌≤◌, ℕ, Bool, List, [], ◌++◌, length, Some, Result, Ok, Err, ⊤}
 use Rattle.s80_base.specs.declared.outside.Failed.{Failed}
-use Rattle.s80_block.specs.declared.change.Change.{Change}
-use Rattle.s80_change.specs.declared.refusal.Refusal.{Refusal}
-use Rattle.s80_block.specs.Block.{block, blocks, IsLawful, IsList}
-use Rattle.s80_change.specs.Refusal.{refusal_number}
+use Rattle.s80_change.specs.declared.change.Change.{Change}
+use Rattle.s80_form.specs.declared.refusal.Refusal.{Refusal}
+use Rattle.s80_change.specs.Block.{block, blocks, IsLawful, IsList}
+use Rattle.s80_form.specs.Refusal.{refusal_number}
 use Rattle.s80_disk.specs.declared.disk.FileId.TheVariants.{Mark}
 use Rattle.s80_disk.specs.Image.{Image}
 use Rattle.s80_mark.specs.declared.mark.MarkState.{MarkState}
@@ -12,10 +12,10 @@ use Rattle.s80_mark.specs.declared.read.MarkFault.{MarkFault}
 use Rattle.s80_mark.specs.declared.read.MarkFault.TheVariants as mark_faults
 use Rattle.s80_mark.specs.Mark.{format_two, valid_mark}
 use Rattle.s80_mark.specs.Found.{AreLogsEmpty, HasLawfulNumbers, IsAnswer, longer_log}
-use Rattle.s80_state.specs.List.{IsBuilt, add}
+use Rattle.s80_apply.specs.List.{IsBuilt, add}
 use Rattle.s80_log.specs.Log.{log_file}
 use Rattle.s80_log.specs.Standing.{marked_part}
-use Rattle.s80_block.specs.Blocks.{BeginsWithNone}
+use Rattle.s80_change.specs.Blocks.{BeginsWithNone}
 use Rattle.s80_log.specs.declared.read.BlockFault.{BlockFault}
 use Rattle.s80_log.specs.declared.read.BlockFault.TheVariants as block_faults
 use Rattle.s80_keeper.specs.declared.start.Damage.{Damage}

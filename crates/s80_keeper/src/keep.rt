@@ -2,13 +2,13 @@
 ghost use Rattle.std.specs.Prelude.{◌≡◌, ◌≢◌, ◌⊎◌, ◌↔◌, ◌<◌, ◌≤◌, ◌+◌, ◌∷◌, [], ◌++◌, List, ℕ, length, Some, None, Err, IfOk};
 ghost use Rattle.s80_base.specs.Causes.{Rose};
 ghost use Rattle.s80_base.specs.declared.outside.Call.TheVariants.{Read, Write, Sync};
-ghost use Rattle.s80_block.specs.declared.change.Change.{Change};
-ghost use Rattle.s80_block.specs.Block.{block, log_limit, IsLawful};
+ghost use Rattle.s80_change.specs.declared.change.Change.{Change};
+ghost use Rattle.s80_change.specs.Block.{block, log_limit, IsLawful};
 ghost use Rattle.s80_disk.specs.declared.disk.FileId.{FileId};
 ghost use Rattle.s80_disk.specs.declared.disk.FileId.TheVariants.{Mark};
 ghost use Rattle.s80_disk.specs.Moments.{Beside, LeavesOnly};
-ghost use Rattle.s80_state.specs.List.{state_of};
-ghost use Rattle.s80_state.specs.System.{IsReady};
+ghost use Rattle.s80_apply.specs.List.{state_of};
+ghost use Rattle.s80_apply.specs.System.{IsReady};
 ghost use Rattle.s80_log.specs.Log.{log_file};
 ghost use Rattle.s80_keeper.specs.Keeper.{Keeps};
 ghost use Rattle.s80_keeper.specs.Standing.{LeavesEither};

@@ -1,16 +1,16 @@
 // The keeper, and a change that is prepared for it.
 ghost use Rattle.std.specs.Prelude.{◌≡◌, ◌≤◌, length, IfOk};
-ghost use Rattle.s80_block.specs.Block.{block as block_of};
-ghost use Rattle.s80_state.specs.State.{State};
-ghost use Rattle.s80_state.specs.System.{IsChecked, IsReady, IsSystemOf, offset_of};
+ghost use Rattle.s80_change.specs.Block.{block as block_of};
+ghost use Rattle.s80_apply.specs.State.{State};
+ghost use Rattle.s80_apply.specs.System.{IsChecked, IsReady, IsSystemOf, offset_of};
 ghost use Rattle.s80_keeper.specs.Answers.{Prepares};
 
+use s80_apply::{Step, System};
 use s80_base::{Failed, Text};
-use s80_block::{Change, block_text};
-use s80_change::{Refusal, Refused};
+use s80_change::{Change, block_text};
+use s80_form::{Refusal, Refused};
 use s80_log::Log;
 use s80_mark::MarkState;
-use s80_state::{Step, System};
 use std::alloc::Global;
 use std::marker::Model;
 
@@ -27,7 +27,7 @@ pub struct Keeper {
 
 impl Model for Keeper {
     ghost use Rattle.std.specs.Coded.{codes};
-    ghost use Rattle.s80_state.specs.Coded.{system_code};
+    ghost use Rattle.s80_apply.specs.Coded.{system_code};
     ghost use Rattle.s80_keeper.specs.Keeper.{KeeperState};
 
     ghost Value = { KeeperState };
@@ -49,8 +49,8 @@ impl Model for Prepared {
     ghost use Rattle.std.specs.Prelude.{◌≡◌, ◌≤◌, length};
     ghost use Rattle.std.specs.Coded.{codes};
     ghost use Rattle.s80_base.specs.contracts.literal.Literal as literal;
-    ghost use Rattle.s80_block.specs.Block.{block as block_of};
-    ghost use Rattle.s80_state.specs.System.{offset_of};
+    ghost use Rattle.s80_change.specs.Block.{block as block_of};
+    ghost use Rattle.s80_apply.specs.System.{offset_of};
     ghost use Rattle.s80_keeper.specs.Answers.{PreparedChange};
 
     ghost Value = { PreparedChange };

@@ -1,6 +1,6 @@
 // Laws of files that stand for a list, for the crates above.
 ghost use Rattle.std.specs.Prelude.{◌≡◌, List};
-ghost use Rattle.s80_block.specs.declared.change.Change.{Change};
+ghost use Rattle.s80_change.specs.declared.change.Change.{Change};
 ghost use Rattle.s80_disk.specs.Image.{Image};
 ghost use Rattle.s80_keeper.specs.declared.start.Damage.{Damage};
 ghost use Rattle.s80_keeper.specs.Standing.{FilesStandFor, StandsFor, ReadsFor};

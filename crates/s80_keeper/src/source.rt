@@ -4,11 +4,11 @@ ghost use Rattle.std.specs.FinMap as map;
 ghost use Rattle.s80_base.specs.Causes.{Rose};
 ghost use Rattle.s80_base.specs.declared.outside.Call.TheVariants.{Read};
 ghost use Rattle.s80_base.specs.declared.outside.Failed.{Failed};
-ghost use Rattle.s80_block.specs.declared.change.Change.{Change};
+ghost use Rattle.s80_change.specs.declared.change.Change.{Change};
 ghost use Rattle.s80_class.specs.Classes.{Name};
 ghost use Rattle.s80_class.specs.Table.{IsNumberOf};
 ghost use Rattle.s80_dict.specs.Table.{methods_at};
-ghost use Rattle.s80_state.specs.List.{state_of};
+ghost use Rattle.s80_apply.specs.List.{state_of};
 ghost use Rattle.s80_keeper.specs.Answers.{IfKeepDisk};
 ghost use Rattle.s80_keeper.specs.Keeper.{Knows};
 ghost use Rattle.s80_keeper.specs.Source.{IsPlaced, IsReadBy, IsThis, after_reading};
@@ -16,12 +16,12 @@ ghost use Rattle.s80_keeper.specs.Untouched.{IsUntouched};
 
 use crate::keep::KeepFault;
 use crate::keeper::Keeper;
+use crate::source_at::read_source;
 use crate::start::Damage;
+use s80_apply::sources_stand;
 use s80_base::{Side, Text};
 use s80_disk::Disk;
 use s80_log::BlockFault;
-use s80_source::read_source;
-use s80_state::sources_stand;
 use std::alloc::Global;
 
 impl Keeper {

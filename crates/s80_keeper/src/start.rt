@@ -2,16 +2,16 @@
 ghost use Rattle.std.specs.Prelude.{◌≡◌, ◌≢◌, ◌⊎◌, ◌<◌, ◌≤◌, ◌+◌, ◌++◌, List, ℕ, length, None, IsTrue, IfOk};
 ghost use Rattle.s80_base.specs.Causes.{Rose};
 ghost use Rattle.s80_base.specs.declared.outside.Call.TheVariants.{Length, Read, Write, Sync};
-ghost use Rattle.s80_block.specs.declared.change.Change.{Change};
-ghost use Rattle.s80_block.specs.Block.{block};
-ghost use Rattle.s80_change.specs.Refusal.{refusal_number};
+ghost use Rattle.s80_change.specs.declared.change.Change.{Change};
+ghost use Rattle.s80_change.specs.Block.{block};
+ghost use Rattle.s80_form.specs.Refusal.{refusal_number};
 ghost use Rattle.s80_disk.specs.declared.disk.FileId.{FileId};
 ghost use Rattle.s80_disk.specs.declared.disk.FileId.TheVariants.{Mark};
 ghost use Rattle.s80_disk.specs.Image.{Only};
 ghost use Rattle.s80_disk.specs.Moments.{Beside, LeavesOnly};
 ghost use Rattle.s80_mark.specs.Found.{IsLawfulFound, longer_log};
-ghost use Rattle.s80_state.specs.State.{State};
-ghost use Rattle.s80_state.specs.System.{IsChecked, IsSystemOf};
+ghost use Rattle.s80_apply.specs.State.{State};
+ghost use Rattle.s80_apply.specs.System.{IsChecked, IsSystemOf};
 ghost use Rattle.s80_log.specs.Log.{log_file, held_in};
 ghost use Rattle.s80_keeper.specs.Standing.{NamesNoImage, ReadsFor, StandsFor, LeavesFor};
 ghost use Rattle.s80_keeper.specs.Start.{HasMark, IsStart, Started, StartLeaves, IfStartDisk};
@@ -19,13 +19,13 @@ ghost use Rattle.s80_keeper.specs.Reading.{IsFound, IsLengthChecked, IsCountChec
 ghost use Rattle.s80_keeper.specs.Untouched.{IsUntouched};
 
 use crate::keeper::Keeper;
+use s80_apply::{System, boot};
 use s80_base::{Failed, OutOfMemory};
-use s80_block::Change;
-use s80_change::{Refusal, Refused};
+use s80_change::Change;
 use s80_disk::{Disk, FileId};
+use s80_form::{Refusal, Refused};
 use s80_log::{BlockFault, LOG_LIMIT, Log};
 use s80_mark::{FORMAT_TWO, Found, MarkFault, MarkState, NO_IMAGE, init_mark, read_mark};
-use s80_state::{System, boot};
 use std::alloc::Global;
 use thiserror::Error;
 

@@ -1,1 +1,3 @@
 mod Named
+mod MethodTests
+mod MethodFacts

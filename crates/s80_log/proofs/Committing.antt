@@ -1,6 +1,6 @@
 -- A disk that stands for a list, while a commit is made of it.
 use Rattle.std.proofs.Common.{◌≡◌, inl, inr, ⊎_elim, ℕ, Bool, List, length, take, Some, refl, sym, ap, ◌∙◌, subst, arith}
-use Rattle.s80_block.specs.declared.change.Change.{Change}
+use Rattle.s80_change.specs.declared.change.Change.{Change}
 use Rattle.s80_disk.specs.declared.disk.FileId.{FileId}
 use Rattle.s80_disk.specs.declared.disk.FileId.TheVariants.{Mark}
 use Rattle.s80_disk.specs.Image.{Image, Only}

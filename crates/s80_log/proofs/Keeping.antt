@@ -1,6 +1,6 @@
 -- An append and a commit after it, as one.
 use Rattle.std.proofs.Common.{◌≡◌, inl, ℕ, Bool, List, take, sym, ap, ◌∙◌, arith}
-use Rattle.s80_block.specs.declared.change.Change.{Change}
+use Rattle.s80_change.specs.declared.change.Change.{Change}
 use Rattle.s80_disk.specs.declared.disk.FileId.{FileId}
 use Rattle.s80_disk.specs.Image.{Image, Follows}
 use Rattle.s80_mark.specs.declared.mark.MarkState.{MarkState}

@@ -1,12 +1,12 @@
 -- Files stand for one list.
 use Rattle.std.proofs.Common.{◌≡◌, ◌<◌, ℕ, List, [], ◌∷◌, ◌++◌, length, Some, refl, sym, ap, ◌∙◌, arith, length-append}
-use Rattle.s80_block.specs.declared.change.Change.{Change}
-use Rattle.s80_block.specs.declared.frame.Frame.{Frame}
-use Rattle.s80_block.specs.declared.frame.Frame.TheVariants.{Plain, Section}
-use Rattle.s80_block.specs.Block.{framed, frame_of, block, blocks, IsLawful}
+use Rattle.s80_change.specs.declared.change.Change.{Change}
+use Rattle.s80_change.specs.declared.frame.Frame.{Frame}
+use Rattle.s80_change.specs.declared.frame.Frame.TheVariants.{Plain, Section}
+use Rattle.s80_change.specs.Block.{framed, frame_of, block, blocks, IsLawful}
 use Rattle.std.specs.List.{All}
 use Rattle.std.proofs.lemmas.List.Elements.{All-head, All-tail}
-use Rattle.s80_block.proofs.BlockLaws.{block_unique}
+use Rattle.s80_change.proofs.BlockLaws.{block_unique}
 use Rattle.s80_disk.specs.Image.{Image}
 use Rattle.s80_mark.specs.declared.mark.MarkState.{MarkState}
 use Rattle.s80_log.specs.Standing.{marked_part, FilesStandFor}

@@ -3,9 +3,9 @@ use Rattle.std.proofs.Common.{◌≡◌, inl, inr, ℕ, zero, suc, ◌+◌, ◌-
 use Rattle.std.proofs.lemmas.Bool.{cases_lt}
 use Rattle.std.proofs.lemmas.List.{take-append-drop, drop-take}
 use Rattle.std.proofs.Math.ListN.{drop_of_length-le}
-use Rattle.s80_block.specs.declared.change.Change.{Change}
-use Rattle.s80_block.specs.Block.{block}
-use Rattle.s80_block.specs.Blocks.{BeginsWith, BeginsWithNone}
+use Rattle.s80_change.specs.declared.change.Change.{Change}
+use Rattle.s80_change.specs.Block.{block}
+use Rattle.s80_change.specs.Blocks.{BeginsWith, BeginsWithNone}
 
 -- what stands from a place to the end of a front
 front_from : (at end : ℕ) (file : List ℕ) → drop at (take end file) ≡ take (end - at) (drop at file)

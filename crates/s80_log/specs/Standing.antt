@@ -1,7 +1,7 @@
 -- Files and disks that stand for a list of changes.
 use Rattle.std.specs.Prelude.{◌≡◌, ℕ, Bool, IsTrue, List, length, take, Some}
-use Rattle.s80_block.specs.declared.change.Change.{Change}
-use Rattle.s80_block.specs.Block.{blocks, IsList}
+use Rattle.s80_change.specs.declared.change.Change.{Change}
+use Rattle.s80_change.specs.Block.{blocks, IsList}
 use Rattle.s80_disk.specs.declared.disk.FileId.TheVariants.{Mark}
 use Rattle.s80_disk.specs.Image.{Image, Only}
 use Rattle.s80_mark.specs.declared.mark.MarkState.{MarkState}

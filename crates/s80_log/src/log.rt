@@ -2,8 +2,8 @@
 ghost use Rattle.std.specs.Prelude.{◌≡◌, ◌≢◌, ◌⊎◌, ◌↔◌, ◌+◌, ◌-◌, ◌<◌, ◌≤◌, nat_le, ◌++◌, ◌∷◌, [], ℕ, List, IsTrue, Some, Err, length, IfOk, OnOk, IfErr, OnErr, MatchResult};
 ghost use Rattle.s80_base.specs.Causes.{HasCause, Rose};
 ghost use Rattle.s80_base.specs.declared.outside.Call.TheVariants.{Read, Write, Sync};
-ghost use Rattle.s80_block.specs.declared.change.Change.{Change};
-ghost use Rattle.s80_block.specs.Block.{block as block_of, log_limit, IsLawful};
+ghost use Rattle.s80_change.specs.declared.change.Change.{Change};
+ghost use Rattle.s80_change.specs.Block.{block as block_of, log_limit, IsLawful};
 ghost use Rattle.s80_disk.specs.declared.disk.FileId.{FileId};
 ghost use Rattle.s80_disk.specs.declared.disk.FileId.TheVariants.{Mark};
 ghost use Rattle.s80_disk.specs.Image.{Wrote, Torn, Follows, Only};

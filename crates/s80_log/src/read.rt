@@ -2,17 +2,17 @@
 ghost use Rattle.std.specs.Prelude.{◌≡◌, ◌+◌, ◌-◌, ◌<◌, ◌≤◌, ℕ, min, List, IsTrue, length, take, drop, IfOk, IfErr};
 ghost use Rattle.s80_base.specs.Causes.{Rose};
 ghost use Rattle.s80_base.specs.declared.outside.Call.TheVariants.{Read};
-ghost use Rattle.s80_block.specs.Block.{block, IsLawful};
+ghost use Rattle.s80_change.specs.Block.{block, IsLawful};
 ghost use Rattle.s80_disk.specs.declared.disk.FileId.{FileId};
 ghost use Rattle.s80_disk.specs.Moments.{Beside, LeavesOnly};
 ghost use Rattle.s80_mark.specs.Stays.{StillLeft};
 ghost use Rattle.s80_log.specs.Log.{held_in};
-ghost use Rattle.s80_block.specs.Blocks.{BeginsWith, BeginsWithNone};
+ghost use Rattle.s80_change.specs.Blocks.{BeginsWith, BeginsWithNone};
 ghost use Rattle.s80_log.specs.Faults.{IfBlockDisk, UnlessBlockDisk, IfBad};
 
 use crate::log::Log;
 use s80_base::{Failed, OutOfMemory};
-use s80_block::{Change, FirstBlock, first_block};
+use s80_change::{Change, FirstBlock, first_block};
 use s80_disk::{Disk, FileId};
 use std::alloc::{AllocError, Global};
 use thiserror::Error;

@@ -6,8 +6,8 @@ use Rattle.std.specs.Str.{bytes_eq}
 use Rattle.std.proofs.lemmas.List.{length-replicate}
 use Rattle.std.proofs.lemmas.List.Elements.{All-head, All-tail, All-nil, All-replicate, All-set}
 use Rattle.s80_base.specs.declared.names.Side.TheVariants.{Instance}
-use Rattle.s80_change.specs.declared.definition.Kind.{Kind}
-use Rattle.s80_change.specs.declared.definition.Kind.TheVariants as kind
+use Rattle.s80_form.specs.declared.definition.Kind.{Kind}
+use Rattle.s80_form.specs.declared.definition.Kind.TheVariants as kind
 use Rattle.s80_kernel.specs.Rows as rows
 use Rattle.s80_class.specs.Classes.{is_bits}
 use Rattle.s80_class.specs.Table.{Table, IsClass}

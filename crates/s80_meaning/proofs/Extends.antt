@@ -4,8 +4,8 @@ use Rattle.std.specs.List.{AllByRecursion}
 use Rattle.std.specs.Option.{option_map_or}
 use Rattle.s80_base.specs.declared.names.Side.TheVariants as side
 use Rattle.s80_base.specs.Literal.{LiteralTree, LiteralTrees, small, character, str, symbol, array, true_literal, false_literal, nil_literal, number, no_literals, literals}
-use Rattle.s80_change.specs.declared.definition.Kind.{Kind}
-use Rattle.s80_change.specs.declared.definition.Kind.TheVariants as kind
+use Rattle.s80_form.specs.declared.definition.Kind.{Kind}
+use Rattle.s80_form.specs.declared.definition.Kind.TheVariants as kind
 use Rattle.s80_class.specs.Table.{Table}
 use Rattle.s80_object.specs.Body.{BodyTree, pointers, bytes, words, home, block, blank, bytes_of, cost, number_to, words_of, word_limit}
 use Rattle.s80_object.specs.Literal.{Built, built, built_all, is_made_at, made_before, noted}

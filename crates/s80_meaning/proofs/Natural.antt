@@ -5,8 +5,8 @@ use Rattle.std.specs.Option.{option_map, option_map_or, option_or}
 use Rattle.std.proofs.lemmas.List.{length-map, map_push}
 use Rattle.s80_base.specs.declared.names.Side.TheVariants as side
 use Rattle.s80_base.specs.Literal.{LiteralTree, LiteralTrees, small, character, str, symbol, array, true_literal, false_literal, nil_literal, number, no_literals, literals}
-use Rattle.s80_change.specs.declared.definition.Kind.{Kind}
-use Rattle.s80_change.specs.declared.definition.Kind.TheVariants as kind
+use Rattle.s80_form.specs.declared.definition.Kind.{Kind}
+use Rattle.s80_form.specs.declared.definition.Kind.TheVariants as kind
 use Rattle.s80_class.specs.Table.{Table}
 use Rattle.s80_object.specs.Body.{BodyTree, pointers, bytes, words, home, block, blank, bytes_of, cost, fields_of, items_of, kind_of, number_to, words_of, word_limit}
 use Rattle.s80_object.specs.Literal.{Built, array_of, built, built_all, made, made_before, noted, with_first}

@@ -16,8 +16,8 @@ use Rattle.s80_scope.specs.declared.shape.Shape.{Shape}
 use Rattle.s80_code.specs.declared.code.Code.{Code}
 use Rattle.s80_agree.specs.Compiles.{Compiles}
 use Rattle.s80_class.specs.Classes.{Name, Classes}
-use Rattle.s80_section.specs.declared.source_check.SourceCheck.TheVariants.{Fits}
-use Rattle.s80_section.specs.Check.{IsCheckOf, too_large}
+use Rattle.s80_change.specs.declared.source_check.SourceCheck.TheVariants.{Fits}
+use Rattle.s80_change.specs.Check.{IsCheckOf, too_large}
 use Rattle.s80_method.specs.Shape.{shape_of}
 use Rattle.s80_method.specs.Code.{IsMethodCode}
 

@@ -8,8 +8,8 @@ ghost use Rattle.s80_scope.specs.declared.fit.Fit.TheVariants.{Fits as TreeFits}
 ghost use Rattle.s80_agree.specs.Sent.{AreWellSent};
 ghost use Rattle.s80_verify.specs.Fault.{IsVerified};
 ghost use Rattle.s80_class.specs.Table.{IsClass, IsNumberOf};
-ghost use Rattle.s80_section.specs.Check.{IsCheckOf};
-ghost use Rattle.s80_section.specs.declared.source_check.SourceCheck.TheVariants.{Fits};
+ghost use Rattle.s80_change.specs.Check.{IsCheckOf};
+ghost use Rattle.s80_change.specs.declared.source_check.SourceCheck.TheVariants.{Fits};
 ghost use Rattle.s80_method.specs.Code.{HasFewVariables, IsMethodCode};
 
 use crate::shape::shape_of;

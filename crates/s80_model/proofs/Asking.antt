@@ -5,23 +5,23 @@ use Rattle.s80_tree.specs.Tree.{DoItParts}
 use Rattle.s80_grammar.specs.Faults.{IsDoItText}
 use Rattle.s80_syntax.specs.Text.{IsDoItOf}
 use Rattle.s80_syntax.proofs.OneReading.{one_doit_of, doit_only_memory}
-use Rattle.s80_block.specs.declared.change.Change.{Change}
-use Rattle.s80_block.specs.declared.change.Change.TheVariants.{Define, Method, DoIt}
-use Rattle.s80_section.specs.declared.source_check.SourceCheck.{SourceCheck}
-use Rattle.s80_block.proofs.TextOf.{one_definition_of}
-use Rattle.s80_change.specs.declared.refusal.Refusal.{Refusal}
-use Rattle.s80_change.specs.declared.refusal.Refusal.TheVariants as refusals
-use Rattle.s80_section.specs.declared.head.SectionHead.{SectionHead}
-use Rattle.s80_section.specs.Check.{IsCheckOf, IsSyntaxRefusal, as_method, size_refusal, fault_of}
-use Rattle.s80_section.specs.Head.{IsHeadOf}
-use Rattle.s80_section.proofs.Checking.{one_refusal, check_same}
-use Rattle.s80_section.proofs.Heads.{one_head_of}
+use Rattle.s80_change.specs.declared.change.Change.{Change}
+use Rattle.s80_change.specs.declared.change.Change.TheVariants.{Define, Method, DoIt}
+use Rattle.s80_change.specs.declared.source_check.SourceCheck.{SourceCheck}
+use Rattle.s80_change.proofs.TextOf.{one_definition_of}
+use Rattle.s80_form.specs.declared.refusal.Refusal.{Refusal}
+use Rattle.s80_form.specs.declared.refusal.Refusal.TheVariants as refusals
+use Rattle.s80_change.specs.declared.head.SectionHead.{SectionHead}
+use Rattle.s80_change.specs.Check.{IsCheckOf, IsSyntaxRefusal, as_method, size_refusal, fault_of}
+use Rattle.s80_change.specs.Head.{IsHeadOf}
+use Rattle.s80_change.proofs.Checking.{one_refusal, check_same}
+use Rattle.s80_change.proofs.Heads.{one_head_of}
 use Rattle.s80_syntax.specs.declared.fault.ParseFault.TheVariants as faults
-use Rattle.s80_change.specs.declared.refusal.SyntaxKind.{SyntaxKind}
-use Rattle.s80_change.specs.declared.refusal.SyntaxKind.TheVariants as kinds
+use Rattle.s80_form.specs.declared.refusal.SyntaxKind.{SyntaxKind}
+use Rattle.s80_form.specs.declared.refusal.SyntaxKind.TheVariants as kinds
 use Rattle.s80_model.specs.declared.item.SessionItem.{SessionItem}
 use Rattle.s80_model.specs.declared.item.SessionItem.TheVariants.{Chunk, Unended, Query}
-use Rattle.s80_change.specs.Definition.{IsDefinitionOf, IsNoDefinition}
+use Rattle.s80_form.specs.Definition.{IsDefinitionOf, IsNoDefinition}
 use Rattle.s80_doit.specs.DoIt.{Fits}
 use Rattle.s80_model.specs.Asked.{Ask, refuses, adds, evaluates, opens, refuses_head, adds_source, refuses_source, closes, tells, IsRefusedText, AsksPlain, IsRefusedHead, AsksHead, AsksMethod, Asks, but_for_runs}
 

@@ -1,3 +1,5 @@
 pub mod Asking
 mod Opening
 mod Naming
+pub mod Telling
+pub mod Categories

@@ -5,7 +5,7 @@ use Rattle.std.specs.Str.{bytes_eq}
 use Rattle.std.specs.Cmp.Lexicographic.{bytes_decides}
 use Rattle.s80_base.specs.declared.names.Side.{Side}
 use Rattle.s80_base.specs.declared.names.Side.TheVariants.{Instance, Class}
-use Rattle.s80_change.specs.Name.{is_name}
+use Rattle.s80_form.specs.Name.{is_name}
 use Rattle.s80_class.specs.Classes.{Name}
 use Rattle.s80_model.specs.Told.{class_word, class_side_name, is_class_side, side_named}
 

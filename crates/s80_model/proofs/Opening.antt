@@ -5,11 +5,11 @@ use Rattle.s80_chunk.specs.declared.item.Role.TheVariants as roles
 use Rattle.s80_tree.specs.Tree.{DoItParts}
 use Rattle.s80_grammar.specs.Faults.{IsDoItText}
 use Rattle.s80_syntax.specs.Text.{IsDoItOf}
-use Rattle.s80_change.specs.declared.refusal.Refusal.{Refusal}
-use Rattle.s80_change.specs.declared.refusal.Refusal.TheVariants as refusals
-use Rattle.s80_section.specs.declared.head.SectionHead.{SectionHead}
-use Rattle.s80_section.specs.Check.{IsSyntaxRefusal}
-use Rattle.s80_section.specs.Head.{IsHeadOf}
+use Rattle.s80_form.specs.declared.refusal.Refusal.{Refusal}
+use Rattle.s80_form.specs.declared.refusal.Refusal.TheVariants as refusals
+use Rattle.s80_change.specs.declared.head.SectionHead.{SectionHead}
+use Rattle.s80_change.specs.Check.{IsSyntaxRefusal}
+use Rattle.s80_change.specs.Head.{IsHeadOf}
 use Rattle.s80_model.specs.declared.reply.Answer.{Answer}
 use Rattle.s80_model.specs.declared.reply.Reply.TheVariants.{Refused}
 use Rattle.s80_model.specs.declared.section.Section.TheVariants as sections

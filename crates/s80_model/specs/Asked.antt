@@ -6,16 +6,16 @@ use Rattle.s80_chunk.specs.declared.item.Item.TheVariants as items
 use Rattle.s80_tree.specs.Tree.{DoItParts}
 use Rattle.s80_grammar.specs.Faults.{IsDoItText}
 use Rattle.s80_syntax.specs.Text.{IsDoItOf}
-use Rattle.s80_block.specs.declared.change.Change.{Change}
-use Rattle.s80_block.specs.declared.change.Change.TheVariants.{Define, Method, DoIt}
-use Rattle.s80_section.specs.declared.source_check.SourceCheck.{SourceCheck}
-use Rattle.s80_change.specs.Definition.{IsDefinitionOf, IsNoDefinition}
-use Rattle.s80_change.specs.declared.refusal.FitWord.TheVariants as fits
-use Rattle.s80_change.specs.declared.refusal.Refusal.{Refusal}
-use Rattle.s80_change.specs.declared.refusal.Refusal.TheVariants as refusals
-use Rattle.s80_section.specs.declared.head.SectionHead.{SectionHead}
-use Rattle.s80_section.specs.Check.{IsCheckOf, IsSyntaxRefusal, as_method, size_refusal}
-use Rattle.s80_section.specs.Head.{IsHeadOf}
+use Rattle.s80_change.specs.declared.change.Change.{Change}
+use Rattle.s80_change.specs.declared.change.Change.TheVariants.{Define, Method, DoIt}
+use Rattle.s80_change.specs.declared.source_check.SourceCheck.{SourceCheck}
+use Rattle.s80_form.specs.Definition.{IsDefinitionOf, IsNoDefinition}
+use Rattle.s80_form.specs.declared.refusal.FitWord.TheVariants as fits
+use Rattle.s80_form.specs.declared.refusal.Refusal.{Refusal}
+use Rattle.s80_form.specs.declared.refusal.Refusal.TheVariants as refusals
+use Rattle.s80_change.specs.declared.head.SectionHead.{SectionHead}
+use Rattle.s80_change.specs.Check.{IsCheckOf, IsSyntaxRefusal, as_method, size_refusal}
+use Rattle.s80_change.specs.Head.{IsHeadOf}
 use Rattle.s80_doit.specs.DoIt.{Fits}
 use Rattle.s80_machine.specs.Came.{RanValue}
 use Rattle.s80_model.specs.declared.item.Query.{Query as SessionQuery}

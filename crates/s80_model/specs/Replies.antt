@@ -1,13 +1,13 @@
 -- The model keeper: what each thing asked changes, and what it is answered.
 use Rattle.std.specs.Prelude.{◌≡◌, ℕ, Bool, true, false, ◌||◌, List, [], ◌∷◌, ◌++◌, length, codes, Option, Some, None, Result, Ok, Err}
-use Rattle.s80_block.specs.declared.change.Change.{Change}
-use Rattle.s80_block.specs.declared.change.Change.TheVariants as changes
-use Rattle.s80_section.specs.declared.source_check.SourceCheck.{SourceCheck}
-use Rattle.s80_change.specs.declared.refusal.Refusal.{Refusal}
-use Rattle.s80_section.specs.declared.head.SectionHead.{SectionHead}
+use Rattle.s80_change.specs.declared.change.Change.{Change}
+use Rattle.s80_change.specs.declared.change.Change.TheVariants as changes
+use Rattle.s80_change.specs.declared.source_check.SourceCheck.{SourceCheck}
+use Rattle.s80_form.specs.declared.refusal.Refusal.{Refusal}
+use Rattle.s80_change.specs.declared.head.SectionHead.{SectionHead}
 use Rattle.s80_print.specs.Refusal.{refusal_text}
-use Rattle.s80_state.specs.Accept.{unknown_name}
-use Rattle.s80_state.specs.List.{classes_of, state_of, add}
+use Rattle.s80_apply.specs.Accept.{unknown_name}
+use Rattle.s80_apply.specs.List.{classes_of, state_of, add}
 use Rattle.s80_model.specs.declared.reply.Answer.{Answer}
 use Rattle.s80_model.specs.declared.reply.Reply.{Reply}
 use Rattle.s80_model.specs.declared.reply.Reply.TheVariants.{Silent, Accepted, Refused, Evaluated, Told}
@@ -18,8 +18,8 @@ use Rattle.s80_model.specs.Told.{told}
 use Rattle.s80_model.specs.declared.item.SessionItem.{SessionItem}
 use Rattle.s80_doit.specs.DoIt.{AreGiven, IsRunOf, is_stopped}
 use Rattle.s80_machine.specs.Came.{RanValue}
-use Rattle.s80_outcome.specs.Outcome.{outcome_text}
-use Rattle.s80_state.specs.System.{IsSystemOf, SystemState}
+use Rattle.s80_print.specs.Outcome.{outcome_text}
+use Rattle.s80_apply.specs.System.{IsSystemOf, SystemState}
 use Rattle.s80_model.specs.Asked.{Ask, Asks, refuses, adds, evaluates, opens, refuses_head, adds_source, refuses_source, closes, tells}
 
 -- the list of changes, the section in which the next item stands, how many ticks a doIt may take, and the run of the last that was evaluated

@@ -4,11 +4,11 @@ use Rattle.std.specs.FinMap as map
 use Rattle.std.specs.Str.{bytes_eq}
 use Rattle.s80_base.specs.declared.names.Side.{Side}
 use Rattle.s80_base.specs.declared.names.Side.TheVariants.{Instance, Class}
-use Rattle.s80_change.specs.declared.refusal.Refusal.TheVariants.{UnknownClass, BadName, NoSelector}
-use Rattle.s80_change.specs.Name.{is_name}
+use Rattle.s80_form.specs.declared.refusal.Refusal.TheVariants.{UnknownClass, BadName, NoSelector}
+use Rattle.s80_form.specs.Name.{is_name}
 use Rattle.s80_class.specs.Classes.{Name, ClassRow}
-use Rattle.s80_state.specs.State.{State}
-use Rattle.s80_told.specs.Told.{recovered_text, classes_text, browsed}
+use Rattle.s80_apply.specs.State.{State}
+use Rattle.s80_model.specs.Texts.{recovered_text, classes_text, browsed}
 use Rattle.s80_model.specs.declared.item.Query.{Query}
 use Rattle.s80_model.specs.declared.item.Query.TheVariants.{Recover, Classes as AllClasses, Browse, Source}
 use Rattle.s80_model.specs.declared.reply.Reply.{Reply}

@@ -1,14 +1,18 @@
-//! The model keeper: what the items of an input ask, and what they are answered, whatever keeps the list of changes.
+//! The model keeper: what the items of an input ask, and what they are answered, whatever keeps the list of changes; with the texts that queries are told.
 #![tactic(auto)]
 
+mod browse;
 mod item;
 mod laws;
 mod reply;
 mod section;
 mod side;
+mod told;
 
+pub use browse::browse_text;
 pub use item::{Query, SessionItem};
 pub use laws::one_ask;
 pub use reply::{Answer, Reply};
 pub use section::{Section, head_answer, method_of, too_long_answer};
 pub use side::side_named;
+pub use told::{classes_text, recovered_text};

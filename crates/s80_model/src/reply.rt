@@ -3,7 +3,7 @@ ghost use Rattle.std.specs.Prelude.{◌≡◌, None};
 
 use crate::section::Section;
 use s80_base::Text;
-use s80_change::Refusal;
+use s80_form::Refusal;
 
 /// What an item is answered.
 #[derive(Debug, Drop)]

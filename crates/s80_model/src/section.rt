@@ -1,17 +1,16 @@
 // Sections of an input.
 ghost use Rattle.std.specs.Prelude.{◌≡◌, ◌≤◌, ◌<◌, Some, length, IfOk};
-ghost use Rattle.s80_block.specs.declared.change.Change.{Change};
-ghost use Rattle.s80_state.specs.List.{classes_of};
+ghost use Rattle.s80_change.specs.declared.change.Change.{Change};
+ghost use Rattle.s80_apply.specs.List.{classes_of};
 ghost use Rattle.s80_model.specs.Asked.{AsksHead, ask_of_too_long, opens};
 ghost use Rattle.s80_model.specs.Replies.{IsAnswer, Work, method_in};
 
 use crate::reply::{Answer, Reply};
+use s80_apply::System;
 use s80_base::{OutOfMemory, Text};
-use s80_block::Method;
-use s80_change::{FitWord, Refusal};
+use s80_change::{HeadFault, Method, SectionHead, SourceCheck, head_of, syntax_refusal};
 use s80_chunk::{LONGEST, Role};
-use s80_section::{HeadFault, SectionHead, SourceCheck, head_of, syntax_refusal};
-use s80_state::System;
+use s80_form::{FitWord, Refusal};
 use std::alloc::Global;
 
 /// Where in a chunk file the next item stands.

@@ -3,7 +3,7 @@ ghost use Rattle.std.specs.Prelude.{◌≡◌, IfOk};
 ghost use Rattle.s80_model.specs.Told.{side_named};
 
 use s80_base::{OutOfMemory, Side, Text};
-use s80_change::is_name;
+use s80_form::is_name;
 use std::alloc::Global;
 
 /// The class and the side that a word names: a name, with ` class` behind it for the class side.

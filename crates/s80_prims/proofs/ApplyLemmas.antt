@@ -4,7 +4,7 @@ use Rattle.std.proofs.lemmas.Grind.{common_steps}
 use Rattle.std.proofs.lemmas.Option.{slice_get-map}
 use Rattle.std.specs.Option.{option_map, option_map_or}
 use Rattle.s80_base.specs.declared.names.Side.TheVariants as side
-use Rattle.s80_change.specs.declared.definition.Kind.TheVariants as kind
+use Rattle.s80_form.specs.declared.definition.Kind.TheVariants as kind
 use Rattle.s80_class.specs.Table.{Table, IsClass}
 use Rattle.s80_object.specs.Body.{BodyTree, pointers, bytes, words, home, block, blank, kind_of}
 use Rattle.s80_object.specs.Objects.{State, body_at, text_of}

@@ -9,8 +9,8 @@ use Rattle.std.proofs.lemmas.List.Elements.{All-nil, All-replicate, All-weaker, 
 use Rattle.s80_base.specs.declared.literal.NumberKind.{NumberKind}
 use Rattle.s80_base.specs.declared.literal.NumberKind.TheVariants.{LargePositive, LargeNegative, Float}
 use Rattle.s80_base.specs.declared.names.Side.TheVariants as side
-use Rattle.s80_change.specs.declared.definition.Kind.{Kind}
-use Rattle.s80_change.specs.declared.definition.Kind.TheVariants as kind
+use Rattle.s80_form.specs.declared.definition.Kind.{Kind}
+use Rattle.s80_form.specs.declared.definition.Kind.TheVariants as kind
 use Rattle.s80_kernel.specs.Rows as rows
 use Rattle.s80_class.specs.Classes.{Name}
 use Rattle.s80_class.specs.Table.{Table, IsClass}

@@ -6,7 +6,7 @@ use Rattle.std.specs.Str.{bytes_eq}
 use Rattle.s80_base.specs.declared.literal.NumberKind.{NumberKind}
 use Rattle.s80_base.specs.declared.literal.NumberKind.TheVariants.{LargePositive, LargeNegative, Float}
 use Rattle.s80_base.specs.declared.names.Side.TheVariants as side
-use Rattle.s80_change.specs.declared.definition.Kind.{Kind}
+use Rattle.s80_form.specs.declared.definition.Kind.{Kind}
 use Rattle.s80_class.specs.Classes.{Name, inherited_of, is_under}
 use Rattle.s80_class.specs.Table.{Table, name_of}
 use Rattle.s80_object.specs.Body.{BodyTree, pointers, bytes, words, home, block}

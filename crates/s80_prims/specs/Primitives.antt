@@ -3,8 +3,8 @@ use Rattle.std.specs.Prelude.{ℕ, suc, ◌+◌, ◌==◌, ℤ, pos, negsuc, Lis
 use Rattle.std.specs.Option.{option_map, option_map_or, option_or}
 use Rattle.s80_base.specs.declared.names.Side.{Side}
 use Rattle.s80_base.specs.declared.names.Side.TheVariants as side
-use Rattle.s80_change.specs.declared.definition.Kind.{Kind}
-use Rattle.s80_change.specs.declared.definition.Kind.TheVariants as kind
+use Rattle.s80_form.specs.declared.definition.Kind.{Kind}
+use Rattle.s80_form.specs.declared.definition.Kind.TheVariants as kind
 use Rattle.s80_class.specs.Table.{Table}
 use Rattle.s80_object.specs.Body.{BodyTree, bytes, pointers, blank, bytes_of, cost, words_of, word_limit}
 use Rattle.s80_object.specs.Literal.{named}

@@ -2,14 +2,14 @@
 use Rattle.std.specs.Prelude.{ℕ, List, ◌++◌, codes, decimal}
 use Rattle.s80_base.specs.declared.names.Side.{Side}
 use Rattle.s80_base.specs.declared.names.Side.TheVariants.{Instance, Class}
-use Rattle.s80_change.specs.declared.refusal.SyntaxKind.{SyntaxKind}
-use Rattle.s80_change.specs.declared.refusal.SyntaxKind.TheVariants.{UnendedToken, BadByte, BadNumber, Unexpected, NotAssignable, Nested}
-use Rattle.s80_change.specs.declared.refusal.FitWord.{FitWord}
-use Rattle.s80_change.specs.declared.refusal.FitWord.TheVariants.{Chunk, Literals, Temporaries, Stack, Weight}
-use Rattle.s80_change.specs.declared.refusal.ManyKind.{ManyKind}
-use Rattle.s80_change.specs.declared.refusal.ManyKind.TheVariants.{Classes, InstanceVariables, ClassVariables, ClassSideVariables, Pools, Methods, BitsVariables}
-use Rattle.s80_change.specs.declared.refusal.Refusal.{Refusal}
-use Rattle.s80_change.specs.declared.refusal.Refusal.TheVariants as refusals
+use Rattle.s80_form.specs.declared.refusal.SyntaxKind.{SyntaxKind}
+use Rattle.s80_form.specs.declared.refusal.SyntaxKind.TheVariants.{UnendedToken, BadByte, BadNumber, Unexpected, NotAssignable, Nested}
+use Rattle.s80_form.specs.declared.refusal.FitWord.{FitWord}
+use Rattle.s80_form.specs.declared.refusal.FitWord.TheVariants.{Chunk, Literals, Temporaries, Stack, Weight}
+use Rattle.s80_form.specs.declared.refusal.ManyKind.{ManyKind}
+use Rattle.s80_form.specs.declared.refusal.ManyKind.TheVariants.{Classes, InstanceVariables, ClassVariables, ClassSideVariables, Pools, Methods, BitsVariables}
+use Rattle.s80_form.specs.declared.refusal.Refusal.{Refusal}
+use Rattle.s80_form.specs.declared.refusal.Refusal.TheVariants as refusals
 
 abbrev pub syntax_word : SyntaxKind → List ℕ
 syntax_word UnendedToken = codes "unended-token"

@@ -3,7 +3,7 @@ ghost use Rattle.std.specs.Prelude.{◌≡◌, ◌++◌, codes, decimal, IfOk};
 ghost use Rattle.s80_print.specs.Refusal.{syntax_word, fit_word, many_word, spec_of, refusal_text};
 
 use s80_base::{OutOfMemory, Side, Text};
-use s80_change::{FitWord, ManyKind, Refusal, SyntaxKind};
+use s80_form::{FitWord, ManyKind, Refusal, SyntaxKind};
 use std::alloc::Global;
 
 /// The text that says why an item is refused, without a line feed.

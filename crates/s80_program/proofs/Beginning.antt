@@ -3,12 +3,12 @@ use Rattle.std.proofs.Common.{◌≡◌, ◌≢◌, inl, inr, ⊎_elim, ℕ, Lis
 use Rattle.std.specs.Prelude.{◌==◌, if◌then◌else◌}
 use Rattle.std.proofs.lemmas.List.{append-nil}
 use Rattle.s80_chunk.specs.Chunks.Reads.{stop}
-use Rattle.s80_block.specs.declared.change.Change.{Change}
+use Rattle.s80_change.specs.declared.change.Change.{Change}
 use Rattle.s80_disk.specs.Image.{Image}
 use Rattle.s80_disk.specs.Moments.{LeavesOnly}
 use Rattle.s80_disk.proofs.Run.{joined, weaker}
 use Rattle.s80_keeper.specs.declared.start.Damage.{Damage}
-use Rattle.s80_block.specs.Block.{blocks}
+use Rattle.s80_change.specs.Block.{blocks}
 use Rattle.s80_disk.specs.declared.disk.FileId.{FileId}
 use Rattle.s80_disk.specs.declared.disk.FileId.TheVariants.{Mark, Log0, Log1}
 use Rattle.s80_log.specs.Log.{log_file}

@@ -6,7 +6,7 @@ use Rattle.s80_chunk.specs.declared.item.Role.TheVariants.{Plain}
 use Rattle.s80_chunk.specs.Chunks.{Reads, IsBlank, item_of}
 use Rattle.s80_chunk.proofs.Reading.{one_reading}
 use Rattle.s80_chunk.proofs.Stopping.{reads_prefix}
-use Rattle.s80_block.specs.declared.change.Change.{Change}
+use Rattle.s80_change.specs.declared.change.Change.{Change}
 use Rattle.s80_disk.specs.Image.{Image}
 use Rattle.s80_machine.specs.Came.{RanValue}
 use Rattle.s80_model.specs.declared.item.SessionItem.{SessionItem}

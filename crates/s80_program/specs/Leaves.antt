@@ -1,6 +1,6 @@
 -- What the program leaves: on its disk, of its input and in its output.
 use Rattle.std.specs.Prelude.{◌≡◌, ◌⊎◌, ◌≤◌, ℕ, true, false, List, [], ◌∷◌, ◌++◌, length, take, Option, Some, None}
-use Rattle.s80_block.specs.declared.change.Change.{Change}
+use Rattle.s80_change.specs.declared.change.Change.{Change}
 use Rattle.s80_disk.specs.Image.{Image}
 use Rattle.s80_keeper.specs.Standing.{ReadsFor}
 use Rattle.s80_model.specs.declared.reply.Reply.{Reply}

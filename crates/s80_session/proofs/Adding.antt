@@ -2,16 +2,16 @@
 use Rattle.std.proofs.Common.{◌≡◌, inl, inr, ⊎_elim, ℕ, ◌+◌, ◌≤◌, List, [], ◌∷◌, ◌++◌, length, refl, sym, ap, subst, ◌∙◌, Result, Ok, Err, Option, Some, None, arith}
 use Rattle.std.proofs.lemmas.Bool.{le-leb}
 use Rattle.s80_base.specs.declared.outside.Failed.{Failed}
-use Rattle.s80_block.specs.declared.change.Change.{Change}
-use Rattle.s80_change.specs.declared.refusal.Refusal.{Refusal}
-use Rattle.s80_block.specs.Block.{block, blocks, log_limit, IsLawful}
+use Rattle.s80_change.specs.declared.change.Change.{Change}
+use Rattle.s80_form.specs.declared.refusal.Refusal.{Refusal}
+use Rattle.s80_change.specs.Block.{block, blocks, log_limit, IsLawful}
 use Rattle.s80_disk.specs.Image.{Image}
 use Rattle.s80_disk.specs.Moments.{LeavesOnly}
 use Rattle.s80_disk.proofs.Run.{weaker}
-use Rattle.s80_state.specs.Accept.{accept}
-use Rattle.s80_state.specs.List.{IsAccepted, state_of, refusal_to, added, add}
-use Rattle.s80_state.specs.State.{State}
-use Rattle.s80_state.specs.System.{IsSystemOf}
+use Rattle.s80_apply.specs.Accept.{accept}
+use Rattle.s80_apply.specs.List.{IsAccepted, state_of, refusal_to, added, add}
+use Rattle.s80_apply.specs.State.{State}
+use Rattle.s80_apply.specs.System.{IsSystemOf}
 use Rattle.s80_keeper.specs.Keeper.{KeeperState, Keeps}
 use Rattle.s80_keeper.specs.Answers.{PreparedChange, IsFor}
 use Rattle.s80_keeper.specs.Standing.{FilesStandFor, LeavesEither}

@@ -2,21 +2,21 @@
 use Rattle.std.proofs.Common.{◌≡◌, inl, inr, ℕ, List, [], ◌∷◌, ◌++◌, length, refl, sym, ap, subst, ◌∙◌, Result, Ok, Err, Option, Some}
 use Rattle.std.specs.Prelude.{None}
 use Rattle.s80_chunk.specs.declared.item.Item.TheVariants as items
-use Rattle.s80_block.specs.declared.change.Change.{Change}
-use Rattle.s80_block.specs.declared.change.Change.TheVariants.{DoIt}
-use Rattle.s80_block.specs.Block.{blocks}
-use Rattle.s80_change.specs.declared.refusal.Refusal.{Refusal}
-use Rattle.s80_change.specs.Definition.{IsNoDefinition}
+use Rattle.s80_change.specs.declared.change.Change.{Change}
+use Rattle.s80_change.specs.declared.change.Change.TheVariants.{DoIt}
+use Rattle.s80_change.specs.Block.{blocks}
+use Rattle.s80_form.specs.declared.refusal.Refusal.{Refusal}
+use Rattle.s80_form.specs.Definition.{IsNoDefinition}
 use Rattle.s80_disk.specs.Image.{Image}
 use Rattle.s80_disk.specs.Moments.{LeavesOnly}
 use Rattle.s80_doit.specs.DoIt.{AreGiven, Fits, IsRunOf, is_stopped}
 use Rattle.s80_keeper.specs.Keeper.{KeeperState, Keeps}
 use Rattle.s80_machine.specs.Came.{RanValue}
-use Rattle.s80_outcome.specs.Outcome.{outcome_text}
-use Rattle.s80_state.specs.List.{add, added, refusal_to, state_of}
-use Rattle.s80_state.specs.State.{State}
-use Rattle.s80_state.specs.System.{IsSystemOf, SystemState}
-use Rattle.s80_state.proofs.Lists.{state_more}
+use Rattle.s80_print.specs.Outcome.{outcome_text}
+use Rattle.s80_apply.specs.List.{add, added, refusal_to, state_of}
+use Rattle.s80_apply.specs.State.{State}
+use Rattle.s80_apply.specs.System.{IsSystemOf, SystemState}
+use Rattle.s80_apply.proofs.Lists.{state_more}
 use Rattle.s80_model.specs.declared.item.SessionItem.TheVariants.{Chunk}
 use Rattle.s80_model.specs.declared.reply.Reply.{Reply}
 use Rattle.s80_model.specs.declared.reply.Reply.TheVariants.{Accepted, Evaluated, Refused}

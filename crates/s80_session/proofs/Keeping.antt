@@ -1,10 +1,10 @@
 -- A keeper at work on a disk, and what a crash now leaves of it.
 use Rattle.std.proofs.Common.{◌≡◌, inr, List, Bool, take, sym, subst, ◌∙◌}
-use Rattle.s80_block.specs.declared.change.Change.{Change}
+use Rattle.s80_change.specs.declared.change.Change.{Change}
 use Rattle.s80_disk.specs.Image.{Image}
 use Rattle.s80_log.specs.Log.{log_file}
-use Rattle.s80_state.specs.List.{state_of}
-use Rattle.s80_state.specs.System.{IsSystemOf}
+use Rattle.s80_apply.specs.List.{state_of}
+use Rattle.s80_apply.specs.System.{IsSystemOf}
 use Rattle.s80_keeper.specs.Keeper.{KeeperState, Keeps, Knows}
 use Rattle.s80_keeper.specs.Standing.{FilesStandFor, StandsFor}
 use Rattle.s80_keeper.proofs.Standing.{stands_leaves}

@@ -2,25 +2,25 @@
 use Rattle.std.proofs.Common.{◌≡◌, ◌≤◌, ℕ, List, ◌∷◌, [], length, Bool, cond, true, false, refl, sym, subst, Option, Some, None}
 use Rattle.std.specs.FinMap as map
 use Rattle.s80_chunk.specs.Chunks.{IsChunkText, longest}
-use Rattle.s80_block.specs.declared.change.Change.TheVariants.{Define, Method}
-use Rattle.s80_block.specs.declared.change.Method.{Method as MethodChange}
-use Rattle.s80_block.specs.Block.{blocks, IsLawfulMethod}
-use Rattle.s80_block.specs.declared.change.Change.{Change}
-use Rattle.s80_change.specs.declared.definition.Definition.{Definition}
-use Rattle.s80_change.specs.declared.refusal.Refusal.{Refusal}
-use Rattle.s80_change.specs.declared.refusal.Refusal.TheVariants.{UnknownClass}
+use Rattle.s80_change.specs.declared.change.Change.TheVariants.{Define, Method}
+use Rattle.s80_change.specs.declared.change.Method.{Method as MethodChange}
+use Rattle.s80_change.specs.Block.{blocks, IsLawfulMethod}
+use Rattle.s80_change.specs.declared.change.Change.{Change}
+use Rattle.s80_form.specs.declared.definition.Definition.{Definition}
+use Rattle.s80_form.specs.declared.refusal.Refusal.{Refusal}
+use Rattle.s80_form.specs.declared.refusal.Refusal.TheVariants.{UnknownClass}
 use Rattle.s80_class.proofs.Most.{some_row}
 use Rattle.s80_class.specs.Classes.{Name, Classes}
-use Rattle.s80_section.specs.declared.head.SectionHead.{SectionHead}
-use Rattle.s80_section.specs.declared.source_check.SourceCheck.{SourceCheck}
-use Rattle.s80_section.specs.declared.source_check.SourceCheck.TheVariants as checks
-use Rattle.s80_section.specs.Check.{IsCheckOf}
-use Rattle.s80_state.specs.State.{State}
-use Rattle.s80_state.specs.System.{IsChecked}
-use Rattle.s80_state.specs.Accept.{unknown_name, too_many_methods, put_source, accepted, accept_checked, first_some}
-use Rattle.s80_state.specs.List.{IsAccepted, classes_of, state_of}
-use Rattle.s80_state.proofs.Lawful.{accepted_lawful, classes_named}
-use Rattle.s80_state.proofs.Refusing.{none_first}
+use Rattle.s80_change.specs.declared.head.SectionHead.{SectionHead}
+use Rattle.s80_change.specs.declared.source_check.SourceCheck.{SourceCheck}
+use Rattle.s80_change.specs.declared.source_check.SourceCheck.TheVariants as checks
+use Rattle.s80_change.specs.Check.{IsCheckOf}
+use Rattle.s80_apply.specs.State.{State}
+use Rattle.s80_apply.specs.System.{IsChecked}
+use Rattle.s80_apply.specs.Accept.{unknown_name, too_many_methods, put_source, accepted, accept_checked, first_some}
+use Rattle.s80_apply.specs.List.{IsAccepted, classes_of, state_of}
+use Rattle.s80_apply.proofs.Lawful.{accepted_lawful, classes_named}
+use Rattle.s80_apply.proofs.Refusing.{none_first}
 use Rattle.s80_model.specs.Replies.{method_in}
 use Rattle.s80_session.specs.Working.{IsLawfulFor}
 

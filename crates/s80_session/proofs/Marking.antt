@@ -3,7 +3,7 @@ use Rattle.std.proofs.Common.{◌≡◌, inl, inr, ℕ, List, [], Bool, refl, sy
 use Rattle.std.specs.Prelude.{◌||◌}
 use Rattle.std.specs.Io.KnownBytes.{Appends}
 use Rattle.std.proofs.lemmas.List.{append-nil}
-use Rattle.s80_change.specs.Definition.{IsNoDefinition}
+use Rattle.s80_form.specs.Definition.{IsNoDefinition}
 use Rattle.s80_chunk.specs.declared.item.Item.TheVariants as items
 use Rattle.s80_doit.specs.DoIt.{Fits, IsRunOf}
 use Rattle.s80_model.specs.declared.item.SessionItem.{SessionItem}

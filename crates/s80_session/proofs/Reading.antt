@@ -3,7 +3,7 @@ use Rattle.std.proofs.Common.{◌≡◌, inl, ℕ, List, length, sym, ap, subst,
 use Rattle.std.specs.Prelude.{IfErr, ◌↔◌}
 use Rattle.s80_base.specs.Causes.{Rose}
 use Rattle.s80_base.specs.declared.outside.Failed.{Failed}
-use Rattle.s80_change.specs.declared.refusal.Refusal.{Refusal}
+use Rattle.s80_form.specs.declared.refusal.Refusal.{Refusal}
 use Rattle.s80_disk.specs.declared.disk.FileId.{FileId}
 use Rattle.s80_disk.specs.Image.{Image}
 use Rattle.s80_keeper.specs.declared.keep.KeepFault.{KeepFault}

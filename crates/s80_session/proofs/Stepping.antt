@@ -5,10 +5,10 @@ use Rattle.std.proofs.lemmas.List.{append-nil}
 use Rattle.s80_chunk.specs.declared.item.Role.{Role}
 use Rattle.s80_chunk.specs.declared.item.Role.TheVariants as roles
 use Rattle.s80_chunk.specs.declared.item.Item.TheVariants as items
-use Rattle.s80_block.specs.declared.change.Change.{Change}
-use Rattle.s80_block.specs.declared.change.Change.TheVariants.{Define, DoIt}
-use Rattle.s80_change.specs.declared.definition.Definition.{Definition}
-use Rattle.s80_change.specs.declared.refusal.Refusal.{Refusal}
+use Rattle.s80_change.specs.declared.change.Change.{Change}
+use Rattle.s80_change.specs.declared.change.Change.TheVariants.{Define, DoIt}
+use Rattle.s80_form.specs.declared.definition.Definition.{Definition}
+use Rattle.s80_form.specs.declared.refusal.Refusal.{Refusal}
 use Rattle.s80_disk.specs.Image.{Image}
 use Rattle.s80_disk.specs.Moments.{LeavesOnly}
 use Rattle.s80_disk.proofs.Run.{weaker}
@@ -16,10 +16,10 @@ use Rattle.s80_keeper.specs.declared.start.StartFault.{StartFault}
 use Rattle.s80_keeper.specs.declared.start.StartFault.TheVariants as faults
 use Rattle.s80_keeper.specs.Keeper.{KeeperState, Keeps}
 use Rattle.s80_keeper.specs.Start.{Started}
-use Rattle.s80_section.specs.declared.head.SectionHead.{SectionHead}
-use Rattle.s80_section.specs.declared.source_check.SourceCheck.{SourceCheck}
-use Rattle.s80_section.specs.Check.{IsCheckOf}
-use Rattle.s80_state.specs.List.{add, state_of}
+use Rattle.s80_change.specs.declared.head.SectionHead.{SectionHead}
+use Rattle.s80_change.specs.declared.source_check.SourceCheck.{SourceCheck}
+use Rattle.s80_change.specs.Check.{IsCheckOf}
+use Rattle.s80_apply.specs.List.{add, state_of}
 use Rattle.s80_model.specs.declared.item.Query.{Query as SessionQuery}
 use Rattle.s80_model.specs.declared.item.SessionItem.{SessionItem}
 use Rattle.s80_model.specs.declared.item.SessionItem.TheVariants.{Chunk, Unended, Query}

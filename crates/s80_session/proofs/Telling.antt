@@ -3,7 +3,7 @@ use Rattle.std.proofs.Common.{◌≡◌, ℕ, List, sym, ap, ◌∙◌, Option, 
 use Rattle.std.specs.FinMap as map
 use Rattle.s80_base.specs.declared.names.Side.{Side}
 use Rattle.s80_class.specs.Classes.{Name, ClassRow}
-use Rattle.s80_state.specs.State.{State}
+use Rattle.s80_apply.specs.State.{State}
 use Rattle.s80_model.specs.declared.item.Query.TheVariants.{Source}
 use Rattle.s80_model.specs.declared.reply.Reply.{Reply}
 use Rattle.s80_model.specs.Told.{side_named, source_in, source_of_class, source_reply, source_told, told}

@@ -1,9 +1,9 @@
 -- What a plain text asks by itself.
 use Rattle.std.specs.Prelude.{◌≡◌, ℕ, List, Result, Ok, Err, ⊤}
-use Rattle.s80_block.specs.declared.change.Change.TheVariants as changes
-use Rattle.s80_change.specs.Definition.{IsNoDefinition}
-use Rattle.s80_change.specs.declared.refusal.Refused.{Refused}
-use Rattle.s80_change.specs.declared.refusal.Refused.TheVariants as refused
+use Rattle.s80_change.specs.declared.change.Change.TheVariants as changes
+use Rattle.s80_form.specs.Definition.{IsNoDefinition}
+use Rattle.s80_form.specs.declared.refusal.Refused.{Refused}
+use Rattle.s80_form.specs.declared.refusal.Refused.TheVariants as refused
 use Rattle.s80_doit.specs.DoIt.{Fits}
 use Rattle.s80_model.specs.Asked.{AsksPlain, refuses, adds}
 use Rattle.s80_session.specs.declared.plain.Plain.{Plain}

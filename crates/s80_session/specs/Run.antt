@@ -3,7 +3,7 @@ use Rattle.std.specs.Prelude.{◌≡◌, ◌⊎◌, ℕ, ◌^◌, ◌≤◌, ◌
 use Rattle.s80_chunk.specs.declared.item.Item.{Item}
 use Rattle.s80_chunk.specs.Chunks.{Reads, IsReading, IsBlank}
 use Rattle.s80_chunk.specs.Held.{HoldsNoMore}
-use Rattle.s80_block.specs.declared.change.Change.{Change}
+use Rattle.s80_change.specs.declared.change.Change.{Change}
 use Rattle.s80_disk.specs.Image.{Image}
 use Rattle.s80_keeper.specs.Standing.{FilesStandFor, StandsFor}
 use Rattle.s80_model.specs.declared.item.SessionItem.{SessionItem}

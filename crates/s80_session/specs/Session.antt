@@ -1,7 +1,7 @@
 -- What a session holds.
 use Rattle.std.specs.Prelude.{◌≡◌, ◌⊎◌, ◌||◌, ℕ, Bool, List, Option, None, Some, Result, Ok, Err, take}
 use Rattle.std.specs.Io.KnownBytes.{Appends}
-use Rattle.s80_change.specs.Definition.{IsNoDefinition}
+use Rattle.s80_form.specs.Definition.{IsNoDefinition}
 use Rattle.s80_chunk.specs.declared.item.Item.TheVariants as items
 use Rattle.s80_doit.specs.DoIt.{Fits, IsRunOf}
 use Rattle.s80_keeper.specs.Keeper.{KeeperState}

@@ -4,10 +4,10 @@ use Rattle.s80_chunk.specs.declared.item.Item.{Item}
 use Rattle.s80_chunk.specs.declared.item.Item.TheVariants as items
 use Rattle.s80_chunk.specs.Chunks.{Reads, IsChunkText, IsSound, longest}
 use Rattle.s80_chunk.specs.Held.{Held, HasRead, HoldsNoMore}
-use Rattle.s80_block.specs.declared.change.Change.{Change}
-use Rattle.s80_block.specs.Block.{blocks, IsLawful}
-use Rattle.s80_state.specs.Accept.{accept}
-use Rattle.s80_state.specs.List.{IsAccepted, state_of, add}
+use Rattle.s80_change.specs.declared.change.Change.{Change}
+use Rattle.s80_change.specs.Block.{blocks, IsLawful}
+use Rattle.s80_apply.specs.Accept.{accept}
+use Rattle.s80_apply.specs.List.{IsAccepted, state_of, add}
 use Rattle.s80_keeper.specs.Keeper.{Keeps, Knows}
 use Rattle.s80_disk.specs.Image.{Image}
 use Rattle.s80_keeper.specs.Standing.{FilesStandFor}
@@ -19,13 +19,13 @@ use Rattle.s80_model.specs.declared.reply.Reply.{Reply}
 use Rattle.s80_model.specs.declared.reply.Reply.TheVariants.{Evaluated}
 use Rattle.s80_doit.specs.DoIt.{AreGiven, IsRunOf, is_stopped}
 use Rattle.s80_machine.specs.Came.{RanValue}
-use Rattle.s80_outcome.specs.Outcome.{outcome_text}
+use Rattle.s80_print.specs.Outcome.{outcome_text}
 use Rattle.s80_model.specs.Asked.{Ask, evaluates}
 use Rattle.s80_model.specs.Replies.{IsAnswer, Work, AsksIn, AllAsk, begun, kept, list_or, reply_to_adding, reply_to, reply_text, is_trouble, work_after, work_after_all, list_after_all, replies, any_trouble}
 use Rattle.s80_session.specs.declared.session.Session.{Session}
 use Rattle.s80_session.specs.declared.end.SessionEnd.{SessionEnd}
 use Rattle.s80_session.specs.declared.end.SessionEnd.TheVariants as ends
-use Rattle.s80_change.specs.declared.refusal.Refusal.{Refusal}
+use Rattle.s80_form.specs.declared.refusal.Refusal.{Refusal}
 use Rattle.s80_session.specs.Ends.{reply_to_keeping}
 use Rattle.s80_session.specs.Session.{budget_of, keeper_of, last_run_of, section_of, troubled_of}
 use Rattle.s80_session.specs.Run.{Shown, ShownFor, HasKept, chunks, input_limit, Ends}

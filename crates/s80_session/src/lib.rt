@@ -11,4 +11,5 @@ mod told;
 
 pub use end::SessionEnd;
 pub use outside::put_all;
+pub use s80_model::{Query, SessionItem};
 pub use session::Session;

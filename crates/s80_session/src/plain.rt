@@ -3,8 +3,8 @@ ghost use Rattle.std.specs.Prelude.{◌≤◌, length};
 ghost use Rattle.s80_session.specs.Plain.{IsPlain};
 
 use s80_base::Text;
-use s80_change::{Definition, Recognised, Refused, recognise};
-use s80_section::{size_refusal, syntax_refusal};
+use s80_change::{size_refusal, syntax_refusal};
+use s80_form::{Definition, Recognised, Refused, recognise};
 use s80_syntax::parse_doit;
 use std::alloc::Global;
 

@@ -5,7 +5,7 @@ ghost use Rattle.s80_session.specs.Ends.{refusal_at_fault, reply_to_keeping};
 
 use crate::end::SessionEnd;
 use s80_base::{OutOfMemory, Text};
-use s80_change::Refusal;
+use s80_form::Refusal;
 use s80_keeper::KeepFault;
 use s80_model::Reply;
 use s80_print::refusal_text;

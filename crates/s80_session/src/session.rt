@@ -1,12 +1,12 @@
 // A session works items: it keeps what they change, and answers them.
 ghost use Rattle.std.specs.Prelude.{◌≡◌, ◌≢◌, ◌<◌, ◌≤◌, ℕ, false, List, ◌++◌, length, option_map, Some, IsTrue, IfErr, IfOk, OnOk};
-ghost use Rattle.s80_block.specs.declared.change.Change.{Change};
+ghost use Rattle.s80_change.specs.declared.change.Change.{Change};
 ghost use Rattle.s80_chunk.specs.declared.item.Item.TheVariants as items;
 ghost use Rattle.s80_disk.specs.declared.disk.FileId.{FileId};
 ghost use Rattle.s80_disk.specs.declared.disk.FileId.TheVariants.{Mark};
 ghost use Rattle.s80_disk.specs.Moments.{LeavesOnly};
 ghost use Rattle.s80_mark.specs.Found.{longer_log};
-ghost use Rattle.s80_state.specs.System.{IsChecked};
+ghost use Rattle.s80_apply.specs.System.{IsChecked};
 ghost use Rattle.s80_keeper.specs.Keeper.{Knows};
 ghost use Rattle.s80_keeper.specs.Standing.{FilesStandFor, ReadsFor, StandsFor};
 ghost use Rattle.s80_keeper.specs.Start.{StartLeaves};
@@ -23,17 +23,16 @@ use crate::plain::{Plain, plain_of};
 use crate::reply::{refusal_at_fault, refusal_line, reply_to_keeping};
 use crate::told::{tell_browsed, tell_classes, tell_recovered};
 use s80_base::{OutOfMemory, Text};
-use s80_block::Change;
-use s80_change::{FitWord, Refusal, Refused};
+use s80_change::{Change, check_source};
 use s80_chunk::{Item, LONGEST, Role};
 use s80_disk::Outside;
 use s80_doit::{answer as answer_of, compile, evaluate, is_stopped};
+use s80_form::{FitWord, Refusal, Refused};
 use s80_keeper::Keeper;
 use s80_machine::Ran;
 use s80_model::{
     Answer, Query, Reply, Section, SessionItem, head_answer, method_of, side_named, too_long_answer,
 };
-use s80_section::check_source;
 use s80_verify::Verified;
 use std::alloc::Global;
 
@@ -52,7 +51,7 @@ pub struct Session {
 }
 
 impl Session {
-    ghost use Rattle.s80_change.specs.Definition.{IsNoDefinition};
+    ghost use Rattle.s80_form.specs.Definition.{IsNoDefinition};
     ghost use Rattle.s80_chunk.specs.Chunks.{IsChunkText, longest};
     ghost use Rattle.s80_doit.specs.DoIt.{Fits, IsDoItCode};
     ghost use Rattle.s80_session.specs.Ending.{IsWorkEnd};

@@ -1,15 +1,14 @@
 // What queries are told of classes and methods.
 ghost use Rattle.std.specs.Prelude.{◌≡◌, ℕ, IfOk};
-ghost use Rattle.s80_state.specs.State.{State};
-ghost use Rattle.s80_state.specs.System.{IsSystemOf};
+ghost use Rattle.s80_apply.specs.State.{State};
+ghost use Rattle.s80_apply.specs.System.{IsSystemOf};
 ghost use Rattle.s80_model.specs.declared.item.Query.TheVariants.{Recover, Classes, Browse};
 ghost use Rattle.s80_model.specs.Told.{told};
 
+use s80_apply::System;
 use s80_base::{OutOfMemory, Text};
-use s80_change::{Refusal, is_name};
-use s80_model::Reply;
-use s80_state::System;
-use s80_told::{browse_text, classes_text, recovered_text};
+use s80_form::{Refusal, is_name};
+use s80_model::{Reply, browse_text, classes_text, recovered_text};
 use std::alloc::Global;
 
 /// How much there is, with so many changes kept.

@@ -1,16 +1,12 @@
 // Changes: the items of an input, definitions, names, blocks, the kernel's rows, and refusals.
 use anyhow::{Context, Result, bail, ensure};
 use s80_base::{Side, Text};
-use s80_block::{Change, FirstBlock, Method, block_text, first_block};
-use s80_change::{
-    ManyKind, Recognised, Refusal, definition_text, is_class_name, is_name, recognise,
-};
+use s80_change::{Change, FirstBlock, Method, SourceCheck, block_text, first_block};
 use s80_chunk::{Item, Rest, Role, read_pieces};
-use s80_kernel::{class_rows, kernel_text};
-use s80_kernel_methods::{KernelMethod, method_rows};
+use s80_form::{ManyKind, Recognised, Refusal, definition_text, is_class_name, is_name, recognise};
+use s80_kernel::{KernelMethod, class_rows, kernel_text, method_rows};
 use s80_print::refusal_text;
 use s80_rows::bytes;
-use s80_section::SourceCheck;
 use s80_syntax::{ParseFault, parse_doit};
 use std::alloc::Global;
 

@@ -15,8 +15,8 @@ use crate::applied::Applied;
 use crate::classes::{can_be_new, kind_of_class, variables_of};
 use crate::stop::Stop;
 use s80_base::{OutOfMemory, Side};
-use s80_change::Kind;
 use s80_class::ClassTable;
+use s80_form::Kind;
 use s80_object::{BodyKind, ObjectFault, Objects, Value};
 use std::alloc::Global;
 

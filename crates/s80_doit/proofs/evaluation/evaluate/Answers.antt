@@ -1,7 +1,7 @@
 use Rattle.std.proofs.Common.{◌∙◌, ap, sym, length}
 use Rattle.s80_class.specs.Table.{Table}
 use Rattle.s80_dict.specs.Table.{MethodsValue}
-use Rattle.s80_state.specs.Entries.{Entry}
+use Rattle.s80_apply.specs.Entries.{Entry}
 use Rattle.s80_doit.proofs.Ran.{is_run}
 use Rattle.s80_doit.proofs.evaluation.evaluate.Goals as goal
 

@@ -1,6 +1,6 @@
 use Rattle.std.proofs.Common.{Ok, Err, refl, sym, arith, subst}
-use Rattle.s80_change.specs.declared.refusal.Refusal.TheVariants.{LogFull}
-use Rattle.s80_state.specs.System.{Prepares}
+use Rattle.s80_form.specs.declared.refusal.Refusal.TheVariants.{LogFull}
+use Rattle.s80_apply.specs.System.{Prepares}
 use Rattle.s80_keeper.proofs.Accepted.{refuses_so, refuses_full}
 use Rattle.s80_keeper.proofs.Replayed.{accepted_so}
 use Rattle.s80_keeper.proofs.start.accept.Goals as goal

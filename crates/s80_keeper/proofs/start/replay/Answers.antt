@@ -1,7 +1,7 @@
 use Rattle.std.proofs.Common.{◌<◌, ℕ, IsTrue, List, length, take, drop, Err, arith, rules, refl, ap, subst, ◌∙◌}
 use Rattle.std.proofs.lemmas.Result.{err_from_is_err_and}
 use Rattle.s80_log.specs.Log.{log_file, held_in}
-use Rattle.s80_block.specs.Blocks.{BeginsWith, BeginsWithNone}
+use Rattle.s80_change.specs.Blocks.{BeginsWith, BeginsWithNone}
 use Rattle.s80_log.specs.Faults.{IfBad}
 use Rattle.s80_keeper.proofs.OneList.{block_length}
 use Rattle.s80_keeper.proofs.Replayed.{lawful_checked, no_disk, replayed_more, replayed_refused, replayed_bad, replayed_all, held_length}

@@ -3,8 +3,8 @@ use Rattle.std.proofs.lemmas.Result.{IfOk-weaker}
 use Rattle.s80_grammar.specs.Faults.{IsDoItText}
 use Rattle.s80_syntax.specs.declared.fault.ParseFault.{ParseFault}
 use Rattle.s80_syntax.specs.Text.{IsFaultOf}
-use Rattle.s80_section.specs.declared.head.HeadFault.{HeadFault}
-use Rattle.s80_section.specs.Head.{IsHeadFault}
+use Rattle.s80_change.specs.declared.head.HeadFault.{HeadFault}
+use Rattle.s80_change.specs.Head.{IsHeadFault}
 use Rattle.s80_model.specs.declared.reply.Answer.{Answer}
 use Rattle.s80_model.specs.Asked.{Ask, AsksHead, opens}
 use Rattle.s80_model.specs.Replies.{IsAnswer}

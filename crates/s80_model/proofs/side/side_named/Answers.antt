@@ -2,7 +2,7 @@ use Rattle.std.proofs.Common.{◌≡◌, ◌≢◌, ◌++◌, ◌-◌, ◌∙◌
 use Rattle.std.proofs.lemmas.Bool.Decides.{Decides-eqb}
 use Rattle.std.proofs.lemmas.Slice.Eq.{strip_suffix_is}
 use Rattle.s80_base.specs.declared.names.Side.TheVariants.{Class}
-use Rattle.s80_change.specs.Name.{is_name}
+use Rattle.s80_form.specs.Name.{is_name}
 use Rattle.s80_model.proofs.Naming.{class_named, no_class_named, no_side_named}
 use Rattle.s80_model.proofs.side.side_named.Goals as goal
 use Rattle.s80_model.proofs.side.side_named.Goals.{in_default-via-in-Some+else-is_name-2, in_default-via-in_default}

@@ -1,5 +1,5 @@
 use Rattle.std.proofs.Common.{List, ℕ, sym, subst, ◌∙◌}
-use Rattle.s80_block.specs.declared.change.Change.{Change}
+use Rattle.s80_change.specs.declared.change.Change.{Change}
 use Rattle.s80_disk.specs.Moments.{LeavesOnly}
 use Rattle.s80_session.specs.Run.{shown}
 use Rattle.s80_program.specs.Command.{Command, item_for}

@@ -1,7 +1,7 @@
 use Rattle.std.proofs.Common.{inl, refl, sym, ◌∙◌, subst}
 use Rattle.s80_tree.specs.Tree.{doit_of}
-use Rattle.s80_change.specs.declared.form.Recognised.{Recognised}
-use Rattle.s80_change.specs.Form.{Recognises}
+use Rattle.s80_form.specs.declared.form.Recognised.{Recognised}
+use Rattle.s80_form.specs.Form.{Recognises}
 use Rattle.s80_session.proofs.Asking.{doit_fits}
 use Rattle.s80_session.proofs.plain.plain_of.Goals as goal
 

@@ -1,11 +1,11 @@
 use Rattle.std.proofs.Common.{◌≡◌, ◌⊎◌, ◌+◌, ◌++◌, ◌∷◌, [], List, length, refl, sym, ap, ◌∙◌, subst, arith, rules}
-use Rattle.s80_block.specs.declared.change.Change.{Change}
-use Rattle.s80_block.specs.Block.{block, IsLawful}
+use Rattle.s80_change.specs.declared.change.Change.{Change}
+use Rattle.s80_change.specs.Block.{block, IsLawful}
 use Rattle.s80_disk.specs.Image.{Image}
 use Rattle.s80_disk.specs.Moments.{LeavesOnly}
 use Rattle.s80_disk.proofs.Run.{weaker}
 use Rattle.s80_mark.specs.declared.mark.MarkState.{MarkState}
-use Rattle.s80_state.specs.List.{IsBuilt, state_of}
+use Rattle.s80_apply.specs.List.{IsBuilt, state_of}
 use Rattle.s80_log.specs.Log.{log_file}
 use Rattle.s80_log.specs.Commit.{next_mark}
 use Rattle.s80_keeper.specs.Keeper.{KeeperState, Keeps}

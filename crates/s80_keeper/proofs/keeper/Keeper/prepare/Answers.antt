@@ -1,10 +1,10 @@
 use Rattle.std.proofs.Common.{◌≡◌, ◌+◌, ◌<◌, ◌≤◌, length, Err, arith, rules, tests, sym, ap, ◌∙◌, subst}
 use Rattle.std.proofs.lemmas.Result.{err_from_is_err_and}
-use Rattle.s80_change.specs.declared.refusal.Refused.TheVariants.{Refusal}
-use Rattle.s80_change.specs.declared.refusal.Refusal.TheVariants.{LogFull}
-use Rattle.s80_block.specs.Block.{log_limit}
-use Rattle.s80_state.specs.State.{State}
-use Rattle.s80_state.specs.System.{IsSystemOf}
+use Rattle.s80_form.specs.declared.refusal.Refused.TheVariants.{Refusal}
+use Rattle.s80_form.specs.declared.refusal.Refusal.TheVariants.{LogFull}
+use Rattle.s80_change.specs.Block.{log_limit}
+use Rattle.s80_apply.specs.State.{State}
+use Rattle.s80_apply.specs.System.{IsSystemOf}
 use Rattle.s80_keeper.specs.Keeper.{KeeperState}
 use Rattle.s80_keeper.specs.Answers.{Prepares}
 use Rattle.s80_keeper.proofs.Preparing.{prepares_none, prepares_full, prepares_some}

@@ -1,11 +1,11 @@
 use Rattle.std.proofs.Common.{◌≡◌, ◌∙◌, IsTrue, List, None, Some, Ok, Err, option_map, sym, ap, subst}
 use Rattle.std.specs.FinMap as map
 use Rattle.std.specs.Option.{option_copied}
-use Rattle.s80_block.specs.declared.change.Change.{Change}
+use Rattle.s80_change.specs.declared.change.Change.{Change}
 use Rattle.s80_dict.specs.Table.{methods_at, dict_at}
-use Rattle.s80_state.specs.State.{MethodRow}
-use Rattle.s80_state.specs.Source.{StandsAt}
-use Rattle.s80_state.specs.List.{state_of}
+use Rattle.s80_apply.specs.State.{MethodRow}
+use Rattle.s80_apply.specs.Source.{StandsAt}
+use Rattle.s80_apply.specs.List.{state_of}
 use Rattle.s80_log.specs.Log.{held_in}
 use Rattle.s80_log.specs.Faults.{IfBad}
 use Rattle.s80_log.specs.declared.read.BlockFault.{BlockFault}

@@ -1,6 +1,6 @@
 use Rattle.std.proofs.Common.{◌+◌, ℕ, List, length, IsTrue, ap, ◌∙◌, rules, tests, refl}
 use Rattle.std.proofs.lemmas.Result.{err_from_is_err_and}
-use Rattle.s80_block.specs.declared.change.Change.{Change}
+use Rattle.s80_change.specs.declared.change.Change.{Change}
 use Rattle.s80_disk.specs.Image.{Image, Torn, OnFile, Follows}
 use Rattle.s80_disk.specs.Moments.{Beside, LeavesOnly}
 use Rattle.s80_disk.proofs.Run.{started, goes_on}

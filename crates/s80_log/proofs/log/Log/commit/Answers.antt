@@ -1,5 +1,5 @@
 use Rattle.std.proofs.Common.{◌≡◌, ℕ, List, length, sym, ap, subst, refl}
-use Rattle.s80_block.specs.declared.change.Change.{Change}
+use Rattle.s80_change.specs.declared.change.Change.{Change}
 use Rattle.s80_disk.specs.declared.disk.FileId.{FileId}
 use Rattle.s80_disk.specs.Image.{Image, Only}
 use Rattle.s80_disk.specs.Moments.{LeavesOnly}

@@ -1,6 +1,6 @@
 use Rattle.std.proofs.Common.{◌≡◌, take, drop, IsTrue, arith, ap, ◌∙◌}
 use Rattle.s80_log.specs.Log.{held_in, log_file}
-use Rattle.s80_block.specs.Blocks.{AreUnended}
+use Rattle.s80_change.specs.Blocks.{AreUnended}
 use Rattle.s80_log.proofs.Reading.{piece_of, begins_whole, none_after, none_whole, held_length}
 use Rattle.s80_log.proofs.log.Log.read_block.Goals as goal
 use Rattle.s80_log.proofs.log.Log.read_block.Goals.{In_ok-change}

@@ -1,8 +1,8 @@
 use Rattle.std.proofs.Common.{◌≡◌, ◌++◌, ◌∷◌, [], ℕ, List, ap, refl, subst, ◌∙◌}
 use Rattle.s80_doit.specs.DoIt.{AreGiven, IsRunOf}
 use Rattle.s80_model.specs.declared.reply.Reply.TheVariants.{Evaluated}
-use Rattle.s80_outcome.specs.Outcome.{outcome_text}
-use Rattle.s80_state.specs.System.{SystemState}
+use Rattle.s80_print.specs.Outcome.{outcome_text}
+use Rattle.s80_apply.specs.System.{SystemState}
 use Rattle.s80_session.specs.Session.{budget_of, keeper_of}
 use Rattle.s80_session.proofs.session.Session.evaluate.Goals as goal
 

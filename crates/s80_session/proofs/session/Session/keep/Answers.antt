@@ -1,16 +1,16 @@
 use Rattle.std.proofs.Common.{◌≡◌, ◌++◌, ◌∷◌, [], ℕ, List, length, None, refl, sym, Result, Ok, Err, ap, subst, ◌∙◌, arith}
 use Rattle.std.specs.Prelude.{IfErr}
 use Rattle.std.proofs.lemmas.Result.{err_from_is_err_and}
-use Rattle.s80_block.specs.declared.change.Change.{Change}
-use Rattle.s80_block.specs.Block.{block, IsLawful}
-use Rattle.s80_change.specs.declared.refusal.Refusal.{Refusal}
-use Rattle.s80_change.specs.declared.refusal.Refused.{Refused}
+use Rattle.s80_change.specs.declared.change.Change.{Change}
+use Rattle.s80_change.specs.Block.{block, IsLawful}
+use Rattle.s80_form.specs.declared.refusal.Refusal.{Refusal}
+use Rattle.s80_form.specs.declared.refusal.Refused.{Refused}
 use Rattle.s80_disk.specs.Moments.{LeavesOnly}
 use Rattle.s80_keeper.specs.declared.keep.KeepFault.TheVariants.{Full}
 use Rattle.s80_keeper.specs.Keeper.{KeeperState, Keeps}
 use Rattle.s80_keeper.specs.Standing.{LeavesEither}
 use Rattle.s80_keeper.specs.Answers.{Prepares}
-use Rattle.s80_state.specs.List.{add, state_of}
+use Rattle.s80_apply.specs.List.{add, state_of}
 use Rattle.s80_model.specs.Replies.{Work}
 use Rattle.s80_session.specs.declared.end.SessionEnd.{SessionEnd}
 use Rattle.s80_session.specs.declared.session.Session.{Session}

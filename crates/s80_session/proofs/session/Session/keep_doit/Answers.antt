@@ -1,16 +1,16 @@
 use Rattle.std.proofs.Common.{inl, inr, ℕ, List, Option, None, Some, Ok, ap, sym, subst, ◌∙◌}
 use Rattle.std.proofs.lemmas.Result.{err_from_is_err_and}
-use Rattle.s80_block.specs.declared.change.Change.TheVariants.{DoIt}
-use Rattle.s80_change.specs.Definition.{IsNoDefinition}
-use Rattle.s80_change.specs.declared.refusal.Refusal.{Refusal}
+use Rattle.s80_change.specs.declared.change.Change.TheVariants.{DoIt}
+use Rattle.s80_form.specs.Definition.{IsNoDefinition}
+use Rattle.s80_form.specs.declared.refusal.Refusal.{Refusal}
 use Rattle.s80_chunk.specs.declared.item.Item.TheVariants as items
 use Rattle.s80_chunk.specs.Chunks.{IsChunkText}
 use Rattle.s80_disk.specs.Moments.{LeavesOnly}
 use Rattle.s80_doit.specs.DoIt.{IsRunOf}
 use Rattle.s80_machine.specs.Came.{RanValue}
-use Rattle.s80_outcome.specs.Outcome.{outcome_text}
-use Rattle.s80_state.specs.List.{state_of}
-use Rattle.s80_state.specs.System.{IsSystemOf, SystemState}
+use Rattle.s80_print.specs.Outcome.{outcome_text}
+use Rattle.s80_apply.specs.List.{state_of}
+use Rattle.s80_apply.specs.System.{IsSystemOf, SystemState}
 use Rattle.s80_model.specs.declared.item.SessionItem.TheVariants.{Chunk}
 use Rattle.s80_model.specs.Asked.{evaluates}
 use Rattle.s80_model.specs.Replies.{AsksIn, Work}

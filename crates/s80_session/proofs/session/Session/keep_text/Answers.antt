@@ -1,8 +1,8 @@
 use Rattle.std.proofs.Common.{inl, ℕ, List, ap, sym, subst, ◌∙◌, Ok, Err}
 use Rattle.std.proofs.lemmas.Result.{err_from_is_err_and}
-use Rattle.s80_block.specs.declared.change.Change.TheVariants.{Define}
-use Rattle.s80_change.specs.Definition.{IsNoDefinition}
-use Rattle.s80_change.specs.declared.refusal.Refused.{Refused}
+use Rattle.s80_change.specs.declared.change.Change.TheVariants.{Define}
+use Rattle.s80_form.specs.Definition.{IsNoDefinition}
+use Rattle.s80_form.specs.declared.refusal.Refused.{Refused}
 use Rattle.s80_chunk.specs.declared.item.Item.TheVariants as items
 use Rattle.s80_chunk.specs.Chunks.{IsChunkText}
 use Rattle.s80_disk.specs.Moments.{LeavesOnly}

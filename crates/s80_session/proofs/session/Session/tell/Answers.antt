@@ -2,8 +2,8 @@ use Rattle.std.proofs.Common.{length, refl, ap, sym, subst, ◌∙◌}
 use Rattle.s80_model.specs.declared.item.Query.{Query as SessionQuery}
 use Rattle.s80_model.specs.declared.item.Query.TheVariants.{Recover, Classes, Browse}
 use Rattle.s80_model.specs.declared.item.SessionItem.TheVariants.{Query}
-use Rattle.s80_state.specs.List.{state_of}
-use Rattle.s80_state.specs.System.{SystemState, IsSystemOf}
+use Rattle.s80_apply.specs.List.{state_of}
+use Rattle.s80_apply.specs.System.{SystemState, IsSystemOf}
 use Rattle.s80_session.specs.Run.{shown}
 use Rattle.s80_session.specs.Working.{Replied}
 use Rattle.s80_session.proofs.Lasting.{nothing_happens}

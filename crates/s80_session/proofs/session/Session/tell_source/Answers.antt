@@ -2,7 +2,7 @@ use Rattle.std.specs.Prelude.{IfErr}
 use Rattle.std.proofs.Common.{◌≡◌, inl, ◌++◌, ◌∷◌, [], ℕ, List, Option, Some, None, Result, Ok, Err, length, refl, ap, sym, subst, ◌∙◌, arith}
 use Rattle.std.proofs.lemmas.Result.{err_from_is_err_and}
 use Rattle.std.specs.FinMap as map
-use Rattle.s80_change.specs.declared.refusal.Refusal.{Refusal}
+use Rattle.s80_form.specs.declared.refusal.Refusal.{Refusal}
 use Rattle.s80_class.specs.Classes.{Classes}
 use Rattle.s80_class.specs.Table.{IsNumberOf}
 use Rattle.s80_disk.specs.Moments.{LeavesOnly}
@@ -16,8 +16,8 @@ use Rattle.s80_model.specs.declared.reply.Reply.{Reply}
 use Rattle.s80_model.specs.declared.reply.Reply.TheVariants as replies
 use Rattle.s80_model.specs.Replies.{Work}
 use Rattle.s80_model.specs.Told.{source_in, source_told}
-use Rattle.s80_state.specs.List.{state_of}
-use Rattle.s80_state.specs.System.{SystemState}
+use Rattle.s80_apply.specs.List.{state_of}
+use Rattle.s80_apply.specs.System.{SystemState}
 use Rattle.s80_session.specs.declared.end.SessionEnd.{SessionEnd}
 use Rattle.s80_session.specs.declared.session.Session.{Session}
 use Rattle.s80_session.specs.Ending.{EndsForReasonOrDamage, Faults, NoFewer, faults}

@@ -1,8 +1,8 @@
 use Rattle.std.proofs.Common.{subst, sym, ap, ◌∙◌, refl, Ok, Some}
 use Rattle.s80_chunk.specs.declared.item.Item.TheVariants as items
-use Rattle.s80_change.specs.declared.refusal.Refusal.TheVariants as refusals
+use Rattle.s80_form.specs.declared.refusal.Refusal.TheVariants as refusals
 use Rattle.s80_disk.specs.Moments.{LeavesOnly}
-use Rattle.s80_state.specs.System.{SystemState}
+use Rattle.s80_apply.specs.System.{SystemState}
 use Rattle.s80_model.specs.declared.item.SessionItem.{SessionItem}
 use Rattle.s80_model.specs.declared.item.SessionItem.TheVariants.{Chunk, Unended, Query}
 use Rattle.s80_model.specs.declared.reply.Answer.{Answer}

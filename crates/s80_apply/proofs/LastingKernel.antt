@@ -1,0 +1,207 @@
+-- The classes of the kernel stand in those of each list, and have there what the rows say.
+use Rattle.std.proofs.Common.{◌≡◌, ◌≢◌, ◌≤◌, ◌+◌, ◌∙◌, ◌&&◌, ◌||◌, ℕ, zero, suc, Bool, cond, true, false, nat_le, refl, sym, ap, List, [], ◌∷◌, length, Option, Some, None, is_some, option_map, find, codes, true≢false, arith}
+use Rattle.std.specs.List.{list_all}
+use Rattle.std.specs.Str.{bytes_eq}
+use Rattle.std.specs.Ordering.{nat_cmp}
+use Rattle.std.specs.Cmp.Lexicographic.{slice_cmp, bytes_decides}
+use Rattle.std.specs.FinMap as map
+use Rattle.std.proofs.lemmas.Bool.{and_parts}
+use Rattle.std.proofs.lemmas.Bool.Decides.{nat_tests}
+use Rattle.std.proofs.lemmas.List.Sums.{sum_by-cons}
+use Rattle.s80_kernel.specs.Rows.{KernelRow, kernel_rows, has_name, is_kernel_class}
+use Rattle.s80_change.specs.declared.change.Change.{Change}
+use Rattle.s80_form.specs.declared.definition.Definition.{Definition}
+use Rattle.s80_class.specs.Classes.{Name, ClassRow, Classes, IsLine, Inherited, own_or, effective_kind, bits_variables_of, inherited_in, inherited_of}
+use Rattle.s80_class.proofs.Lines.{Entry, get-inserted, get-elsewhere, eq_not, lineage_line}
+use Rattle.s80_apply.specs.Accept.{row_of, define, refusal_of}
+use Rattle.s80_apply.specs.Kernel.{kernel_row, superclass_of, kernel_classes}
+use Rattle.s80_apply.specs.List.{classes_of}
+use Rattle.s80_apply.proofs.Booted.{built, built_has}
+use Rattle.s80_apply.proofs.Seen.{words_turned}
+use Rattle.s80_apply.proofs.LastingDefined.{accepted_apart}
+use Rattle.s80_apply.proofs.LastingLists.{in_each_list}
+
+-- ---- the rows as a map
+
+abbrev pub row_named : List KernelRow → Name → Option KernelRow
+row_named rows name = find (λ row. bytes_eq row.name name) rows
+
+mapped : (b : Bool) (row : KernelRow) (o : Option KernelRow) → cond b (Some (kernel_row row)) (option_map kernel_row o) ≡ option_map kernel_row (cond b (Some row) o)
+mapped true row o = refl
+mapped false row o = refl
+
+get_built : (rows : List KernelRow) (q : Name) → map.get (built rows) q ≡ option_map kernel_row (row_named rows q)
+get_built [] q = map.get-empty (slice_cmp nat_cmp) q
+get_built (row ∷ rows) q =
+    get-inserted (built rows) row.name (kernel_row row) q
+    ∙ (λ i. cond (words_turned q row.name i) (Some (kernel_row row)) (get_built rows q i))
+    ∙ mapped (bytes_eq row.name q) row (row_named rows q)
+
+row_stands : (name : Name) (row : KernelRow) → row_named kernel_rows name ≡ Some row → map.get kernel_classes name ≡ Some (kernel_row row)
+unfolding kernel_classes
+row_stands name row is = get_built kernel_rows name ∙ ap (option_map kernel_row) is
+
+pub has_row : (name : Name) (row : ClassRow) → map.get kernel_classes name ≡ Some row → has_name kernel_rows name ≡ true
+unfolding kernel_classes
+has_row name row is = sym (built_has kernel_rows name) ∙ ap is_some is
+
+has_class : (name : Name) → is_kernel_class name ≡ true → has_name kernel_rows name ≡ true
+unfolding is_kernel_class
+has_class name is = is
+
+is_class : (name : Name) → has_name kernel_rows name ≡ true → is_kernel_class name ≡ true
+unfolding is_kernel_class
+is_class name is = is
+
+-- ---- they stand in each list
+
+abbrev pub Stands : Classes → Type 0
+Stands classes = (name : Name) (row : ClassRow) → map.get kernel_classes name ≡ Some row → map.get classes name ≡ Some row
+
+stands_defined : (d : Definition) (classes : Classes) → refusal_of d classes ≡ None → Stands classes → Stands (define d classes)
+stands_defined d classes none stands name row is =
+    let ne : name ≢ d.class_name = λ same. true≢false (sym (is_class name (has_row name row is)) ∙ ap is_kernel_class same ∙ accepted_apart d classes none) in
+    get-elsewhere classes d.class_name (row_of d (map.get classes d.class_name)) name ne ∙ stands name row is
+
+pub stands_first : Stands kernel_classes
+stands_first = λ name row is. is
+
+pub stands_last : (changes : List Change) → Stands (classes_of changes)
+stands_last changes = in_each_list Stands stands_defined stands_first changes
+
+-- ---- what a class has by the rows
+
+-- a class with what it inherits
+abbrev pub onto : ClassRow → Inherited → Inherited
+onto row above = record {
+  inst_vars = length row.inst_vars + above.inst_vars;
+  class_side_vars = length row.class_side_vars + above.class_side_vars;
+  kind = own_or row.kind above.kind;
+}
+
+abbrev pub with_row : Option KernelRow → (KernelRow → Option Inherited) → Option Inherited
+with_row None up = None
+with_row (Some row) up = option_map (onto (kernel_row row)) (up row)
+
+-- by a line of fewer classes than this; no name stands for none
+abbrev pub has_by : List KernelRow → ℕ → Name → Option Inherited
+has_by rows zero name = None
+has_by rows (suc n) [] = Some (inherited_in [])
+has_by rows (suc n) (b ∷ bytes) = with_row (row_named rows (b ∷ bytes)) (λ row. has_by rows n row.superclass)
+
+abbrev pub holds : (Inherited → Bool) → Option Inherited → Bool
+holds test None = false
+holds test (Some t) = test t
+
+abbrev pub is_by : List KernelRow → ℕ → (Inherited → Bool) → Name → Bool
+is_by rows n test [] = false
+is_by rows n test (b ∷ bytes) = holds test (has_by rows n (b ∷ bytes))
+
+inherited_onto : (e : Entry) (es : List Entry) → inherited_in (e ∷ es) ≡ onto e.1 (inherited_in es)
+inherited_onto e es = λ i. record {
+  inst_vars = sum_by-cons (λ (e : Entry). length e.1.inst_vars) e es i;
+  class_side_vars = sum_by-cons (λ (e : Entry). length e.1.class_side_vars) e es i;
+  kind = own_or e.1.kind (effective_kind es);
+}
+
+some_same : (t u : Inherited) → Some t ≡ Some u → t ≡ u
+some_same t u h = cc
+
+-- in each map where the rows stand
+module _ (rows : List KernelRow) (classes : Classes) (stand : (name : Name) (row : KernelRow) → row_named rows name ≡ Some row → map.get classes name ≡ Some (kernel_row row)) where
+  abbrev HasLine : Name → Inherited → Type 0
+  HasLine name t = (es : List Entry) × IsLine classes (superclass_of name) es × (inherited_in es ≡ t)
+
+  line_by : (n : ℕ) (name : Name) (t : Inherited) → has_by rows n name ≡ Some t → HasLine name t
+  line_by zero name t is = absurd (let bad : None ≡ Some t = is in cc)
+  line_by (suc n) [] t is = ([], tt, some_same (inherited_in []) t is)
+  line_by (suc n) (b ∷ bytes) t is = by_row (λ name t is. line_by n name t is) (row_named rows (b ∷ bytes)) refl is
+    where
+      by_above : ((name : Name) (t : Inherited) → has_by rows n name ≡ Some t → HasLine name t) → (row : KernelRow) → row_named rows (b ∷ bytes) ≡ Some row
+          → (o : Option Inherited) → has_by rows n row.superclass ≡ o → option_map (onto (kernel_row row)) o ≡ Some t → HasLine (b ∷ bytes) t
+      by_above above row named None _ is = absurd (let bad : None ≡ Some t = is in cc)
+      by_above above row named (Some u) up is =
+          let rest = above row.superclass u up in
+          let e : Entry = (b ∷ bytes, kernel_row row) in
+          (e ∷ rest.0, (refl, stand (b ∷ bytes) row named, rest.1), inherited_onto e rest.0 ∙ ap (onto (kernel_row row)) rest.2 ∙ some_same (onto (kernel_row row) u) t is)
+
+      by_row : ((name : Name) (t : Inherited) → has_by rows n name ≡ Some t → HasLine name t) → (o : Option KernelRow) → row_named rows (b ∷ bytes) ≡ o
+          → with_row o (λ row. has_by rows n row.superclass) ≡ Some t → HasLine (b ∷ bytes) t
+      by_row above None named is = absurd (let bad : None ≡ Some t = is in cc)
+      by_row above (Some row) named is = by_above above row named (has_by rows n row.superclass) refl is
+
+  line_is : (n : ℕ) (test : Inherited → Bool) (name : Name) → is_by rows n test name ≡ true → (es : List Entry) × IsLine classes (Some name) es × (test (inherited_in es) ≡ true)
+  line_is n test [] h = absurd (true≢false (sym h))
+  line_is n test (b ∷ bytes) h = go (has_by rows n (b ∷ bytes)) refl h
+    where
+      go : (o : Option Inherited) → has_by rows n (b ∷ bytes) ≡ o → holds test o ≡ true → (es : List Entry) × IsLine classes (Some (b ∷ bytes)) es × (test (inherited_in es) ≡ true)
+      go None is h = absurd (true≢false (sym h))
+      go (Some t) is h = let line = line_by n (b ∷ bytes) t is in (line.0, line.1, ap test line.2 ∙ h)
+
+  pub has_line : (n : ℕ) (test : Inherited → Bool) (name : Name) → is_by rows n test name ≡ true → (es : List Entry) × IsLine classes (Some name) es
+  has_line n test name h = let line = line_is n test name h in (line.0, line.1)
+
+  pub inherits : (n : ℕ) (test : Inherited → Bool) (name : Name) → is_by rows n test name ≡ true → test (inherited_of classes name) ≡ true
+  inherits n test name h = let line = line_is n test name h in ap (λ (es : List Entry). test (inherited_in es)) (lineage_line classes name line.0 line.1) ∙ line.2
+
+-- ---- what the kernel's have
+
+-- no class-side variables, and no variables in a class of bytes or words
+abbrev pub few : Inherited → Bool
+few t = nat_le t.inst_vars 64 && (nat_le t.class_side_vars 0 && nat_le (bits_variables_of t) 0)
+
+abbrev pub bare : Inherited → Bool
+bare t = nat_le t.inst_vars 0
+
+abbrev bare_but_one : Name → Bool
+bare_but_one name = bytes_eq name (codes "Message") || is_by kernel_rows 8 bare name
+
+all_few : list_all (λ row. is_by kernel_rows 8 few row.name) kernel_rows ≡ true
+all_few = refl
+
+all_bare : list_all (λ row. bare_but_one row.name) kernel_rows ≡ true
+all_bare = refl
+
+at_name : (test : Name → Bool) (rows : List KernelRow) (q : Name) → list_all (λ row. test row.name) rows ≡ true → has_name rows q ≡ true → test q ≡ true
+at_name test [] q all h = absurd (true≢false (sym h))
+at_name test (k ∷ rows) q all h =
+    let both = and_parts (test k.name) (list_all (λ row. test row.name) rows) all in
+    elim (bytes_eq k.name q) as (λ b. bytes_eq k.name q ≡ b → (b || has_name rows q) ≡ true → test q ≡ true) [
+      | true ↦ λ is _. ap test (sym ((bytes_decides k.name q).0 is)) ∙ both.0
+      | false ↦ λ _ h'. at_name test rows q both.1 h'
+    ] refl h
+
+pub few_at : (name : Name) → has_name kernel_rows name ≡ true → is_by kernel_rows 8 few name ≡ true
+few_at name has = at_name (is_by kernel_rows 8 few) kernel_rows name all_few has
+
+bare_at : (name : Name) → has_name kernel_rows name ≡ true → name ≢ codes "Message" → is_by kernel_rows 8 bare name ≡ true
+bare_at name has ne = ap (λ b. b || is_by kernel_rows 8 bare name) (sym (eq_not name (codes "Message") ne)) ∙ at_name bare_but_one kernel_rows name all_bare has
+
+pub most_of : (n most : ℕ) → nat_le n most ≡ true → n ≤ most
+most_of n most h = grind (arith, nat_tests)
+
+pub few_parts : (t : Inherited) → few t ≡ true → (t.inst_vars ≤ 64) × (t.class_side_vars ≤ 0) × (bits_variables_of t ≤ 0)
+few_parts t h =
+    let first = and_parts (nat_le t.inst_vars 64) (nat_le t.class_side_vars 0 && nat_le (bits_variables_of t) 0) h in
+    let second = and_parts (nat_le t.class_side_vars 0) (nat_le (bits_variables_of t) 0) first.1 in
+    (most_of t.inst_vars 64 first.0, most_of t.class_side_vars 0 second.0, most_of (bits_variables_of t) 0 second.1)
+
+module _ (classes : Classes) (stands : Stands classes) where
+  stand : (name : Name) (row : KernelRow) → row_named kernel_rows name ≡ Some row → map.get classes name ≡ Some (kernel_row row)
+  stand name row is = stands name (kernel_row row) (row_stands name row is)
+
+  pub kernel_line : (name : Name) → has_name kernel_rows name ≡ true → (es : List Entry) × IsLine classes (Some name) es
+  kernel_line name has = has_line kernel_rows classes stand 8 few name (few_at name has)
+
+  pub kernel_few : (name : Name) → has_name kernel_rows name ≡ true → few (inherited_of classes name) ≡ true
+  kernel_few name has = inherits kernel_rows classes stand 8 few name (few_at name has)
+
+  pub kernel_inst_vars : (name : Name) → is_kernel_class name ≡ true → name ≢ codes "Message" → (inherited_of classes name).inst_vars ≡ 0
+  kernel_inst_vars name is ne =
+      let most : (inherited_of classes name).inst_vars ≤ 0 = most_of (inherited_of classes name).inst_vars 0 (inherits kernel_rows classes stand 8 bare name (bare_at name (has_class name is) ne)) in
+      omega (arith, most)
+
+  pub kernel_class_side_vars : (name : Name) → is_kernel_class name ≡ true → (inherited_of classes name).class_side_vars ≡ 0
+  kernel_class_side_vars name is =
+      let parts = few_parts (inherited_of classes name) (kernel_few name (has_class name is)) in
+      omega (arith, parts.1)

@@ -1,0 +1,197 @@
+-- A system at work: what a step does to it.
+use Rattle.std.specs.Prelude.{◌≡◌, true, ◌<◌, ◌≤◌, ◌-◌, ◌+◌, ◌++◌, ℕ, List, [], ◌∷◌, length, slice_get, cond, Option, Some, None, Result, Ok, Err, ⊤}
+use Rattle.std.specs.FinMap as map
+use Rattle.s80_base.specs.declared.names.Side.{Side}
+use Rattle.s80_dict.specs.Dict.{Methods, HasRoom}
+use Rattle.s80_dict.specs.Table.{MethodsValue, methods_at, room_at, put_at, no_sides}
+use Rattle.s80_change.specs.declared.change.Change.{Change}
+use Rattle.s80_change.specs.declared.change.Change.TheVariants as changes
+use Rattle.s80_change.specs.declared.change.Method.{Method as MethodChange}
+use Rattle.s80_form.specs.declared.definition.Definition.{Definition}
+use Rattle.s80_form.specs.declared.refusal.Refused.{Refused}
+use Rattle.s80_form.specs.declared.refusal.Refused.TheVariants as refused
+use Rattle.s80_class.specs.declared.entry.ClassEntry.{ClassEntry}
+use Rattle.s80_class.specs.Classes.{Name, ClassRow, Classes, is_under}
+use Rattle.s80_class.specs.Table.{Table, IsNumberOf, IsSuperclass, IsAbove, row_of}
+use Rattle.s80_apply.specs.declared.step.Placed.{Placed}
+use Rattle.s80_apply.specs.declared.step.PlacedMethod.{PlacedMethod}
+use Rattle.s80_apply.specs.declared.step.Step.{Step}
+use Rattle.s80_apply.specs.declared.step.Step.TheVariants as steps
+use Rattle.s80_apply.specs.State.{State}
+use Rattle.s80_apply.specs.Accept.{refusal_of, define, accept}
+use Rattle.s80_change.specs.Check.{IsCheckOf}
+use Rattle.s80_apply.specs.Limits.{IsWithin}
+use Rattle.s80_apply.specs.List.{AreOfList}
+use Rattle.s80_apply.specs.Entries.{Entry, AreEntriesOf, row_in}
+use Rattle.s80_apply.specs.Codes.{AreCodes, HasCode, HasCodeAt}
+
+-- the table of classes, and by their numbers the dictionaries
+pub record SystemState : Type 0 where
+  pub table : Table
+  pub methods : MethodsValue Entry
+
+-- ---- what it stands for
+
+-- the system has the classes of this state, and by their numbers the methods
+pub record IsSystemOf (system : SystemState) (state : State) : Type 0 where
+  pub classes : system.table.classes ≡ state.classes
+  pub methods : (number : ℕ) (name : Name) (side : Side) → IsNumberOf system.table.names number name → AreEntriesOf (methods_at system.methods number side) (state.methods name side)
+  -- a name that no class has, has no methods
+  pub others : (name : Name) (side : Side) → map.get state.classes name ≡ None → state.methods name side ≡ map.empty
+
+-- the classes are those of a list and within the limits, each has dictionaries, and each method has the code of its source
+pub record IsSoundSystem (system : SystemState) : Type 0 where
+  pub of_list : AreOfList system.table.classes
+  pub within : IsWithin system.table.classes
+  pub dictionaries : length system.methods.sides ≡ length system.table.names
+  pub codes : AreCodes system.table system.methods
+
+-- the class of this name has this number, and by it dictionaries
+pub record HasNumber (system : SystemState) (name : Name) (number : ℕ) : Type 0 where
+  pub named : IsNumberOf system.table.names number name
+  pub dictionaries : number < length system.methods.sides
+  pub there : (row : ClassRow) × (map.get system.table.classes name ≡ Some row)
+
+-- ---- an entry that is put
+
+-- the entry may be put in place of that of a class, or as a new class, for which there is room
+abbrev pub MayPut : Table → Option ℕ → ClassEntry → Type 0
+MayPut table (Some number) entry = IsNumberOf table.names number entry.class_name × IsAbove table entry.superclass entry.class_name
+MayPut table None entry = (0 < table.spare) × (map.get table.classes entry.class_name ≡ None) × IsSuperclass table.names entry.superclass
+
+-- the classes with an entry
+abbrev pub with_entry : Table → ClassEntry → Classes
+with_entry table entry = map.insert table.classes entry.class_name (row_of table.names entry)
+
+-- the table with an entry: the numbers of the other classes stay, and a new class takes room
+abbrev pub put_at_number : Table → Option ℕ → ClassEntry → Table
+put_at_number table (Some number) entry = record table { classes = with_entry table entry }
+put_at_number table None entry = record { classes = with_entry table entry; names = table.names ++ Some entry.class_name ∷ []; spare = table.spare - 1 }
+
+abbrev pub put : Table → Placed → Table
+put table placed = put_at_number table placed.number placed.entry
+
+-- a new class takes dictionaries without methods
+abbrev pub HasDictionaryRoom : Option ℕ → MethodsValue Entry → Type 0
+HasDictionaryRoom (Some number) methods = ⊤
+HasDictionaryRoom None methods = 0 < methods.spare
+
+abbrev pub with_dictionaries : Option ℕ → MethodsValue Entry → MethodsValue Entry
+with_dictionaries (Some number) methods = methods
+with_dictionaries None methods = record { sides = methods.sides ++ no_sides ∷ []; spare = methods.spare - 1 }
+
+-- a method that is there, with its code for these classes
+pub record IsRecompiled (system : SystemState) (classes : Classes) (p : PlacedMethod) : Type 0 where
+  pub number : p.number < length system.methods.sides
+  pub room : HasRoom (room_at system.methods p.number p.side) p.selector
+  pub before : Entry
+  pub there : map.get (methods_at system.methods p.number p.side) p.selector ≡ Some before
+  pub row : row_in p.entry ≡ row_in before
+  pub class : Name
+  pub named : IsNumberOf system.table.names p.number class
+  pub has_code : HasCode classes class p.side p.selector p.entry
+
+-- these are the methods of the class of this name and of its descendants
+pub record AreRecompiled (system : SystemState) (classes : Classes) (name : Name) (methods : List PlacedMethod) : Type 0 where
+  pub each : (k : ℕ) (p : PlacedMethod) → slice_get methods k ≡ Some p → IsRecompiled system classes p
+  pub all : (number : ℕ) (class : Name) (side : Side) (selector : List ℕ) (entry : Entry) → IsNumberOf system.table.names number class → is_under classes class name ≡ true
+      → map.get (methods_at system.methods number side) selector ≡ Some entry
+      → (k : ℕ) × (p : PlacedMethod) × (slice_get methods k ≡ Some p) × (p.number ≡ number) × (p.side ≡ side) × (p.selector ≡ selector)
+
+-- the methods of one side of a class, with their code for the classes as they are, behind others
+pub record Adds (system : SystemState) (number : ℕ) (side : Side) (before now : List PlacedMethod) : Type 0 where
+  pub more : List PlacedMethod
+  pub behind : now ≡ before ++ more
+  pub each : (k : ℕ) (p : PlacedMethod) → slice_get more k ≡ Some p → IsRecompiled system system.table.classes p
+  pub all : (selector : List ℕ) (entry : Entry) → map.get (methods_at system.methods number side) selector ≡ Some entry
+      → (k : ℕ) × (p : PlacedMethod) × (slice_get more k ≡ Some p) × (p.number ≡ number) × (p.side ≡ side) × (p.selector ≡ selector)
+
+-- the entry may be put: then the classes are within the limits yet, and all methods whose classes it changes have their new code
+pub record CanPut (system : SystemState) (placed : Placed) : Type 0 where
+  pub may_put : MayPut system.table placed.number placed.entry
+  pub within : IsWithin (with_entry system.table placed.entry)
+  pub room : HasDictionaryRoom placed.number system.methods
+  pub recompiled : AreRecompiled system (with_entry system.table placed.entry) placed.entry.class_name placed.recompiled.items
+
+-- each of these methods has room
+abbrev pub HaveRoom : List PlacedMethod → MethodsValue Entry → Type 0
+HaveRoom ps methods = (k : ℕ) (p : PlacedMethod) → slice_get ps k ≡ Some p → (p.number < length methods.sides) × HasRoom (room_at methods p.number p.side) p.selector
+
+-- dictionaries with these methods put, one after the other
+abbrev pub put_all : List PlacedMethod → (ℕ → Side → Methods Entry) → ℕ → Side → Methods Entry
+put_all [] dictionaries = dictionaries
+put_all (p ∷ ps) dictionaries = put_all ps (put_at dictionaries p.number p.side p.selector p.entry)
+
+-- this is the system with the entry, and with the methods that were compiled again
+pub record HasClass (before : SystemState) (placed : Placed) (now : SystemState) : Type 0 where
+  pub table : now.table ≡ put before.table placed
+  pub methods : (n : ℕ) (s : Side) → methods_at now.methods n s ≡ put_all placed.recompiled.items (methods_at (with_dictionaries placed.number before.methods)) n s
+  pub count : length now.methods.sides ≡ length (with_dictionaries placed.number before.methods).sides
+
+-- what preparing a definition answers: the first reason to refuse it, or the entry that makes the class
+abbrev pub Places : Classes → Definition → SystemState → Result Placed Refused → Type 0
+Places classes d now (Ok placed) = (refusal_of d classes ≡ None) × CanPut now placed × (with_entry now.table placed.entry ≡ define d classes)
+Places classes d now (Err (refused.Refusal refusal)) = refusal_of d classes ≡ Some refusal
+Places classes d now (Err refused.Memory) = ⊤
+
+-- ---- a method that is put
+
+-- its class is there, its selector has room on that side, and its code is that of its source
+pub record CanPutMethod (system : SystemState) (placed : PlacedMethod) : Type 0 where
+  pub number : placed.number < length system.methods.sides
+  pub room : HasRoom (room_at system.methods placed.number placed.side) placed.selector
+  pub code : HasCodeAt system.table placed.number placed.side placed.selector placed.entry
+
+-- so many bytes of its block stand before the source; the kernel's text has a source of the kernel's
+abbrev pub offset_in_block : Entry → ℕ
+offset_in_block entry = cond entry.from_kernel 0 entry.position
+
+-- a source in the log stands behind the beginning of its block
+abbrev pub moved : ℕ → Entry → Entry
+moved at entry = record entry { position = cond entry.from_kernel entry.position (at + entry.position) }
+
+-- this is the system with the method of a block that begins at this place: but for that all is as before
+pub record HasMethod (before : SystemState) (placed : PlacedMethod) (at : ℕ) (now : SystemState) : Type 0 where
+  pub table : now.table ≡ before.table
+  pub methods : (n : ℕ) (s : Side) → methods_at now.methods n s ≡ put_at (methods_at before.methods) placed.number placed.side placed.selector (moved at placed.entry) n s
+  pub count : length now.methods.sides ≡ length before.methods.sides
+
+-- ---- a step
+
+-- what is said of the source of a method by itself is so, and it is no longer than a chunk may be
+abbrev pub IsChecked : Change → Type 0
+IsChecked (changes.Method m) = IsCheckOf m.source m.check × (length m.source ≤ 65535)
+IsChecked _ = ⊤
+
+-- the step may be installed
+abbrev pub IsReady : SystemState → Step → Type 0
+IsReady system steps.Nothing = ⊤
+IsReady system (steps.Class placed) = CanPut system placed × AreOfList (with_entry system.table placed.entry)
+IsReady system (steps.Method placed) = CanPutMethod system placed
+
+-- so many bytes of a block stand before what the step tells the place of
+abbrev pub offset_of : Step → ℕ
+offset_of steps.Nothing = 0
+offset_of (steps.Class placed) = 0
+offset_of (steps.Method placed) = offset_in_block placed.entry
+
+-- this is the system after a step whose block begins at this place
+abbrev pub IsInstalled : SystemState → Step → ℕ → SystemState → Type 0
+IsInstalled before steps.Nothing at now = now ≡ before
+IsInstalled before (steps.Class placed) at now = HasClass before placed now
+IsInstalled before (steps.Method placed) at now = HasMethod before placed at now
+
+-- Whatever a step makes of the system, whose block begins at this place, it is what accepting the change makes of the state.
+abbrev pub Makes : SystemState → Step → Change → State → ℕ → Type 0
+Makes system step change state at = (after : State) × (accept change at state ≡ Ok after) × ((now : SystemState) → IsInstalled system step at now → IsSystemOf now after)
+
+-- what preparing a change answers in this state: a step that makes what accepting it makes, or the first reason to refuse it
+abbrev pub Prepares : State → Change → SystemState → Result Step Refused → Type 0
+Prepares state change now (Ok step) = (at : ℕ) → Makes now step change state at
+Prepares state change now (Err (refused.Refusal refusal)) = (at : ℕ) → accept change at state ≡ Err refusal
+Prepares state change now (Err refused.Memory) = ⊤
+
+-- what preparing a method answers in this state
+abbrev pub PlacesMethod : State → MethodChange → SystemState → Result PlacedMethod Refused → Type 0
+PlacesMethod state m now (Ok placed) = Prepares state (changes.Method m) now (Ok (steps.Method placed))
+PlacesMethod state m now (Err refusal) = Prepares state (changes.Method m) now (Err refusal)

@@ -1,0 +1,27 @@
+//! Changes applied: whether the classes and methods accept one, what it makes of them, and what no list of changes alters.
+#![tactic(auto)]
+
+mod checks;
+mod code;
+mod entry;
+mod kernel;
+mod kernel_sources;
+mod lasting;
+mod laws;
+mod method;
+mod recompile;
+mod step;
+mod system;
+
+pub use kernel::boot;
+pub use kernel_sources::kernel_sources_fit;
+pub use lasting::{
+    classes_have_few_variables, classes_of_bits_have_no_variables,
+    kernel_classes_have_their_variables, kernel_classes_last,
+};
+pub use laws::{
+    accepted_classes_are_named, accepted_definitions_are_lawful, kernel_classes_are_named,
+    sources_stand,
+};
+pub use step::{Placed, PlacedMethod, Step};
+pub use system::System;

@@ -1,5 +1,0 @@
-use Rattle.s80_block.proofs.BlockLaws.{block_unique}
-use Rattle.s80_block.proofs.block.blocks_part_in_one_way.Goals as goal
-
-pub returns : goal.returns
-returns c = block_unique

@@ -1,0 +1,63 @@
+-- The blocks of changes in the log.
+use Rattle.std.specs.Prelude.{◌≡◌, ℕ, ◌^◌, ◌≤◌, List, [], ◌∷◌, ◌++◌, length, All}
+use Rattle.std.specs.List.{flat_map}
+use Rattle.s80_chunk.specs.Chunks.{mark, chunk, longest, IsChunkText, IsPlainText}
+use Rattle.s80_change.specs.declared.change.Change.{Change}
+use Rattle.s80_change.specs.declared.change.Change.TheVariants.{Define, Method, DoIt}
+use Rattle.s80_change.specs.declared.change.Method.{Method as MethodChange}
+use Rattle.s80_form.specs.Definition.{definition_text, IsLawfulDefinition, IsNoDefinition}
+use Rattle.s80_form.specs.Name.{IsName}
+use Rattle.s80_change.specs.declared.head.SectionHead.{SectionHead}
+use Rattle.s80_change.specs.Head.{head_text}
+use Rattle.s80_change.specs.Check.{IsCheckOf}
+use Rattle.s80_change.specs.declared.frame.Frame.{Frame}
+use Rattle.s80_change.specs.declared.frame.Frame.TheVariants.{Plain, Section}
+
+-- A frame of a log: a plain text as a chunk, and a line feed; or a section of one method: its head, and the source.
+abbrev pub framed : Frame → List ℕ
+framed (Plain text) = chunk text ++ 10 ∷ []
+framed (Section head source) = mark ∷ chunk head ++ (10 ∷ chunk source ++ (32 ∷ mark ∷ 10 ∷ []))
+
+-- the head of the section in which a method stands
+abbrev pub head_of : MethodChange → SectionHead
+head_of m = record { class_name = m.class_name; side = m.side; category = m.category }
+
+-- a definition and a doIt stand in the log as plain texts, and a method in a section of its own
+abbrev pub frame_of : Change → Frame
+frame_of (Define d) = Plain (definition_text d)
+frame_of (Method m) = Section (head_text (head_of m)) m.source
+frame_of (DoIt text) = Plain text
+
+-- how the log keeps a change
+abbrev pub block : Change → List ℕ
+block change = framed (frame_of change)
+
+-- the log of a list of changes: their blocks, one after the other
+abbrev pub blocks : List Change → List ℕ
+blocks changes = flat_map block changes
+
+-- A method is of a class with a lawful name. Its source is a text of a chunk that isn't too long, and what is said of it by itself is so.
+pub record IsLawfulMethod (m : MethodChange) : Type 0 where
+  pub class_name : IsName m.class_name
+  pub text : IsChunkText m.source
+  pub short : length m.source ≤ longest
+  pub check : IsCheckOf m.source m.check
+
+-- A definition has lawful names. A doIt's text is that of a chunk that isn't too long, doesn't begin as a head does, and is no definition.
+abbrev pub IsLawful : Change → Type 0
+IsLawful (Define d) = IsLawfulDefinition d
+IsLawful (Method m) = IsLawfulMethod m
+IsLawful (DoIt text) = IsPlainText text × IsNoDefinition text
+
+-- the frame is that of no lawful change
+abbrev pub HasNoChange : Frame → Type 0
+HasNoChange frame = (change : Change) → IsLawful change → frame_of change ≡ frame → ⊥
+
+-- the greatest length of a log
+abbrev pub log_limit : ℕ
+log_limit = 2 ^ 30
+
+-- a list of changes that a log keeps
+pub record IsList (changes : List Change) : Type 0 where
+  pub lawful : All IsLawful changes
+  pub within : length (blocks changes) ≤ log_limit

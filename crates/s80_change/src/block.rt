@@ -1,0 +1,142 @@
+// The block of a change: how the log keeps it.
+ghost use Rattle.std.specs.Prelude.{◌≡◌, ◌≤◌, ◌↔◌, ◌++◌, ℕ, List, length, IsTrue, IfOk, MatchOption, MatchBool};
+ghost use Rattle.s80_chunk.specs.Chunks.{IsChunkText, IsPlainText};
+ghost use Rattle.s80_change.specs.declared.change.Change.{Change};
+ghost use Rattle.s80_form.specs.Definition.{IsNoDefinition, IsNoForm, IsSomeDefinition, IsSomeForm};
+ghost use Rattle.s80_tree.specs.Tree.{doit_of};
+ghost use Rattle.s80_change.specs.Block.{block, frame_of, IsLawful, HasNoChange};
+ghost use Rattle.s80_change.specs.declared.frame.Frame.{Frame};
+
+use crate::change::{Change, Method};
+use crate::check::check_source;
+use crate::frame::Frame;
+use crate::head::SectionHead;
+use crate::logged_head::{head_text, read_head};
+use s80_base::{OutOfMemory, Text};
+use s80_chunk::LONGEST;
+use s80_form::{Recognised, definition_text, read_definition, recognise};
+use s80_syntax::{DoItTree, ParseFault, parse_doit};
+use std::alloc::Global;
+
+/// The block that keeps a change in the log.
+pub fn block_text(alloc: Global, change: &Change) -> Result<Text, OutOfMemory>
+    ensures { IfOk result (λ text. text ≡ block change.now) }
+{
+    frame(alloc, change)?.bytes(alloc)
+}
+
+/// The frame of a change.
+fn frame(alloc: Global, change: &Change) -> Result<Frame, OutOfMemory>
+    ensures { IfOk result (λ frame. frame ≡ frame_of change.now) }
+{
+    match change {
+        Change::Define(definition) => Ok(Frame::Plain(definition_text(alloc, definition)?)),
+        Change::Method(method) => {
+            let head = SectionHead {
+                class_name: method.class_name.copy(alloc)?,
+                side: method.side,
+                category: method.category.copy(alloc)?,
+            };
+            Ok(Frame::Section(head_text(alloc, &head)?, method.source.copy(alloc)?))
+        }
+        Change::DoIt { text } => Ok(Frame::Plain(text.copy(alloc)?)),
+    }
+}
+
+/// The change whose block has this frame, if there is one.
+pub fn read_change(alloc: Global, frame: Frame) -> Result<Option<Change>, OutOfMemory>
+    ensures { IfOk result (λ found. MatchOption found (HasNoChange frame) (λ change. IsLawful change × (frame_of change ≡ frame))) }
+{
+    match frame {
+        Frame::Plain(text) => read_plain(alloc, text),
+        Frame::Section(head, source) => read_method(alloc, &head, source),
+    }
+}
+
+/// The method whose section has this head and this source, if there is one.
+fn read_method(alloc: Global, head: &Text, source: Text) -> Result<Option<Change>, OutOfMemory>
+    ensures { IfOk result (λ found. MatchOption found (HasNoChange (Frame.Section head.now source)) (λ change. IsLawful change × (frame_of change ≡ Frame.Section head.now source))) }
+{
+    let Some(head) = read_head(alloc, head)? else {
+        return Ok(None);
+    };
+    if !is_short_text(source.bytes()) {
+        return Ok(None);
+    }
+    let check = check_source(alloc, &source)?;
+    Ok(Some(Change::Method(Method {
+        class_name: head.class_name,
+        side: head.side,
+        category: head.category,
+        source,
+        check,
+    })))
+}
+
+/// Whether a text is that of a chunk, and not too long.
+fn is_short_text(text: &[u8]) -> bool
+    ensures { IsTrue result ↔ (IsChunkText text.now × (length text.now ≤ 65535)) }
+{
+    match text.first() {
+        None | Some(b' ' | b'\t' | b'\n' | b'\x0c' | b'\r') => false,
+        Some(_) => text.len() <= LONGEST,
+    }
+}
+
+/// The change whose plain text this is, if there is one.
+fn read_plain(alloc: Global, text: Text) -> Result<Option<Change>, OutOfMemory>
+    ensures { IfOk result (λ found. MatchOption found (HasNoChange (Frame.Plain text)) (λ change. IsLawful change × (frame_of change ≡ Frame.Plain text))) }
+{
+    if let Some(definition) = read_definition(alloc, &text)? {
+        return Ok(Some(Change::Define(definition)));
+    }
+    if is_doit(alloc, &text)? {
+        return Ok(Some(Change::DoIt { text }));
+    }
+    Ok(None)
+}
+
+/// Whether a text is that of a doIt that the log keeps.
+fn is_doit(alloc: Global, text: &Text) -> Result<bool, OutOfMemory>
+    ensures { IfOk result (λ is. MatchBool is (IsLawful (Change.DoIt text.now)) (IsLawful (Change.DoIt text.now) → ⊥)) }
+{
+    if !is_plain_text(text.bytes()) {
+        return Ok(false);
+    }
+    Ok(!is_definition(alloc, text)?)
+}
+
+/// Whether a text is a doIt whose tree is the form of a definition.
+fn is_definition(alloc: Global, text: &Text) -> Result<bool, OutOfMemory>
+    requires { length text.now ≤ 65535 }
+    ensures { IfOk result (λ is. MatchBool is (IsSomeDefinition text.now) (IsNoDefinition text.now)) }
+{
+    match parse_doit(alloc, text) {
+        Ok(tree) => is_form(alloc, &tree),
+        Err(ParseFault::Memory) => Err(OutOfMemory),
+        Err(_) => Ok(false),
+    }
+}
+
+/// Whether a tree is the form of a definition.
+fn is_form(alloc: Global, tree: &DoItTree) -> Result<bool, OutOfMemory>
+    ensures { IfOk result (λ is. MatchBool is (IsSomeForm (doit_of tree.now)) (IsNoForm (doit_of tree.now))) }
+{
+    match recognise(alloc, tree)? {
+        Recognised::Define(_) => Ok(true),
+        Recognised::Evaluate => Ok(false),
+    }
+}
+
+/// Whether a text is that of a plain chunk: it isn't too long, and begins with no separator and no mark.
+fn is_plain_text(text: &[u8]) -> bool
+    ensures { IsTrue result ↔ IsPlainText text.now }
+{
+    is_short_text(text) && text.first() != Some(&b'!')
+}
+
+/// Where two texts begin with the block of a lawful change, it is one change: no block begins another, and each has its own.
+pub fn blocks_part_in_one_way()
+    ensures { (c d : Change) (after other : List ℕ) → IsLawful c → IsLawful d → block c ++ after ≡ block d ++ other
+        → (c ≡ d) × (after ≡ other) }
+{}

@@ -1,0 +1,5 @@
+use Rattle.s80_form.proofs.Cuts.{text_same}
+use Rattle.s80_form.proofs.form.one_definition.Goals as goal
+
+pub returns : goal.returns
+returns c = text_same

@@ -1,0 +1,5 @@
+pub mod Refusal
+pub mod Name
+pub mod Definition
+pub mod Form
+pub mod Read

@@ -1,2 +1,0 @@
-mod MethodTests
-mod MethodFacts

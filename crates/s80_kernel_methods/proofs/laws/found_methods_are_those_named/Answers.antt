@@ -1,8 +1,0 @@
-use Rattle.s80_kernel_methods.specs.Methods.{found_method, kernel_methods}
-use Rattle.s80_kernel_methods.proofs.MethodFacts.{all_are_apart, found_exactly}
-use Rattle.s80_kernel_methods.proofs.MethodTests.{all_apart}
-use Rattle.s80_kernel_methods.proofs.laws.found_methods_are_those_named.Goals as goal
-
-pub returns : goal.returns
-unfolding found_method
-returns c = λ class on_class_side selector row. found_exactly kernel_methods class on_class_side selector row (all_are_apart kernel_methods all_apart)

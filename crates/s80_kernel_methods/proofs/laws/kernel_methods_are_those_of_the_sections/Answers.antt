@@ -1,5 +1,0 @@
-use Rattle.s80_kernel_methods.proofs.MethodTests.{all_of_sections}
-use Rattle.s80_kernel_methods.proofs.laws.kernel_methods_are_those_of_the_sections.Goals as goal
-
-pub returns : goal.returns
-returns c = all_of_sections

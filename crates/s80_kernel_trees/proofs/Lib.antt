@@ -1,9 +1,0 @@
-mod Told
-mod Fronts
-mod Scan
-mod Marks
-mod Exprs
-mod Methods
-mod Lawful
-mod Sizes
-mod Sources

@@ -1,4 +1,0 @@
-pub mod Lists
-pub mod Defined
-pub mod Kernel
-pub mod Within

@@ -1,0 +1,91 @@
+-- What is told of the classes and methods of a state.
+use Rattle.std.specs.Prelude.{ℕ, ◌+◌, Bool, false, not, List, [], ◌∷◌, ◌++◌, Option, Some, None, length, codes, decimal, filter, map as list_map, option_map, unwrap_or}
+use Rattle.std.specs.List.{flat_map}
+use Rattle.std.specs.FinMap as map
+use Rattle.std.specs.Str.{bytes_eq}
+use Rattle.std.specs.Ordering.{nat_cmp}
+use Rattle.std.specs.Cmp.Lexicographic.{slice_cmp}
+use Rattle.s80_base.specs.declared.names.Side.TheVariants.{Instance, Class}
+use Rattle.s80_dict.specs.Dict.{Methods}
+use Rattle.s80_lex.specs.Spelling.{quoted}
+use Rattle.s80_kernel.specs.Rows.{is_kernel_class}
+use Rattle.s80_form.specs.declared.definition.Definition.{Definition}
+use Rattle.s80_form.specs.Definition.{definition_text, joined}
+use Rattle.s80_class.specs.Classes.{Name, ClassRow, Classes}
+use Rattle.s80_apply.specs.State.{MethodRow, State}
+
+-- how many classes there are beside the kernel's
+abbrev pub own_classes : Classes → ℕ
+own_classes classes = length (filter (λ name. not (is_kernel_class name)) (map.keys classes))
+
+-- whether a selector has a method that isn't the kernel's in category and source
+abbrev pub is_own : Option MethodRow → Bool
+is_own None = false
+is_own (Some row) = not row.from_kernel
+
+abbrev pub own_methods_in : Methods MethodRow → ℕ
+own_methods_in methods = length (filter (λ selector. is_own (map.get methods selector)) (map.keys methods))
+
+-- how many such methods there are on both sides of some classes
+abbrev pub own_methods_of : State → List Name → ℕ
+own_methods_of state [] = 0
+own_methods_of state (name ∷ names) = (own_methods_in (state.methods name Instance) + own_methods_in (state.methods name Class)) + own_methods_of state names
+
+abbrev pub own_methods : State → ℕ
+own_methods state = own_methods_of state (map.keys state.classes)
+
+-- how much there is
+abbrev pub recovered_text : ℕ → State → List ℕ
+recovered_text count state =
+    (codes "recovered " ++ decimal count) ++ ((codes " changes, " ++ decimal (own_classes state.classes))
+    ++ ((codes " classes, " ++ decimal (own_methods state)) ++ (codes " methods" ++ 10 ∷ [])))
+
+-- the names of all classes in byte order, each in its line
+abbrev pub classes_text : Classes → List ℕ
+classes_text classes = flat_map (λ name. name ++ 10 ∷ []) (map.keys classes)
+
+-- a class as its definition; a class without a superclass shows nil
+abbrev pub definition_of : Name → ClassRow → Definition
+definition_of name row = record {
+  class_name = name;
+  superclass = unwrap_or row.superclass (codes "nil");
+  kind = row.kind;
+  inst_vars = row.inst_vars;
+  class_vars = row.class_vars;
+  pools = row.pools;
+  category = row.category;
+}
+
+-- a line of a word and a string
+abbrev pub string_line : List ℕ → List ℕ → List ℕ
+string_line word text = word ++ (quoted 39 text ++ 10 ∷ [])
+
+-- the lines of a class: its definition, its comment and its class-side variables
+abbrev pub class_text : Name → ClassRow → List ℕ
+class_text name row =
+    (definition_text (definition_of name row) ++ 10 ∷ [])
+    ++ (string_line (codes "comment: ") row.comment ++ string_line (codes "class instanceVariableNames: ") (joined row.class_side_vars))
+
+-- ---- the methods of a class
+
+abbrev pub category_at : Methods MethodRow → List ℕ → List ℕ
+category_at methods selector = unwrap_or (option_map (λ row. row.category) (map.get methods selector)) []
+
+-- the categories of its methods in byte order, each once
+abbrev pub categories : Methods MethodRow → List (List ℕ)
+categories methods = map.keys (map.from_entries {R = slice_cmp nat_cmp} (list_map (λ selector. (category_at methods selector, tt {0})) (map.keys methods)))
+
+-- the selectors of a category in byte order, each behind a space
+abbrev pub selectors_of : Methods MethodRow → List ℕ → List ℕ
+selectors_of methods category = flat_map (λ selector. 32 ∷ selector) (filter (λ selector. bytes_eq (category_at methods selector) category) (map.keys methods))
+
+-- a line for each category, behind this word
+abbrev pub category_lines : List ℕ → Methods MethodRow → List ℕ
+category_lines word methods = flat_map (λ category. word ++ (quoted 39 category ++ (58 ∷ selectors_of methods category ++ 10 ∷ []))) (categories methods)
+
+abbrev pub methods_text : State → Name → List ℕ
+methods_text state name = category_lines [] (state.methods name Instance) ++ category_lines (codes "class ") (state.methods name Class)
+
+-- what is told of the class of this name, where there is one
+abbrev pub browsed : State → Name → Option (List ℕ)
+browsed state name = option_map (λ row. class_text name row ++ methods_text state name) (map.get state.classes name)

@@ -1,6 +1,0 @@
-//! What a doIt comes to, as text.
-#![tactic(auto)]
-
-mod outcome;
-
-pub use outcome::outcome_text;

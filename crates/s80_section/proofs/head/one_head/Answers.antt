@@ -1,5 +1,0 @@
-use Rattle.s80_section.proofs.Heads.{one_head_of}
-use Rattle.s80_section.proofs.head.one_head.Goals as goal
-
-pub returns : goal.returns
-returns c = one_head_of

@@ -1,4 +1,0 @@
-pub mod Check
-pub mod Form
-pub mod Head
-pub mod Parts

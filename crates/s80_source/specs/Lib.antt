@@ -1,2 +1,0 @@
-pub mod Unspelled
-pub mod Read

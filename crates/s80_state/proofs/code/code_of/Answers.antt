@@ -1,5 +1,0 @@
-use Rattle.s80_state.proofs.Few.{few_variables}
-use Rattle.s80_state.proofs.code.code_of.Goals as goal
-
-pub compile_source-requires-clause-few : goal.compile_source-requires-clause-few
-compile_source-requires-clause-few c = few_variables c.args.classes.now c.args.class c.args.side c.requires.within c.shapes_have_as_many_variables.ensures.instance c.shapes_have_as_many_variables.ensures.class

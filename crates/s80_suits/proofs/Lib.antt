@@ -1,7 +1,0 @@
-pub mod Fields
-pub mod Behind
-pub mod Naming
-pub mod Targets
-pub mod Meanings
-pub mod Patterns
-pub mod Suiting

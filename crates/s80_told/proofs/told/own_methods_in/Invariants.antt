@@ -1,6 +1,0 @@
--- The selectors seen, without those of the kernel's methods, were counted.
-use Rattle.s80_told.proofs.Telling.{IsCounted, is_own_in}
-use Rattle.s80_told.proofs.told.own_methods_in.Given as goal
-
-abbrev pub invariant-loop-i : goal.invariant-loop-i
-invariant-loop-i l = IsCounted (is_own_in l.methods.methods) l.selectors-inside.names.items l.i l.count
