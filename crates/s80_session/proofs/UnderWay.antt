@@ -30,6 +30,7 @@ pub record UnderWay {D : Type 0} (tells : D → Bool) (reads : D → Image) (may
   pub input : InputStays (beside start) (beside now)
   pub run : LeavesOnly moment left_since start now (IsAsBefore (may_leave start) (told start) (length piece))
   pub later : write_faults start ≤ write_faults now
+  pub faultless : write_faults now ≡ write_faults start
 
 append-more : (a b c : Option (List ℕ)) (xs ys : List ℕ) → Appends a b xs → Appends b c ys → Appends a c (xs ++ ys)
 append-more None b c xs ys h k = tt
@@ -59,11 +60,12 @@ module _ {D : Type 0} (tells : D → Bool) (reads : D → Image) (may_leave : D 
     input = record { left = refl; read_faults = refl; seconds = refl };
     run = started moment left_since start (IsAsBefore (may_leave start) (told start) (length piece)) (λ n c left. let h = only_now n c left in record { no_fewer = omega (arith, h.1, told_before); no_more = omega (arith, h.1, told_before); was = h.0 });
     later = omega arith;
+    faultless = refl;
   }
 
   -- a put more, of n bytes
-  pub went_on : (mid now : D) (rest : List ℕ) (n : ℕ) → UnderWay tells reads may_leave moment left_since disk_faults beside taken told write_faults start mid piece rest → n ≤ length rest → Appends (taken mid) (taken now) (take n rest) → told now ≡ told mid + n → (beside now).told ≡ told now → FilesStay tells reads may_leave moment left_since disk_faults beside mid now → InputStays (beside mid) (beside now) → write_faults mid ≤ write_faults now → UnderWay tells reads may_leave moment left_since disk_faults beside taken told write_faults start now piece (drop n rest)
-  went_on mid now rest n so_far fits bytes told_is told_beside files input later =
+  pub went_on : (mid now : D) (rest : List ℕ) (n : ℕ) → UnderWay tells reads may_leave moment left_since disk_faults beside taken told write_faults start mid piece rest → n ≤ length rest → Appends (taken mid) (taken now) (take n rest) → told now ≡ told mid + n → (beside now).told ≡ told now → FilesStay tells reads may_leave moment left_since disk_faults beside mid now → InputStays (beside mid) (beside now) → write_faults now ≡ write_faults mid → UnderWay tells reads may_leave moment left_since disk_faults beside taken told write_faults start now piece (drop n rest)
+  went_on mid now rest n so_far fits bytes told_is told_beside files input faultless =
       let size : so_far.count + n ≤ length piece = (let h = ap (λ (l : List ℕ). length l) so_far.rest_is in omega (arith, h, length-drop so_far.count piece, so_far.no_more)) in
       record {
         count = so_far.count + n;
@@ -79,5 +81,6 @@ module _ {D : Type 0} (tells : D → Bool) (reads : D → Image) (may_leave : D 
         files = record { tells_same = files.tells_same ∙ so_far.files.tells_same; reads_same = λ file. files.reads_same file ∙ so_far.files.reads_same file; crash = λ c left. so_far.files.crash c (files.crash c left); no_fault = files.no_fault ∙ so_far.files.no_fault };
         input = record { left = input.left ∙ so_far.input.left; read_faults = input.read_faults ∙ so_far.input.read_faults; seconds = input.seconds ∙ so_far.input.seconds };
         run = goes_on moment left_since may_leave beside start mid now (IsAsBefore (may_leave start) (told start) (length piece)) so_far.run files.time (λ c left. record { no_fewer = omega (arith, told_beside, told_is, so_far.told_is); no_more = omega (arith, told_beside, told_is, so_far.told_is, size); was = so_far.files.crash c (files.crash c left) });
-        later = omega (arith, so_far.later, later);
+        later = omega (arith, so_far.later, faultless);
+        faultless = faultless ∙ so_far.faultless;
       }

@@ -14,4 +14,4 @@ loop-rest-preserved g c =
     let put = c.in_ok-count.ensures in
     let P : List ℕ → Type 0 = λ l. UnderWay D.tells D.reads D.may_leave D.moment D.left_since D.disk_faults D.beside K.taken K.told K.write_faults start c.put_output.new.outside piece l in
     subst P (sym (take_rest rest count))
-    (went_on D.tells D.reads D.may_leave D.moment D.left_since D.disk_faults D.beside K.taken K.told K.write_faults start piece c.loop-rest.outside c.put_output.new.outside rest count c.loop-rest.invariant put.bound put.bytes put.told put.told_beside put.files put.input put.cause.later)
+    (went_on D.tells D.reads D.may_leave D.moment D.left_since D.disk_faults D.beside K.taken K.told K.write_faults start piece c.loop-rest.outside c.put_output.new.outside rest count c.loop-rest.invariant put.bound put.bytes put.told put.told_beside put.files put.input put.cause.faultless)
