@@ -8,8 +8,9 @@ mod spelled;
 
 use anyhow::{Context, Result, bail};
 use s80_base::Text;
+use s80_lex::parameters_of;
 use s80_rows::{input, print, word_of};
-use s80_verify::{parameters_of, verify};
+use s80_verify::verify;
 use std::alloc::Global;
 
 /// What a row shows.

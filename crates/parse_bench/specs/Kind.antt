@@ -1,7 +1,7 @@
 -- What it means that a text has a tree of a kind, or a fault.
 use Rattle.std.specs.Prelude.{ℕ, List, codes}
 use Rattle.s80_tree.specs.Tree.{DoItParts, MethodParts}
-use Rattle.s80_grammar.specs.Faults.{IsDoItText, IsMethodText}
+use Rattle.s80_syntax.specs.Faults.{IsDoItText, IsMethodText}
 use Rattle.s80_syntax.specs.Text.{IsDoItOf, IsFaultOf, IsMethodOf}
 use Rattle.s80_syntax.specs.declared.fault.ParseFault.{ParseFault}
 use Rattle.parse_bench.specs.declared.kind.TextKind.{TextKind}

@@ -2,6 +2,7 @@
 use anyhow::{Context, Result, bail};
 use s80_base::{FixedClock, MemSink, MemSource, OutOfMemory, Source, Text};
 use s80_disk::{Disk, FaultPlan, FileId, MemDisk, MemOutside};
+use s80_keeper::{Keeper, StartFault};
 use s80_program::{Status, st80};
 use s80_rows::bytes;
 use std::alloc::Global;
@@ -42,6 +43,12 @@ pub(crate) fn contents(
     let count = copy.read_at(file, 0, &mut bytes)?;
     bytes.truncate(count);
     Ok(bytes)
+}
+
+/// How many changes a keeper finds, and how long the log is.
+pub(crate) fn found(alloc: Global, disk: &mut MemDisk) -> Result<(u64, u64), StartFault> {
+    let keeper = Keeper::start(alloc, disk)?;
+    Ok((keeper.count(), keeper.log_length()))
 }
 
 /// The plan under which so many calls more are made first.

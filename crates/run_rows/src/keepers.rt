@@ -1,4 +1,4 @@
-// What a keeper has of a folder: the code of its methods, and sources where they stand.
+// What a keeper has of a folder: the code of its methods, sources where they stand, and the room of its log.
 use anyhow::{Context, Result, bail};
 use s80_apply::System;
 use s80_base::{Side, Text};
@@ -6,7 +6,7 @@ use s80_code::Code;
 use s80_dict::MethodEntry;
 use s80_disk::{Disk, FileId, MemDisk};
 use s80_keeper::{Keeper, read_source, unspelled};
-use s80_log::Log;
+use s80_log::{Log, LogFault};
 use s80_rows::bytes;
 use std::alloc::Global;
 
@@ -17,6 +17,7 @@ pub(crate) fn row(alloc: Global, disk: &MemDisk, word: &str, rest: &str) -> Resu
         "unspell" => Ok(Some(unspell(alloc, rest)?)),
         "place" => Ok(Some(place(alloc, disk, rest)?)),
         "reread" => Ok(Some(reread(alloc, disk, rest)?)),
+        "append" => Ok(Some(append(alloc, disk, rest)?)),
         _ => Ok(None),
     }
 }
@@ -156,4 +157,19 @@ fn read_again(
         Err(fault) => out.append(format!(in alloc; "{fault}")?.as_bytes())?,
     }
     Ok(out)
+}
+
+/// What the first log answers to a block: how many of its bytes count, and the size of the block.
+fn append(alloc: Global, disk: &MemDisk, rest: &str) -> Result<Text> {
+    let (length, size) = rest.split_once(' ').context("no size")?;
+    let size: usize = size.parse().context("no number")?;
+    let block = Text::from_vec(vec![in alloc; b'1'; size]?);
+    let mut log = Log::resume(0, length.parse().context("no number")?);
+    let line = match log.append(&mut disk.crash(alloc, 1)?, &block) {
+        Ok(at) => format!(in alloc; "written at {at}\n")?,
+        // The log has room for it. A file in memory that ends before that place has none.
+        Err(LogFault::Disk(failed)) => format!(in alloc; "{failed}\n")?,
+        Err(LogFault::Full(length)) => format!(in alloc; "full at {length}\n")?,
+    };
+    Ok(Text::from_bytes(alloc, line.as_bytes())?)
 }

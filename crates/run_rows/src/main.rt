@@ -1,10 +1,13 @@
 //! Reads rows from standard input and prints behind each what the public calls answer to it: runs of the whole program over disks that fail,
-//! and what is found after crashes. What it is given and what it prints are tables of the repository's tests.
+//! what is found after crashes, and what the disk over real files asks of the system. What it is given and what it prints are tables of
+//! the repository's tests.
 #![tactic(auto)]
 
 mod disks;
 mod keepers;
+mod stops;
 mod sweeps;
+mod system;
 mod trial;
 
 use anyhow::{Context, Result};

@@ -9,7 +9,7 @@ use s80_rows::bytes;
 use std::alloc::Global;
 
 /// What may stand where a crash leaves any bytes, those that open the gate of a slot among it.
-const CHOICES: [u64; 6] = [0, 1, 2, 3, 33, 225];
+pub(crate) const CHOICES: [u64; 6] = [0, 1, 2, 3, 33, 225];
 
 /// How many changes `recover` finds in a folder.
 fn count(alloc: Global, disk: &MemDisk, choice: u64) -> Result<u64> {
@@ -24,7 +24,13 @@ fn count(alloc: Global, disk: &MemDisk, choice: u64) -> Result<u64> {
 }
 
 /// Runs the chunks of an input over a folder whose calls fail from this one on.
-fn stopped(alloc: Global, disk: &MemDisk, room: usize, call: u64, input: &Text) -> Result<Ran> {
+pub(crate) fn stopped(
+    alloc: Global,
+    disk: &MemDisk,
+    room: usize,
+    call: u64,
+    input: &Text,
+) -> Result<Ran> {
     run_planned(alloc, disk, room, FaultPlan::From(call), input)
 }
 

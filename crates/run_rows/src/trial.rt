@@ -1,13 +1,13 @@
 // A folder in memory on which rows work one after the other.
 ghost use Rattle.s80_session.specs.Session.{IsFaultless};
 
-use crate::disks::{Ran, contents, empty, file_named, long, planned, run, words};
-use crate::keepers;
+use crate::disks::{Ran, contents, empty, file_named, found, long, planned, run, words};
+use crate::stops::stops;
 use crate::sweeps::{crashes_of, faults, killed, sweep, sweep_again};
+use crate::{keepers, system};
 use anyhow::{Context, Result, bail};
 use s80_base::{FixedClock, MemSink, MemSource, RepeatSource, Text};
 use s80_disk::{Disk, FaultPlan, FileId, MemDisk, MemOutside};
-use s80_keeper::{Keeper, StartFault};
 use s80_program::Status;
 use s80_rows::bytes;
 use s80_session::Session;
@@ -175,12 +175,14 @@ impl Trial {
         match word {
             "sweep" => self.sweep(alloc, rest),
             "resweep" => self.resweep(alloc, rest),
+            "stops" => self.stops(alloc, rest),
             "faults" => self.faults(alloc, rest),
             "killed" => {
                 let (call, spelled) = number(rest)?;
                 killed(alloc, self.room, call, &bytes::read(alloc, spelled)?)
             }
             "long" => long(alloc, rest),
+            "system" => system::row(alloc, rest),
             "crashes" => crashes_of(alloc, &self.disk, self.room, file_named(rest)?),
             _ => match keepers::row(alloc, &self.disk, word, rest)? {
                 Some(lines) => Ok(lines),
@@ -388,6 +390,14 @@ impl Trial {
         Ok(Text::from_bytes(alloc, line_of(alloc, swept)?.as_bytes())?)
     }
 
+    /// Which lists the files stand for while an input is worked: in each call on the disk from the first to the last, and behind that.
+    fn stops(&self, alloc: Global, rest: &str) -> Result<Text> {
+        let (first, rest) = number(rest)?;
+        let (last, input) = number(rest)?;
+        let input = bytes::read(alloc, input)?;
+        stops(alloc, &self.disk, self.room, (first, last), &input)
+    }
+
     /// The same over each folder that a crash may leave of a run that is stopped at this call.
     fn resweep(&self, alloc: Global, rest: &str) -> Result<Text> {
         let (call, rest) = number(rest)?;
@@ -404,12 +414,6 @@ fn line_of(alloc: Global, swept: (u64, Status)) -> Result<String> {
     Ok(format!(in alloc;
         "{crashes} crashes lose no answered change; the last run ends with {last:?}"
     )?)
-}
-
-/// How many changes a keeper finds, and how long the log is.
-fn found(alloc: Global, disk: &mut MemDisk) -> Result<(u64, u64), StartFault> {
-    let keeper = Keeper::start(alloc, disk)?;
-    Ok((keeper.count(), keeper.log_length()))
 }
 
 /// A session with this budget, which works the whole input.

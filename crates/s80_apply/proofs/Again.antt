@@ -7,7 +7,7 @@ use Rattle.std.specs.FinMap as map
 use Rattle.s80_class.specs.declared.entry.ClassEntry.{ClassEntry}
 use Rattle.s80_class.specs.Classes.{Name, ClassRow, Classes, IsLine, IsValid, is_under}
 use Rattle.s80_class.specs.Table.{Table, IsAbove, IsEntryOf, IsNumberOf, IsSuperclass, name_of, row_of}
-use Rattle.s80_class.proofs.Lines.{Entry as LineEntry, get-elsewhere, get-here, get-inserted, line_across, lineage_line, never_again, passes}
+use Rattle.s80_class.proofs.lemmas.Lines.{Entry as LineEntry, get-elsewhere, get-here, get-inserted, line_across, lineage_line, never_again, passes}
 use Rattle.s80_apply.specs.System.{with_entry}
 use Rattle.s80_apply.proofs.Places.{some_same}
 

@@ -16,13 +16,13 @@ use Rattle.s80_form.specs.Definition.{split_names}
 use Rattle.s80_class.specs.declared.entry.ClassEntry.{ClassEntry}
 use Rattle.s80_class.specs.Classes.{Name, ClassRow, Classes, IsLine, IsValid, lineage, is_under, Inherited, inherited_in, inherited_of}
 use Rattle.s80_class.specs.Table.{Table, IsSuperclass, name_of, row_of}
-use Rattle.s80_class.proofs.Lines.{Entry, IsOver, get-inserted, lineage_line, absent_passed}
+use Rattle.s80_class.proofs.lemmas.Lines.{Entry, IsOver, get-inserted, lineage_line, absent_passed}
 use Rattle.s80_apply.specs.Kernel.{kernel_row, superclass_of, kernel_classes}
 use Rattle.s80_apply.specs.Boot.{IsFoundAbove, IsKernelEntry}
 use Rattle.s80_apply.specs.Limits.{IsWithin}
 use Rattle.s80_apply.proofs.Seen.{words_turned}
 use Rattle.s80_apply.proofs.Looked.{count_new}
-use Rattle.s80_class.proofs.Most.{some_row}
+use Rattle.s80_class.proofs.lemmas.Most.{some_row}
 use Rattle.s80_apply.proofs.Defined.{line_of, valid_defined, lineage_defined, alone_under, unmoved, head_row}
 
 -- ---- the rows stand in order

@@ -24,14 +24,16 @@ use Rattle.s80_class.specs.Classes.{Name, Classes}
 use Rattle.s80_class.specs.Table.{Table, IsNumberOf}
 use Rattle.s80_apply.specs.Kernel.{kernel_classes}
 use Rattle.s80_apply.specs.Limits.{IsWithin}
-use Rattle.s80_apply.specs.State.{MethodRow, State, side_of, kernel_method, put_method, put_kernel_methods, no_methods, kernel_state}
-use Rattle.s80_apply.specs.Entries.{AreEntriesOf, Entry, row_in}
+use Rattle.s80_apply.specs.State.{no_methods, put_kernel_methods, put_method, side_of}
+use Rattle.s80_apply.specs.Placed.{PlacedRow, PlacedState, placed_kernel_method, placed_kernel_state}
+use Rattle.s80_apply.specs.Seen.{AreSeen}
+use Rattle.s80_apply.specs.Entries.{Entry, row_in}
 use Rattle.s80_apply.specs.Codes.{AreCodes}
-use Rattle.s80_apply.specs.System.{IsSystemOf, SystemState}
+use Rattle.s80_apply.specs.System.{HasPlaces, SystemState}
 use Rattle.s80_apply.specs.Boot.{HasClassesAlone, TakesMethod, row_held}
 use Rattle.s80_apply.proofs.Booted.{IsBooted, built_has, booted_none, booted_all}
 use Rattle.s80_apply.proofs.Codes.{codes_put}
-use Rattle.s80_apply.proofs.Stands.{entries_put, entries_empty, entries_where, same_place}
+use Rattle.s80_apply.proofs.Stands.{same_place, seen_empty, seen_put, seen_where}
 
 -- ---- the classes, without methods
 
@@ -122,45 +124,45 @@ kernel_class_there class h = built_has kernel_rows class ∙ h
 
 -- ---- the state
 
-abbrev pub bare : State
+abbrev pub bare : PlacedState
 bare = record { classes = kernel_classes; methods = no_methods }
 
-put_more : (ks : List KernelMethodRow) (k : KernelMethodRow) (state : State) → put_kernel_methods (ks ++ k ∷ []) state ≡ put_method k.class (side_of k.on_class_side) k.selector (kernel_method k) (put_kernel_methods ks state)
+put_more : (ks : List KernelMethodRow) (k : KernelMethodRow) (state : PlacedState) → put_kernel_methods placed_kernel_method (ks ++ k ∷ []) state ≡ put_method k.class (side_of k.on_class_side) k.selector (placed_kernel_method k) (put_kernel_methods placed_kernel_method ks state)
 put_more [] k state = refl
-put_more (first ∷ ks) k state = put_more ks k (put_method first.class (side_of first.on_class_side) first.selector (kernel_method first) state)
+put_more (first ∷ ks) k state = put_more ks k (put_method first.class (side_of first.on_class_side) first.selector (placed_kernel_method first) state)
 
 -- ---- a method more in a system
 
 abbrev system_of : Table → MethodsValue Entry → SystemState
 system_of table methods = record { table = table; methods = methods }
 
-module _ (table : Table) (m : KernelMethod) (k : KernelMethodRow) (before now : MethodsValue Entry) (state : State) (held : held_place m ≡ place_of k) (stands : StandsIn kernel_text k) (takes : TakesMethod table m before now)
-    (there : map.contains_key table.classes k.class ≡ true) (is : IsSystemOf (system_of table before) state) where
+module _ (table : Table) (m : KernelMethod) (k : KernelMethodRow) (before now : MethodsValue Entry) (state : PlacedState) (held : held_place m ≡ place_of k) (stands : StandsIn kernel_text k) (takes : TakesMethod table m before now)
+    (there : map.contains_key table.classes k.class ≡ true) (is : HasPlaces (system_of table before) state) where
   side : Side
   side = side_of k.on_class_side
 
   class_is : m.class_name.now ≡ k.class
   class_is = ap (λ (p : MethodPlace). p.class) held
 
-  row_is : row_in takes.entry ≡ kernel_method k
+  row_is : row_in takes.entry ≡ placed_kernel_method k
   row_is = takes.row ∙ (λ i. record { category = codes "kernel"; source = source_held m k held stands i; from_kernel = true; position = (held i).position; length = (held i).size })
 
-  put : (name : Name) (s : Side) → Methods MethodRow
-  put name s = cond (bytes_eq name k.class && same_side s side) (map.insert (state.methods name s) k.selector (kernel_method k)) (state.methods name s)
+  put : (name : Name) (s : Side) → Methods PlacedRow
+  put name s = cond (bytes_eq name k.class && same_side s side) (map.insert (state.methods name s) k.selector (placed_kernel_method k)) (state.methods name s)
 
-  entries : (n : ℕ) (name : Name) (s : Side) → IsNumberOf table.names n name → AreEntriesOf (methods_at now n s) (cond (bytes_eq name k.class && same_side s (side_of k.on_class_side)) (map.insert (state.methods name s) k.selector (kernel_method k)) (state.methods name s))
+  entries : (n : ℕ) (name : Name) (s : Side) → IsNumberOf table.names n name → AreSeen row_in (methods_at now n s) (cond (bytes_eq name k.class && same_side s (side_of k.on_class_side)) (map.insert (state.methods name s) k.selector (placed_kernel_method k)) (state.methods name s))
   entries n name s named =
       let old : Methods Entry = methods_at before n s in
-      let rows : Methods MethodRow = state.methods name s in
-      let kept : AreEntriesOf old rows = is.methods n name s named in
+      let rows : Methods PlacedRow = state.methods name s in
+      let kept : AreSeen row_in old rows = is.methods n name s named in
       let here : IsNumberOf table.names takes.number k.class = subst (λ (x : Name). IsNumberOf table.names takes.number x) class_is takes.named in
       let only : (c : ℕ) → IsNumberOf table.names c k.class → c ≡ takes.number = λ c at. takes.only c (subst (λ (x : Name). IsNumberOf table.names c x) (sym class_is) at) in
       let place : nat_eq n takes.number ≡ bytes_eq name k.class = same_place table.names n takes.number name k.class named here only in
       let same : methods_at now n s ≡ cond (bytes_eq name k.class && same_side s (side_of k.on_class_side)) (map.insert old k.selector takes.entry) old =
       takes.methods n s ∙ (λ i. cond (place i && same_side s (side_of (held i).on_class_side)) (map.insert old (held i).selector takes.entry) old) in
-      subst (λ e. AreEntriesOf e (cond (bytes_eq name k.class && same_side s (side_of k.on_class_side)) (map.insert rows k.selector (kernel_method k)) rows)) (sym same)
-      (entries_where (bytes_eq name k.class && same_side s (side_of k.on_class_side)) (map.insert old k.selector takes.entry) old (map.insert rows k.selector (kernel_method k)) rows
-      (entries_put old rows k.selector takes.entry (kernel_method k) row_is kept) kept)
+      subst (λ e. AreSeen row_in e (cond (bytes_eq name k.class && same_side s (side_of k.on_class_side)) (map.insert rows k.selector (placed_kernel_method k)) rows)) (sym same)
+      (seen_where row_in (bytes_eq name k.class && same_side s (side_of k.on_class_side)) (map.insert old k.selector takes.entry) old (map.insert rows k.selector (placed_kernel_method k)) rows
+      (seen_put row_in old rows k.selector takes.entry (placed_kernel_method k) row_is kept) kept)
 
   other : (name : Name) → map.get state.classes name ≡ None → (b : Bool) → bytes_eq name k.class ≡ b → b ≡ false
   other name none false at = refl
@@ -168,12 +170,12 @@ module _ (table : Table) (m : KernelMethod) (k : KernelMethodRow) (before now : 
       let absent : map.get table.classes k.class ≡ None = ap (λ (c : Classes). map.get c k.class) is.classes ∙ ap (map.get state.classes) (sym ((bytes_decides name k.class).0 at)) ∙ none in
       sym there ∙ ap is_some absent
 
-  pub method_taken : IsSystemOf (system_of table now) (put_method k.class (side_of k.on_class_side) k.selector (kernel_method k) state)
+  pub method_taken : HasPlaces (system_of table now) (put_method k.class (side_of k.on_class_side) k.selector (placed_kernel_method k) state)
   method_taken = record {
     classes = is.classes;
     methods = entries;
     others = λ name s none.
-        ap (λ b. cond (b && same_side s (side_of k.on_class_side)) (map.insert (state.methods name s) k.selector (kernel_method k)) (state.methods name s)) (other name none (bytes_eq name k.class) refl)
+        ap (λ b. cond (b && same_side s (side_of k.on_class_side)) (map.insert (state.methods name s) k.selector (placed_kernel_method k)) (state.methods name s)) (other name none (bytes_eq name k.class) refl)
         ∙ is.others name s none;
   }
 
@@ -184,7 +186,7 @@ pub record HasMethodsOf (table : Table) (methods : MethodsValue Entry) (ks : Lis
   pub classes : table.classes ≡ kernel_classes
   pub within : IsWithin table.classes
   pub count : length methods.sides ≡ length table.names
-  pub system : IsSystemOf (system_of table methods) (put_kernel_methods ks bare)
+  pub system : HasPlaces (system_of table methods) (put_kernel_methods placed_kernel_method ks bare)
   pub codes : AreCodes table methods
 
 no_entry : (k : List ℕ) (e : Entry) → map.get (map.empty {X = Entry} {R = slice_cmp nat_cmp}) k ≡ Some e → ⊥
@@ -197,7 +199,7 @@ none_put table methods alone = record {
   count = alone.count;
   system = record {
     classes = alone.classes;
-    methods = λ n name s named. subst (λ e. AreEntriesOf e map.empty) (sym (alone.none n s)) entries_empty;
+    methods = λ n name s named. subst (λ e. AreSeen row_in e map.empty) (sym (alone.none n s)) (seen_empty row_in);
     others = λ name s none. refl;
   };
   codes = λ n s k e is. absurd (no_entry k e (ap (λ m. map.get m k) (sym (alone.none n s)) ∙ is));
@@ -237,15 +239,15 @@ module _ (items : List KernelMethod) (i : ℕ) (d : KernelMethod) (table : Table
         classes = so_far.classes;
         within = so_far.within;
         count = count ∙ so_far.count;
-        system = subst (IsSystemOf (system_of table now)) (sym (ap (λ ks. put_kernel_methods ks bare) more ∙ put_more front k bare))
-            (method_taken table (get_or items i d) k before now (put_kernel_methods front bare) here.held here.holds.stands takes class_there so_far.system);
+        system = subst (HasPlaces (system_of table now)) (sym (ap (λ ks. put_kernel_methods placed_kernel_method ks bare) more ∙ put_more front k bare))
+            (method_taken table (get_or items i d) k before now (put_kernel_methods placed_kernel_method front bare) here.held here.holds.stands takes class_there so_far.system);
         codes = codes_put table before now takes.number (side_of (get_or items i d).on_class_side) (get_or items i d).selector.now takes.entry (record { class = (get_or items i d).class_name.now; named = takes.named; has_code = takes.code }) takes.methods so_far.codes;
       }
 
 -- ---- all of them
 
-pub all_put : (items : List KernelMethod) (n : ℕ) (table : Table) (methods : MethodsValue Entry) → list_map held_place items ≡ list_map place_of kernel_methods → length items ≤ n → HasMethodsOf table methods (take n kernel_methods) → IsSystemOf (system_of table methods) kernel_state
-unfolding kernel_state
+pub all_put : (items : List KernelMethod) (n : ℕ) (table : Table) (methods : MethodsValue Entry) → list_map held_place items ≡ list_map place_of kernel_methods → length items ≤ n → HasMethodsOf table methods (take n kernel_methods) → HasPlaces (system_of table methods) placed_kernel_state
+unfolding placed_kernel_state
 all_put items n table methods same past so_far =
     let size : length items ≡ length kernel_methods = sym (length-map items held_place) ∙ ap length same ∙ length-map kernel_methods place_of in
-    subst (IsSystemOf (system_of table methods)) (ap (λ ks. put_kernel_methods ks bare) (take_all n kernel_methods (omega (arith, past, size)))) so_far.system
+    subst (HasPlaces (system_of table methods)) (ap (λ ks. put_kernel_methods placed_kernel_method ks bare) (take_all n kernel_methods (omega (arith, past, size)))) so_far.system

@@ -1,5 +1,5 @@
 -- The code of all methods as classes and methods are put.
-use Rattle.std.proofs.Common.{◌≡◌, ◌≤◌, ◌+◌, ◌∙◌, ℕ, Bool, cond, not, true, false, true≢false, refl, sym, ap, subst, List, [], ◌∷◌, length, get_or, arith, length-append, Option, Some, None, slice_get}
+use Rattle.std.proofs.Common.{◌≡◌, ◌≤◌, ◌+◌, ◌∙◌, ℕ, Bool, cond, not, true, false, true≢false, refl, sym, ap, subst, List, [], ◌∷◌, length, get_or, arith, length-append, Option, Some, None, option_map, slice_get}
 use Rattle.std.specs.Str.{bytes_eq}
 use Rattle.std.specs.FinMap as map
 use Rattle.s80_base.specs.declared.names.Side.{Side}
@@ -9,25 +9,28 @@ use Rattle.s80_code.specs.declared.code.Code.{Code}
 use Rattle.s80_change.specs.Check.{IsCheckOf}
 use Rattle.s80_change.specs.declared.source_check.SourceCheck.TheVariants.{Fits}
 use Rattle.s80_change.specs.declared.change.Method.{Method as MethodChange}
-use Rattle.s80_agree.specs.Compiles.{Compiles}
+use Rattle.s80_compile.specs.Compiles.{Compiles}
 use Rattle.s80_class.specs.declared.entry.ClassEntry.{ClassEntry}
 use Rattle.s80_class.specs.Classes.{Name, ClassRow, Classes, IsLine, IsValid, lineage, is_under}
 use Rattle.s80_class.specs.Table.{Table, IsNumberOf, row_of}
-use Rattle.s80_class.proofs.Lines.{Entry as LineEntry, get-elsewhere, get-inserted, line_across, lineage_line}
-use Rattle.s80_class.proofs.Rows.{get_kept}
+use Rattle.s80_class.proofs.lemmas.Lines.{Entry as LineEntry, get-elsewhere, get-inserted, line_across, lineage_line}
+use Rattle.s80_class.proofs.lemmas.Rows.{get_kept}
 use Rattle.s80_method.specs.Code.{IsMethodCode}
 use Rattle.s80_method.specs.Shape.{bindings_in, variables_in}
 use Rattle.s80_apply.specs.declared.step.Placed.{Placed}
 use Rattle.s80_apply.specs.declared.step.PlacedMethod.{PlacedMethod}
-use Rattle.s80_apply.specs.Entries.{Entry}
+use Rattle.s80_apply.specs.State.{is_kernel_method}
+use Rattle.s80_apply.specs.Placed.{PlacedRow, without_place}
+use Rattle.s80_apply.specs.Entries.{Entry, row_in}
 use Rattle.s80_apply.specs.Codes.{AreCodes, HasCode, HasCodeAt, HaveSources}
 use Rattle.s80_apply.specs.Limits.{IsWithin}
 use Rattle.s80_apply.specs.List.{AreOfList}
-use Rattle.s80_apply.specs.System.{CanPut, CanPutMethod, HasClass, HasMethod, HaveRoom, IsRecompiled, IsSoundSystem, SystemState, moved, put, put_all, put_at_number, with_dictionaries, with_entry}
+use Rattle.s80_apply.specs.System.{CanPut, CanPutMethod, HasClass, HasMethod, HaveRoom, IsRecompiled, IsSoundSystem, SystemState, TellOwn, TellsOwn, moved, put, put_all, put_at_number, with_dictionaries, with_entry}
 use Rattle.s80_apply.specs.Method.{TakesPlace}
 use Rattle.s80_apply.proofs.Defined.{line_of, no_lineage}
-use Rattle.s80_apply.proofs.Places.{IsFound, IsLast, IsPlace, among, apart, found_after, last_of, newly, put_same, still}
-use Rattle.s80_apply.proofs.Stands.{dictionaries_stay}
+use Rattle.s80_apply.proofs.Places.{IsFound, IsLast, IsPlace, among, apart, found_after, last_of, newly, put_same, some_same, still}
+use Rattle.s80_apply.proofs.Shown.{row_told}
+use Rattle.s80_apply.proofs.Stands.{again_rows, dictionaries_stay, some_there}
 
 -- ---- what methods with code owe
 
@@ -155,6 +158,41 @@ module _ (before : SystemState) (placed : Placed) (can : CanPut before placed) (
       by_last n s k e (apart none is) =
           old_code n s k e none (sym (ap (λ m. map.get m k) (dictionaries_stay placed.number before.methods n s)) ∙ is)
 
+-- ---- whether a method is the kernel's own
+
+-- a number is that of one name
+one_name : (names : List (Option Name)) (n : ℕ) (a b : Name) → IsNumberOf names n a → IsNumberOf names n b → a ≡ b
+one_name names n a b one other = some_same a b (some_same (Some a) (Some b) (sym one ∙ other))
+
+own_stays : (table now : Table) (methods after : MethodsValue Entry) → now.names ≡ table.names → ((n : ℕ) (s : Side) → methods_at after n s ≡ methods_at methods n s) → TellOwn table methods → TellOwn now after
+own_stays table now methods after names same own = λ n s k e is name named.
+    own n s k e (sym (ap (λ m. map.get m k) (same n s)) ∙ is) name (subst (λ ns. IsNumberOf ns n name) names named)
+
+own_there : (table : Table) (number : ℕ) (side : Side) (selector : List ℕ) (x : Entry) (n : ℕ) (s : Side) (k : List ℕ) (e : Entry) → TellsOwn table number side selector x → IsPlace number side selector n s k → x ≡ e → TellsOwn table n s k e
+own_there table number side selector x n s k e tells at same =
+    subst (λ y. TellsOwn table n s k y) same (subst (λ q. TellsOwn table n s q x) (sym at.2) (subst (λ r. TellsOwn table n r selector x) (sym at.1) (subst (λ c. TellsOwn table c side selector x) (sym at.0) tells)))
+
+own_with_method : (before now : SystemState) (placed : PlacedMethod) (at : ℕ) → CanPutMethod before placed → TellOwn before.table before.methods → HasMethod before placed at now → TellOwn now.table now.methods
+own_with_method before now placed at can own has = subst (λ (t : Table). TellOwn t now.methods) (sym has.table) (λ n s k e is.
+    by_place n s k e (found_after (methods_at before.methods) placed.number placed.side placed.selector (moved at placed.entry) n s k e (sym (ap (λ m. map.get m k) (has.methods n s)) ∙ is)))
+  where
+    by_place : (n : ℕ) (s : Side) (k : List ℕ) (e : Entry) → IsFound (IsPlace placed.number placed.side placed.selector n s k) (moved at placed.entry) e (map.get (methods_at before.methods n s) k) → TellsOwn before.table n s k e
+    by_place n s k e (newly here same) = own_there before.table placed.number placed.side placed.selector (moved at placed.entry) n s k e can.own here same
+    by_place n s k e (still others is) = own n s k e is
+
+-- methods that are compiled again have the rows that they had
+own_with_class : (before now : SystemState) (placed : Placed) → CanPut before placed → AreCodes before.table before.methods → TellOwn before.table before.methods → HasClass before placed now → TellOwn now.table now.methods
+own_with_class before now placed can codes own has = λ n s k e is name named.
+    let there : option_map row_in (map.get (methods_at before.methods n s) k) ≡ Some (row_in e) =
+    ap (λ m. option_map row_in (map.get m k)) (sym (dictionaries_stay placed.number before.methods n s)) ∙ sym ((again_rows before placed can n s).each k)
+    ∙ ap (λ m. option_map row_in (map.get m k)) (sym (has.methods n s)) ∙ ap (option_map row_in) is in
+    let old = some_there (map.get (methods_at before.methods n s) k) (row_in e) there in
+    let row : row_in old.0 ≡ row_in e = some_same (row_in old.0) (row_in e) (sym (ap (option_map row_in) old.1) ∙ there) in
+    let h : HasCodeAt before.table n s k old.0 = codes n s k old.0 old.1 in
+    let here : IsNumberOf (put before.table placed).names n name = subst (λ (t : Table). IsNumberOf t.names n name) has.table named in
+    let same : h.class ≡ name = one_name (put before.table placed).names n h.class name (number_kept before.table placed.number placed.entry n h.class h.named) here in
+    ap (λ (r : PlacedRow). r.from_kernel) (sym row) ∙ own n s k old.0 old.1 h.class h.named ∙ (λ i. is_kernel_method (same i) s k (without_place (row i)))
+
 -- ---- a sound system stays sound
 
 pub same_sides : (methods after : MethodsValue Entry) → after.sides ≡ methods.sides → (n : ℕ) (s : Side) → methods_at after n s ≡ methods_at methods n s
@@ -171,6 +209,7 @@ sound_stays before now classes names methods count sound = record {
   within = subst IsWithin (sym classes) sound.within;
   dictionaries = count ∙ sound.dictionaries ∙ ap length (sym names);
   codes = codes_stay before.table now.table before.methods now.methods classes names methods sound.codes;
+  own = own_stays before.table now.table before.methods now.methods names methods sound.own;
 }
 
 pub sound_with_method : (before now : SystemState) (placed : PlacedMethod) (at : ℕ) → CanPutMethod before placed → IsSoundSystem before → HasMethod before placed at now → IsSoundSystem now
@@ -179,6 +218,7 @@ sound_with_method before now placed at can sound has = record {
   within = subst (λ (t : Table). IsWithin t.classes) (sym has.table) sound.within;
   dictionaries = has.count ∙ sound.dictionaries ∙ ap (λ (t : Table). length t.names) (sym has.table);
   codes = codes_with_method before now placed at can sound.codes has;
+  own = own_with_method before now placed at can sound.own has;
 }
 
 one_each : (table : Table) (methods : MethodsValue Entry) (number : Option ℕ) (entry : ClassEntry) → length methods.sides ≡ length table.names → length (with_dictionaries number methods).sides ≡ length (put_at_number table number entry).names
@@ -191,6 +231,7 @@ sound_with_class before now placed can of_list sound valid has = record {
   within = subst (λ (t : Table). IsWithin t.classes) (sym has.table) (subst IsWithin (sym (classes_put before.table placed.number placed.entry)) can.within);
   dictionaries = has.count ∙ one_each before.table before.methods placed.number placed.entry sound.dictionaries ∙ ap (λ (t : Table). length t.names) (sym has.table);
   codes = codes_with_class before placed can sound.codes valid now has;
+  own = own_with_class before now placed can sound.codes sound.own has;
 }
 
 -- ---- room for methods that are compiled again
@@ -235,6 +276,12 @@ takes_code system m selector placed takes = record {
   has_code = subst (λ s. HasCode system.table.classes m.class_name s placed.selector placed.entry) (sym takes.side)
       (subst (λ k. HasCode system.table.classes m.class_name m.side k placed.entry) (sym takes.selector_is) takes.code);
 }
+
+pub takes_own : (system : SystemState) (m : MethodChange) (selector : List ℕ) (placed : PlacedMethod) → TakesPlace system m selector placed → TellsOwn system.table placed.number placed.side placed.selector placed.entry
+takes_own system m selector placed takes = λ name named.
+    let same : name ≡ m.class_name = one_name system.table.names placed.number name m.class_name named takes.number in
+    ap (λ (r : PlacedRow). r.from_kernel) takes.row ∙ row_told m 0 selector
+    ∙ (λ i. is_kernel_method (sym same i) (sym takes.side i) (sym takes.selector_is i) (without_place (sym takes.row i)))
 
 not_set : (b : Bool) → not b ≡ true → b ≡ false
 not_set true h = absurd (true≢false (sym h))

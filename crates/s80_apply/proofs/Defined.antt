@@ -6,7 +6,7 @@ use Rattle.std.specs.Cmp.Lexicographic.{bytes_decides}
 use Rattle.std.specs.FinMap as map
 use Rattle.std.proofs.lemmas.List.Sums.{sum_by-cons}
 use Rattle.s80_class.specs.Classes.{Name, ClassRow, Classes, IsLine, IsValid, upwards, then_up, lineage, is_under, inherited_in, inherited_of}
-use Rattle.s80_class.proofs.Lines.{Entry, passes, bytes_eq-self, not_eq, get-here, get-elsewhere, one_line, line_across, lineage_line, IsOver, valid-insert, absent_passed}
+use Rattle.s80_class.proofs.lemmas.Lines.{Entry, passes, bytes_eq-self, not_eq, get-here, get-elsewhere, one_line, line_across, lineage_line, IsOver, valid-insert, absent_passed}
 
 -- ---- lines of a valid map
 

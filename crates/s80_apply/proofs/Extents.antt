@@ -4,9 +4,9 @@ use Rattle.std.specs.List.{sum_by}
 use Rattle.std.specs.FinMap as map
 use Rattle.std.proofs.lemmas.List.Sums.{sum_by-cons}
 use Rattle.s80_class.specs.Classes.{Name, ClassRow, Classes, IsLine, IsValid, lineage, is_under, Inherited, inherited_in, inherited_of, extent_of, bits_variables_of, is_bits, greatest, family}
-use Rattle.s80_class.proofs.Lines.{Entry, passes, IsOver, lineage_line, get-here}
+use Rattle.s80_class.proofs.lemmas.Lines.{Entry, passes, IsOver, lineage_line, get-here}
 use Rattle.s80_apply.specs.Limits.{IsWithin}
-use Rattle.s80_class.proofs.Most.{at_least, at_most, some_row, listed}
+use Rattle.s80_class.proofs.lemmas.Most.{at_least, at_most, some_row, listed}
 use Rattle.s80_apply.proofs.Defined.{line_of, top, valid_defined, top_line, lineage_defined, unmoved, grown, alone_under, head_row, self_passed}
 
 abbrev greatest_in : (Inherited → ℕ) → Classes → Name → ℕ

@@ -5,7 +5,7 @@ use Rattle.s80_base.specs.declared.names.Side.{Side}
 use Rattle.s80_base.specs.declared.names.Side.TheVariants.{Instance, Class}
 use Rattle.s80_class.specs.Classes.{Name, ClassRow, Classes, Inherited, inherited_in, inherited_of}
 use Rattle.s80_class.specs.Table.{Table}
-use Rattle.s80_class.proofs.Lines.{Entry}
+use Rattle.s80_class.proofs.lemmas.Lines.{Entry}
 use Rattle.s80_method.specs.Code.{HasFewVariables}
 use Rattle.s80_method.specs.Shape.{shape_of}
 use Rattle.s80_apply.specs.Limits.{IsWithin}

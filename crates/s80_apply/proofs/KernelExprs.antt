@@ -4,8 +4,8 @@ use Rattle.std.proofs.lemmas.Bool.{eqb-true, leb-true}
 use Rattle.s80_lex.specs.declared.token.TokenKind.TheVariants as token
 use Rattle.s80_tree.specs.declared.name.NameAt.{NameAt}
 use Rattle.s80_tree.specs.Tree.{ExprTrees, MessageTrees, BodyTree, expr, name, literal, block, paren, no_exprs, exprs, no_messages, messages, no_stmts, stmts}
-use Rattle.s80_grammar.specs.Lexeme.{Lexemes}
-use Rattle.s80_grammar.specs.Grammar.{IsMark, IsExpr, IsPrimary, IsOperand, IsChain, IsMessage, AreParts, IsCascade, IsCascadeOf, IsBody, IsBetween, IsCaret, IsBarBetween}
+use Rattle.s80_syntax.specs.Lexeme.{Lexemes}
+use Rattle.s80_syntax.specs.Grammar.{IsMark, IsExpr, IsPrimary, IsOperand, IsChain, IsMessage, AreParts, IsCascade, IsCascadeOf, IsBody, IsBetween, IsCaret, IsBarBetween}
 use Rattle.s80_apply.proofs.KernelTold.{◌>>=◌, first_of, told}
 use Rattle.s80_apply.proofs.KernelMarks.{Read, token_in, mark_in, bar_in, name_in, targets_in, parameters_in, literal_in}
 

@@ -10,11 +10,11 @@ use Rattle.s80_lex.specs.Front.{first_class, Takes, ends_keyword, number_len, ar
 use Rattle.s80_lex.specs.Number.{IsLawfulNumber, radix_of, digits_of}
 use Rattle.s80_lex.specs.Spelling.{IsOperator, begins_with, doubled, Passes}
 use Rattle.s80_lex.proofs.Classes.{digit_class}
-use Rattle.s80_lex.proofs.Quotes.{SoFar, quoted_found}
-use Rattle.s80_lex.proofs.Runs.{run_passes}
-use Rattle.s80_lex.proofs.Selectors.{binary_one, binary_two}
-use Rattle.s80_lex.proofs.Signs.{colon_takes}
-use Rattle.s80_lex.proofs.Taken.{name_takes, keyword_takes, binary_takes, string_takes, number_takes, underscore_takes, mark_takes}
+use Rattle.s80_lex.proofs.lemmas.Quotes.{SoFar, quoted_found}
+use Rattle.s80_lex.proofs.lemmas.Runs.{run_passes}
+use Rattle.s80_lex.proofs.lemmas.Selectors.{binary_one, binary_two}
+use Rattle.s80_lex.proofs.lemmas.Signs.{colon_takes}
+use Rattle.s80_lex.proofs.lemmas.Taken.{name_takes, keyword_takes, binary_takes, string_takes, number_takes, underscore_takes, mark_takes}
 use Rattle.s80_lex.proofs.Values.{lawful_test}
 use Rattle.s80_apply.proofs.KernelTold.{◌>>=◌, first_of, told, told_not}
 

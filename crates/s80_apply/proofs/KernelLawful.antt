@@ -3,8 +3,8 @@ use Rattle.std.proofs.Common.{Option, Some, None, Bool, true, List, [], ◌∷�
 use Rattle.s80_base.specs.Literal.{LiteralTree, array}
 use Rattle.s80_tree.specs.declared.name.NameAt.{NameAt}
 use Rattle.s80_tree.specs.Tree.{ExprTree, PrimaryTree, ExprTrees, MessageTrees, BodyTree, MethodParts, expr, name, literal, block, paren, no_exprs, exprs, no_messages, messages, no_stmts, stmts}
-use Rattle.s80_grammar.specs.Limits.{may_open, home_assigns, block_assigns, may_assign, AreAssignable, IsLawfulLiteral, IsLawfulExpr, IsLawfulPrimary, AreLawfulExprs, AreLawfulMessages, IsLawfulBody, IsLawfulMethod}
-use Rattle.s80_grammar.specs.Word.{names_in}
+use Rattle.s80_syntax.specs.Limits.{may_open, home_assigns, block_assigns, may_assign, AreAssignable, IsLawfulLiteral, IsLawfulExpr, IsLawfulPrimary, AreLawfulExprs, AreLawfulMessages, IsLawfulBody, IsLawfulMethod}
+use Rattle.s80_syntax.specs.Word.{names_in}
 use Rattle.s80_apply.proofs.KernelTold.{◌>>=◌, told}
 
 abbrev assignable : (assigns : List ℕ → Bool) (ns : List NameAt) → Option (AreAssignable true assigns ns)

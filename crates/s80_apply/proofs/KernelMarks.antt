@@ -4,10 +4,10 @@ use Rattle.std.proofs.lemmas.Slice.Eq.{bytes_eq-Decides}
 use Rattle.s80_lex.specs.declared.token.TokenKind.{TokenKind}
 use Rattle.s80_lex.specs.declared.token.TokenKind.TheVariants as token
 use Rattle.s80_tree.specs.declared.name.NameAt.{NameAt}
-use Rattle.s80_grammar.specs.Lexeme.{Lexemes}
-use Rattle.s80_grammar.specs.Literals.{IsLiteralKind, token_literal}
-use Rattle.s80_grammar.specs.Grammar.{Takes, IsMark, IsSign, IsName, IsDeclared, IsTargets, AreDeclared, AreParameters, IsBar, IsLiteral}
-use Rattle.s80_grammar.specs.Word.{is_reserved, bar}
+use Rattle.s80_syntax.specs.Lexeme.{Lexemes}
+use Rattle.s80_syntax.specs.Literals.{IsLiteralKind, token_literal}
+use Rattle.s80_syntax.specs.Grammar.{Takes, IsMark, IsSign, IsName, IsDeclared, IsTargets, AreDeclared, AreParameters, IsBar, IsLiteral}
+use Rattle.s80_syntax.specs.Word.{is_reserved, bar}
 use Rattle.s80_apply.proofs.KernelTold.{◌>>=◌, first_of, told, told_not, same_kind}
 
 -- what was read, and the tokens that are left

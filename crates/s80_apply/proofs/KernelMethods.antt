@@ -6,9 +6,9 @@ use Rattle.s80_lex.specs.Number.{number_literal}
 use Rattle.s80_base.specs.Literal.{LiteralTree, small}
 use Rattle.s80_tree.specs.declared.name.NameAt.{NameAt}
 use Rattle.s80_tree.specs.Tree.{BodyTree, MethodParts}
-use Rattle.s80_grammar.specs.Lexeme.{Lexeme, Lexemes}
-use Rattle.s80_grammar.specs.Grammar.{Takes, IsDeclared, AreKeywords, IsPattern, IsPrimitive, AreTemporaries, AreOptionalTemporaries, IsHead, IsBody, IsMethod}
-use Rattle.s80_grammar.specs.Word.{less, greater, primitive_word}
+use Rattle.s80_syntax.specs.Lexeme.{Lexeme, Lexemes}
+use Rattle.s80_syntax.specs.Grammar.{Takes, IsDeclared, AreKeywords, IsPattern, IsPrimitive, AreTemporaries, AreOptionalTemporaries, IsHead, IsBody, IsMethod}
+use Rattle.s80_syntax.specs.Word.{less, greater, primitive_word}
 use Rattle.s80_apply.proofs.KernelTold.{◌>>=◌, first_of, told}
 use Rattle.s80_apply.proofs.KernelMarks.{Read, token_in, sign_in, bar_in, declared_in, names_in}
 use Rattle.s80_apply.proofs.KernelExprs.{readers}

@@ -7,8 +7,8 @@ use Rattle.s80_lex.specs.Class.{class_of}
 use Rattle.s80_lex.specs.Front.{Takes, Stands}
 use Rattle.s80_lex.specs.Number.{IsLawfulNumber}
 use Rattle.s80_lex.specs.Text.{AreTokens, token_of}
-use Rattle.s80_lex.proofs.Parts.{Up, up_none, up_separator, up_more, up_all}
-use Rattle.s80_lex.proofs.Standing.{takes_stands}
+use Rattle.s80_lex.proofs.lemmas.Parts.{Up, up_none, up_separator, up_more, up_all}
+use Rattle.s80_lex.proofs.lemmas.Standing.{takes_stands}
 use Rattle.s80_apply.proofs.KernelTold.{◌>>=◌, told}
 use Rattle.s80_apply.proofs.KernelFronts.{Front, front_in}
 

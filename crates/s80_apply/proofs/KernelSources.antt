@@ -4,8 +4,8 @@ use Rattle.std.specs.List.{All, list_all}
 use Rattle.std.specs.Prelude.{slice_index_or}
 use Rattle.std.proofs.lemmas.List.Sums.{AllPass-from_list_all}
 use Rattle.s80_lex.specs.Number.{number_literal}
-use Rattle.s80_grammar.specs.Lexeme.{lexemes}
-use Rattle.s80_grammar.specs.Word.{is_reserved}
+use Rattle.s80_syntax.specs.Lexeme.{lexemes}
+use Rattle.s80_syntax.specs.Word.{is_reserved}
 use Rattle.s80_scope.specs.FitLiterals.{is_special}
 use Rattle.s80_change.specs.Check.{IsCheckOf}
 use Rattle.s80_change.specs.declared.source_check.SourceCheck.TheVariants.{Fits}

@@ -7,7 +7,7 @@ use Rattle.s80_form.specs.declared.definition.Definition.{Definition}
 use Rattle.s80_form.specs.declared.refusal.Refusal.TheVariants.{KernelClass, TooMany}
 use Rattle.s80_form.specs.declared.refusal.ManyKind.TheVariants.{Classes as ManyClasses, InstanceVariables, ClassVariables, ClassSideVariables, Pools, BitsVariables}
 use Rattle.s80_class.specs.Classes.{Name, ClassRow, Classes, IsLine, IsValid, Inherited, lineage, inherited_in, inherited_of, is_under, extent_of, greatest, family}
-use Rattle.s80_class.proofs.Lines.{Entry, IsOver, lineage_line}
+use Rattle.s80_class.proofs.lemmas.Lines.{Entry, IsOver, lineage_line}
 use Rattle.s80_apply.specs.Accept.{define, bad_name, unknown_class, kernel_class, cycle, duplicate, too_many, above, refusal_of}
 use Rattle.s80_apply.proofs.Defined.{line_of, valid_defined, unmoved, head_row}
 use Rattle.s80_apply.proofs.Extents.{counts}

@@ -12,7 +12,7 @@ use Rattle.s80_kernel.specs.Rows.{KernelRow, kernel_rows, has_name, is_kernel_cl
 use Rattle.s80_change.specs.declared.change.Change.{Change}
 use Rattle.s80_form.specs.declared.definition.Definition.{Definition}
 use Rattle.s80_class.specs.Classes.{Name, ClassRow, Classes, IsLine, Inherited, own_or, effective_kind, bits_variables_of, inherited_in, inherited_of}
-use Rattle.s80_class.proofs.Lines.{Entry, get-inserted, get-elsewhere, eq_not, lineage_line}
+use Rattle.s80_class.proofs.lemmas.Lines.{Entry, get-inserted, get-elsewhere, eq_not, lineage_line}
 use Rattle.s80_apply.specs.Accept.{row_of, define, refusal_of}
 use Rattle.s80_apply.specs.Kernel.{kernel_row, superclass_of, kernel_classes}
 use Rattle.s80_apply.specs.List.{classes_of}

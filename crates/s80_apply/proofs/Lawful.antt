@@ -1,5 +1,5 @@
 -- A definition that a list accepts is lawful.
-use Rattle.std.proofs.Common.{◌≡◌, ◌+◌, length, ℕ, Bool, cond, true, false, refl, sym, ap, subst, List, [], ◌∷◌, ◌++◌, Option, Some, None, not, option_map}
+use Rattle.std.proofs.Common.{◌≡◌, Bool, cond, true, false, refl, sym, ap, subst, List, [], ◌∷◌, ◌++◌, Option, Some, None, not, option_map}
 use Rattle.std.specs.List.{find}
 use Rattle.std.proofs.lemmas.List.Elements.{All-nil, All-cons, All-head, All-tail}
 use Rattle.s80_change.specs.declared.change.Change.{Change}
@@ -10,19 +10,18 @@ use Rattle.s80_change.specs.declared.source_check.SourceCheck.TheVariants.{Fits,
 use Rattle.s80_form.specs.declared.definition.Definition.{Definition}
 use Rattle.s80_form.specs.declared.refusal.Refusal.{Refusal}
 use Rattle.s80_form.specs.declared.refusal.Refusal.TheVariants.{BadName}
-use Rattle.s80_form.specs.Definition.{IsLawfulDefinition}
+use Rattle.s80_form.specs.Definition.{IsBriefDefinition, IsLawfulDefinition}
 use Rattle.s80_form.specs.Name.{IsName, AreNames, is_name, is_class_name}
 use Rattle.s80_class.specs.Classes.{Name, Classes}
-use Rattle.s80_apply.specs.Accept.{bad_name, unknown_class, kernel_class, cycle, duplicate, too_many, refusal_of, accepted, define, accept_checked, accept, first_some, put_source, too_many_methods, unknown_name}
+use Rattle.s80_apply.specs.Accept.{bad_name, unknown_class, kernel_class, cycle, duplicate, too_many, refusal_of, accepted, define, accept_checked, accept, first_some, method_row, put_source, too_many_methods, unknown_name}
 use Rattle.s80_apply.specs.Kernel.{kernel_classes}
-use Rattle.s80_change.specs.Block.{block}
 use Rattle.s80_apply.specs.State.{State, kernel_method, kernel_state, no_methods, put_kernel_methods, put_method, side_of}
 use Rattle.s80_kernel.specs.Methods.{KernelMethodRow, kernel_methods}
 use Rattle.s80_apply.specs.List.{state_or, state_after, state_from, state_of, classes_of, IsAccepted}
 use Rattle.s80_apply.specs.Named.{AreNamed}
 use Rattle.s80_apply.proofs.Names.{kernel_named, accepted_named, named_where}
 use Rattle.s80_apply.proofs.Refusing.{none_first, known_where}
-use Rattle.s80_class.proofs.Most.{some_row}
+use Rattle.s80_class.proofs.lemmas.Most.{some_row}
 
 -- ---- the classes of a list have lawful names
 
@@ -34,21 +33,21 @@ method_keeps : (state put : State) (o : Option Refusal) → put.classes ≡ stat
 method_keeps state put None same = same
 method_keeps state put (Some refusal) same = refl
 
-checked_keeps : (state : State) (m : MethodChange) (at : ℕ) (check : SourceCheck) → (state_or (accept_checked m check at state) state).classes ≡ state.classes
-checked_keeps state m at (Refused refusal) = refl
-checked_keeps state m at (Fits selector) = method_keeps state (put_source m selector at state) (first_some (unknown_name m.class_name state.classes ∷ too_many_methods m selector state ∷ [])) refl
+checked_keeps : (state : State) (m : MethodChange) (check : SourceCheck) → (state_or (accept_checked method_row m check state) state).classes ≡ state.classes
+checked_keeps state m (Refused refusal) = refl
+checked_keeps state m (Fits selector) = method_keeps state (put_source method_row m selector state) (first_some (unknown_name m.class_name state.classes ∷ too_many_methods m selector state ∷ [])) refl
 
-change_named : (change : Change) (at : ℕ) (state : State) → AreNamed state.classes → AreNamed (state_after change at state).classes
-change_named (Define d) at state named = after_named state d (refusal_of d state.classes) refl named
-change_named (Method m) at state named = subst AreNamed (sym (checked_keeps state m at m.check)) named
-change_named (DoIt text) at state named = named
+change_named : (change : Change) (state : State) → AreNamed state.classes → AreNamed (state_after change state).classes
+change_named (Define d) state named = after_named state d (refusal_of d state.classes) refl named
+change_named (Method m) state named = subst AreNamed (sym (checked_keeps state m m.check)) named
+change_named (DoIt text) state named = named
 
-list_named : (changes : List Change) (at : ℕ) (state : State) → AreNamed state.classes → AreNamed (state_from state at changes).classes
-list_named [] at state named = named
-list_named (change ∷ changes) at state named = list_named changes (at + length (block change)) (state_after change at state) (change_named change at state named)
+list_named : (changes : List Change) (state : State) → AreNamed state.classes → AreNamed (state_from state changes).classes
+list_named [] state named = named
+list_named (change ∷ changes) state named = list_named changes (state_after change state) (change_named change state named)
 
 -- the kernel's methods leave its classes
-put_keeps : (ks : List KernelMethodRow) (state : State) → (put_kernel_methods ks state).classes ≡ state.classes
+put_keeps : (ks : List KernelMethodRow) (state : State) → (put_kernel_methods kernel_method ks state).classes ≡ state.classes
 put_keeps [] state = refl
 put_keeps (k ∷ ks) state = put_keeps ks (put_method k.class (side_of k.on_class_side) k.selector (kernel_method k) state)
 
@@ -58,7 +57,7 @@ kernel_state_classes = put_keeps kernel_methods (record { classes = kernel_class
 
 -- the classes that a list makes have lawful names
 pub classes_named : (changes : List Change) → AreNamed (classes_of changes)
-classes_named changes = list_named changes 0 kernel_state (subst AreNamed (sym kernel_state_classes) kernel_named)
+classes_named changes = list_named changes kernel_state (subst AreNamed (sym kernel_state_classes) kernel_named)
 
 -- ---- a definition that is accepted
 
@@ -92,8 +91,8 @@ variables_named d h = go (is_class_name d.class_name) h
     go true none = by_find (find (λ name. not (is_name name)) all) refl none
     go false bad = absurd (cc)
 
-lawful_where : (d : Definition) (classes : Classes) → AreNamed classes → refusal_of d classes ≡ None → IsLawfulDefinition d
-lawful_where d classes named none =
+lawful_where : (d : Definition) (classes : Classes) → IsBriefDefinition d → AreNamed classes → refusal_of d classes ≡ None → IsLawfulDefinition d
+lawful_where d classes brief named none =
     let first = none_first (bad_name d) (unknown_class d classes ∷ kernel_class d ∷ cycle d classes ∷ duplicate d ∷ too_many d classes ∷ []) none in
     let second = none_first (unknown_class d classes) (kernel_class d ∷ cycle d classes ∷ duplicate d ∷ too_many d classes ∷ []) first.1 in
     let above = some_row classes d.superclass (known_where d classes second.0) in
@@ -105,11 +104,12 @@ lawful_where d classes named none =
       inst_vars = names_before d.inst_vars (d.class_vars ++ d.pools) all;
       class_vars = names_before d.class_vars d.pools others;
       pools = names_behind d.class_vars d.pools others;
+      brief = brief;
     }
 
-pub accepted_lawful : (changes : List Change) (d : Definition) (at : ℕ) → IsAccepted (accept (Define d) at (state_of changes)) → IsLawfulDefinition d
-accepted_lawful changes d at = by_refusal (refusal_of d (classes_of changes)) refl
+pub accepted_lawful : (changes : List Change) (d : Definition) → IsBriefDefinition d → IsAccepted (accept (Define d) (state_of changes)) → IsLawfulDefinition d
+accepted_lawful changes d brief = by_refusal (refusal_of d (classes_of changes)) refl
   where
     by_refusal : (o : Option Refusal) → refusal_of d (classes_of changes) ≡ o → IsAccepted (accepted o (record (state_of changes) { classes = define d (classes_of changes) })) → IsLawfulDefinition d
-    by_refusal None none _ = lawful_where d (classes_of changes) (classes_named changes) none
+    by_refusal None none _ = lawful_where d (classes_of changes) brief (classes_named changes) none
     by_refusal (Some refusal) _ is = absurd is

@@ -1,3 +1,4 @@
+pub mod lemmas
 pub mod Defined
 pub mod Extents
 pub mod Found
@@ -9,11 +10,12 @@ pub mod Names
 pub mod Lawful
 pub mod Stands
 pub mod Preparing
-pub mod Lists
 pub mod Sources
 pub mod Booting
 pub mod Own
 pub mod Places
+pub mod Shown
+pub mod Tied
 pub mod Codes
 pub mod Few
 pub mod Again

@@ -4,7 +4,7 @@ use Rattle.std.specs.Str.{bytes_eq}
 use Rattle.std.specs.Cmp.Lexicographic.{nat_list_cmp_total}
 use Rattle.std.specs.FinMap as map
 use Rattle.s80_class.specs.Classes.{Name, ClassRow, Classes, IsLine, IsValid, lineage, is_under, descends}
-use Rattle.s80_class.proofs.Lines.{Entry, passes, absent_passed}
+use Rattle.s80_class.proofs.lemmas.Lines.{Entry, passes, absent_passed}
 use Rattle.s80_apply.proofs.Defined.{line_of}
 
 -- ---- how many classes there are with one more

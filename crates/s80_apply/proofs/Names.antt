@@ -4,14 +4,14 @@ use Rattle.std.specs.List.{list_all, find}
 use Rattle.std.specs.Str.{bytes_eq}
 use Rattle.std.specs.Cmp.Lexicographic.{bytes_decides}
 use Rattle.std.specs.FinMap as map
-use Rattle.s80_grammar.specs.Word.{is_reserved}
+use Rattle.s80_syntax.specs.Word.{is_reserved}
 use Rattle.s80_kernel.specs.Rows.{KernelRow, kernel_rows, has_name}
 use Rattle.s80_form.specs.declared.definition.Definition.{Definition}
 use Rattle.s80_form.specs.declared.refusal.Refusal.{Refusal}
 use Rattle.s80_form.specs.declared.refusal.Refusal.TheVariants.{BadName}
 use Rattle.s80_form.specs.Name.{IsName, is_name, is_class_name, begins_with_capital}
 use Rattle.s80_class.specs.Classes.{Name, Classes}
-use Rattle.s80_class.proofs.Lines.{get-inserted}
+use Rattle.s80_class.proofs.lemmas.Lines.{get-inserted}
 use Rattle.s80_apply.specs.Accept.{define, row_of, bad_name, unknown_class, kernel_class, cycle, duplicate, too_many, refusal_of, accepted, accept_definition}
 use Rattle.s80_apply.specs.Kernel.{kernel_classes}
 use Rattle.s80_apply.specs.Named.{AreNamed}

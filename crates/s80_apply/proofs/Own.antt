@@ -1,24 +1,23 @@
 -- The kernel's method that a method is.
-use Rattle.std.proofs.Common.{◌≡◌, ◌≤◌, ◌+◌, ◌∙◌, ◌&&◌, ◌↔◌, ℕ, Bool, cond, true, false, refl, sym, ap, List, length, Option, Some, None, option_map, codes, slice_range, arith}
-use Rattle.std.specs.List.{All, Contains}
+use Rattle.std.proofs.Common.{◌≡◌, ◌≤◌, ◌+◌, ◌∙◌, ◌&&◌, ℕ, Bool, cond, true, false, refl, sym, ap, List, length, Option, Some, None, option_map, codes, slice_range, arith}
+use Rattle.std.specs.List.{All}
 use Rattle.std.specs.Str.{bytes_eq}
 use Rattle.std.specs.Cmp.Lexicographic.{bytes_decides}
 use Rattle.std.proofs.lemmas.Bool.{and_parts}
 use Rattle.std.proofs.lemmas.List.Elements.{All-contains}
 use Rattle.std.proofs.lemmas.Option.{slice_get_within}
 use Rattle.s80_kernel.specs.declared.methods.KernelMethod.{KernelMethod}
-use Rattle.s80_kernel.specs.Methods.{KernelMethodRow, StandsIn, found_method, held_place, kernel_methods, key_of, place_of}
+use Rattle.s80_kernel.specs.Methods.{KernelMethodRow, StandsIn, found_method, held_place, kernel_methods, place_of}
 use Rattle.s80_kernel.specs.Text.{kernel_text}
 use Rattle.s80_change.specs.declared.change.Method.{Method as MethodChange}
 use Rattle.s80_class.specs.Classes.{Name}
 use Rattle.s80_class.specs.Table.{IsNumberOf}
-use Rattle.s80_apply.specs.Accept.{kernel_row, on_class_side, same_method}
+use Rattle.s80_apply.specs.State.{on_class_side}
+use Rattle.s80_apply.specs.Placed.{kernel_row, same_method}
 use Rattle.s80_apply.specs.Method.{IsKernelMethod}
 use Rattle.s80_apply.specs.System.{IsSoundSystem, SystemState}
 use Rattle.s80_apply.proofs.Places.{some_same}
-
-abbrev pub AreNamed : Type 0
-AreNamed = (class : List ℕ) (on_class_side : Bool) (selector : List ℕ) (row : KernelMethodRow) → found_method class on_class_side selector ≡ Some row ↔ Contains kernel_methods row × (key_of row ≡ (class, on_class_side, selector))
+use Rattle.s80_apply.proofs.Shown.{AreNamed}
 
 module _ (m : MethodChange) (selector : List ℕ) (own : KernelMethod) (side same : Bool) (stand : All (StandsIn kernel_text) kernel_methods) (named : AreNamed) (found : Some (held_place own) ≡ option_map place_of (found_method m.class_name side selector))
     (side_is : side ≡ on_class_side m.side) (same_is : same ≡ (bytes_eq m.category (codes "kernel") && bytes_eq m.source (slice_range kernel_text own.position (own.position + own.length)))) where

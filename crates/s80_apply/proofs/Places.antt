@@ -6,7 +6,7 @@ use Rattle.std.specs.FinMap as map
 use Rattle.std.proofs.lemmas.Bool.Decides.{nat_tests}
 use Rattle.s80_base.specs.declared.names.Side.{Side}
 use Rattle.s80_base.specs.declared.names.Side.TheVariants.{Instance, Class}
-use Rattle.s80_class.proofs.Lines.{not_eq}
+use Rattle.s80_class.proofs.lemmas.Lines.{not_eq}
 use Rattle.s80_dict.specs.Dict.{HasRoom, Methods}
 use Rattle.s80_dict.specs.Table.{MethodsValue, is_place, methods_at, put_at, room_at, same_side}
 use Rattle.s80_apply.specs.declared.step.PlacedMethod.{PlacedMethod}

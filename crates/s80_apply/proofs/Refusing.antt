@@ -13,14 +13,14 @@ use Rattle.s80_class.specs.declared.inherited.Greatest.{Greatest}
 use Rattle.s80_class.specs.Classes.{Name, ClassRow, Classes, IsLine, IsValid, lineage, is_under, inherited_in, inherited_of, extent_of, bits_variables_of, is_bits, own_or}
 use Rattle.s80_class.specs.Counted.{counted, totals, greatest_of}
 use Rattle.s80_class.specs.Table.{Table, IsNumberOf, IsSuperclass, IsAbove, row_of}
-use Rattle.s80_class.proofs.Lines.{Entry, IsOver, passes}
+use Rattle.s80_class.proofs.lemmas.Lines.{Entry, IsOver, passes}
 use Rattle.s80_apply.specs.Accept.{row_of as defined_row, define, bad_name, unknown_class, kernel_class, cycle, duplicate, first_some, too_many, above, refusal_of}
 use Rattle.s80_apply.specs.Entry.{IsDefined}
 use Rattle.s80_apply.specs.Extent.{IsGreatest, totals_on, alone}
 use Rattle.s80_apply.specs.Limits.{IsWithin}
 use Rattle.s80_apply.specs.System.{AreRecompiled, CanPut, HasDictionaryRoom, MayPut, SystemState, with_entry}
 use Rattle.s80_apply.specs.declared.step.PlacedMethod.{PlacedMethod}
-use Rattle.s80_class.proofs.Most.{some_row}
+use Rattle.s80_class.proofs.lemmas.Most.{some_row}
 use Rattle.s80_apply.proofs.Defined.{alone_under, line_of, no_lineage, over_of, inherited_defined, valid_defined}
 use Rattle.s80_apply.proofs.Extents.{bits_extent, own_side, within_defined, alone_extent, grown_extent}
 
@@ -229,6 +229,7 @@ nothing_again : (system : SystemState) (entry : ClassEntry) → IsValid system.t
     → ((c : ℕ) → IsNumberOf system.table.names c entry.class_name → ⊥) → AreRecompiled system (with_entry system.table entry) entry.class_name []
 nothing_again system entry valid over none unnumbered = record {
   each = λ k p at. absurd (let bad : None ≡ Some p = at in cc);
+  apart = λ j k p q at. absurd (let bad : None ≡ Some p = at in cc);
   all = λ number class side selector method named under has.
       let classes = system.table.classes in
       let row = row_of system.table.names entry in

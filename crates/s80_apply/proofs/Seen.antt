@@ -10,7 +10,7 @@ use Rattle.std.proofs.lemmas.List.{take_more}
 use Rattle.std.proofs.lemmas.List.Folds.{list_any_more}
 use Rattle.std.proofs.lemmas.Option.{slice_get_within, get_or_from_slice_get}
 use Rattle.std.proofs.lemmas.Map.Text.{is_eq-slice_cmp}
-use Rattle.s80_grammar.specs.Word.{has_name}
+use Rattle.s80_syntax.specs.Word.{has_name}
 use Rattle.s80_apply.specs.Accept.{first_again}
 use Rattle.s80_apply.proofs.Found.{rest_at}
 

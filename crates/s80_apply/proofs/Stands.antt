@@ -21,14 +21,17 @@ use Rattle.s80_form.specs.declared.definition.Definition.{Definition}
 use Rattle.s80_class.specs.declared.entry.ClassEntry.{ClassEntry}
 use Rattle.s80_class.specs.Classes.{Name, Classes}
 use Rattle.s80_class.specs.Table.{Table, IsNumberOf}
-use Rattle.s80_class.proofs.Lines.{get-inserted}
+use Rattle.s80_class.proofs.lemmas.Lines.{get-inserted}
 use Rattle.s80_apply.specs.declared.step.Placed.{Placed}
 use Rattle.s80_apply.specs.declared.step.PlacedMethod.{PlacedMethod}
-use Rattle.s80_apply.specs.State.{MethodRow, State}
-use Rattle.s80_apply.specs.Accept.{define, kernel_row, len_with, method_row, put_source, source_offset, row_of as defined_row}
-use Rattle.s80_apply.specs.Entries.{AreEntriesOf, Entry, row_in}
-use Rattle.s80_apply.specs.System.{CanPut, HasClass, HasMethod, IsRecompiled, IsSoundSystem, IsSystemOf, MayPut, SystemState, moved, put, put_all, put_at_number, with_dictionaries, with_entry}
-use Rattle.s80_apply.proofs.Places.{get-put, same_number, side_is}
+use Rattle.s80_apply.specs.State.{StateOf}
+use Rattle.s80_apply.specs.Accept.{define, len_with, method_row, put_source, row_of as defined_row}
+use Rattle.s80_apply.specs.Placed.{PlacedRow, kernel_row, placed_row, row_at, source_offset, without_place}
+use Rattle.s80_apply.specs.Seen.{AreSeen}
+use Rattle.s80_apply.proofs.Shown.{row_shown}
+use Rattle.s80_apply.specs.Entries.{Entry, row_in, state_row}
+use Rattle.s80_apply.specs.System.{CanPut, HasClass, HasMethod, IsRecompiled, IsSoundSystem, IsSystemBy, MayPut, SystemState, moved, put, put_all, put_at_number, with_dictionaries, with_entry}
+use Rattle.s80_apply.proofs.Places.{get-put, same_number, side_is, some_same}
 use Rattle.s80_apply.specs.Method.{TakesPlace}
 
 abbrev order : Name → Name → Ordering
@@ -73,33 +76,37 @@ nothing_long (x ∷ xs) h = absurd (omega (arith, h))
 keys_empty : (X : Type 0) → map.keys (map.empty {X = X} {R = order}) ≡ []
 keys_empty X = nothing_long (map.keys (map.empty {X = X} {R = order})) (sym (len_keys (map.empty {X = X} {R = order})) ∙ map.len-empty order X)
 
--- ---- entries of methods
+-- ---- what is seen of methods
 
-by_place : (b : Bool) (v : Entry) (row : MethodRow) (o : Option Entry) (q : Option MethodRow) → row_in v ≡ row → option_map row_in o ≡ q → option_map row_in (cond b (Some v) o) ≡ cond b (Some row) q
-by_place true v row o q is same = ap Some is
-by_place false v row o q is same = same
+by_place : {X M : Type 0} (view : X → M) (b : Bool) (v : X) (row : M) (o : Option X) (q : Option M) → view v ≡ row → option_map view o ≡ q → option_map view (cond b (Some v) o) ≡ cond b (Some row) q
+by_place view true v row o q is same = ap Some is
+by_place view false v row o q is same = same
 
-pub entries_put : (m : Methods Entry) (n : Methods MethodRow) (k : Name) (v : Entry) (row : MethodRow) → row_in v ≡ row → AreEntriesOf m n → AreEntriesOf (map.insert m k v) (map.insert n k row)
-entries_put m n k v row is are = record {
+pub seen_put : {X M : Type 0} (view : X → M) (m : Methods X) (n : Methods M) (k : Name) (v : X) (row : M) → view v ≡ row → AreSeen view m n → AreSeen view (map.insert m k v) (map.insert n k row)
+seen_put view m n k v row is are = record {
   keys = keys_insert m n k v row are.keys;
-  each = λ s. ap (option_map row_in) (map.get-insert nat_list_cmp_total m k v s)
-      ∙ by_place (eq_by_cmp order s k) v row (map.get m s) (map.get n s) is (are.each s)
+  each = λ s. ap (option_map view) (map.get-insert nat_list_cmp_total m k v s)
+      ∙ by_place view (eq_by_cmp order s k) v row (map.get m s) (map.get n s) is (are.each s)
       ∙ sym (map.get-insert nat_list_cmp_total n k row s);
 }
 
-pub entries_empty : AreEntriesOf map.empty map.empty
-entries_empty = record {
-  keys = keys_empty Entry ∙ sym (keys_empty MethodRow);
-  each = λ s. ap (option_map row_in) (map.get-empty order s) ∙ sym (map.get-empty order s);
+pub seen_empty : {X M : Type 0} (view : X → M) → AreSeen view map.empty map.empty
+seen_empty {X} {M} view = record {
+  keys = keys_empty X ∙ sym (keys_empty M);
+  each = λ s. ap (option_map view) (map.get-empty order s) ∙ sym (map.get-empty order s);
 }
+
+pub seen_where : {X M : Type 0} (view : X → M) (b : Bool) (x y : Methods X) (z w : Methods M) → AreSeen view x z → AreSeen view y w → AreSeen view (cond b x y) (cond b z w)
+seen_where view true x y z w put kept = put
+seen_where view false x y z w put kept = kept
 
 some_of : {X Y : Type 0} (f : X → Y) (o : Option X) → is_some (option_map f o) ≡ is_some o
 some_of f None = refl
 some_of f (Some x) = refl
 
-pub same_count : (m : Methods Entry) (n : Methods MethodRow) (k : Name) → AreEntriesOf m n → len_with k m ≡ len_with k n
-same_count m n k are =
-    let there : map.contains_key m k ≡ map.contains_key n k = sym (some_of row_in (map.get m k)) ∙ ap is_some (are.each k) in
+pub same_count : {X M : Type 0} (view : X → M) (m : Methods X) (n : Methods M) (k : Name) → AreSeen view m n → len_with k m ≡ len_with k n
+same_count view m n k are =
+    let there : map.contains_key m k ≡ map.contains_key n k = sym (some_of view (map.get m k)) ∙ ap is_some (are.each k) in
     let count : map.len m ≡ map.len n = len_keys m ∙ ap length are.keys ∙ sym (len_keys n) in
     λ i. cond (there i) (count i) (count i + 1)
 
@@ -113,10 +120,23 @@ pub record SameRows (m n : Methods Entry) : Type 0 where
 same_rows : (m : Methods Entry) → SameRows m m
 same_rows m = record { keys = refl; each = λ s. refl }
 
-entries_of_rows : (m n : Methods Entry) (rows : Methods MethodRow) → SameRows m n → AreEntriesOf n rows → AreEntriesOf m rows
-entries_of_rows m n rows same are = record { keys = same.keys ∙ are.keys; each = λ s. same.each s ∙ are.each s }
+-- the rows show what is seen of entries
+abbrev pub Shows : {M : Type 0} → (Entry → M) → Type 0
+Shows {M} view = (a b : Option Entry) → option_map row_in a ≡ option_map row_in b → option_map view a ≡ option_map view b
 
-some_there : (o : Option Entry) (row : MethodRow) → option_map row_in o ≡ Some row → (e : Entry) × (o ≡ Some e)
+pub rows_show : Shows row_in
+rows_show a b same = same
+
+pub state_rows_show : Shows state_row
+state_rows_show None None same = refl
+state_rows_show None (Some b) same = absurd (cc)
+state_rows_show (Some a) None same = absurd (cc)
+state_rows_show (Some a) (Some b) same = ap (λ (r : PlacedRow). Some (without_place r)) (some_same (row_in a) (row_in b) same)
+
+seen_of_rows : {M : Type 0} (view : Entry → M) → Shows view → (m n : Methods Entry) (rows : Methods M) → SameRows m n → AreSeen view n rows → AreSeen view m rows
+seen_of_rows view shows m n rows same are = record { keys = same.keys ∙ are.keys; each = λ s. shows (map.get m s) (map.get n s) (same.each s) ∙ are.each s }
+
+pub some_there : (o : Option Entry) (row : PlacedRow) → option_map row_in o ≡ Some row → (e : Entry) × (o ≡ Some e)
 some_there None row is = absurd (let bad : None ≡ Some row = is in cc)
 some_there (Some e) row is = (e, refl)
 
@@ -160,21 +180,21 @@ all_rows (p ∷ ps) d e same each n s = all_rows ps (put_at d p.number p.side p.
 
 -- ---- a system that is only given room
 
-pub still : (old now : SystemState) (state : State) → now.table ≡ old.table → ((n : ℕ) (s : Side) → methods_at now.methods n s ≡ methods_at old.methods n s) → IsSystemOf old state → IsSystemOf now state
-still old now state table methods is = record {
+pub still : {M : Type 0} {view : Entry → M} (old now : SystemState) (state : StateOf M) → now.table ≡ old.table → ((n : ℕ) (s : Side) → methods_at now.methods n s ≡ methods_at old.methods n s) → IsSystemBy view old state → IsSystemBy view now state
+still {M} {view} old now state table methods is = record {
   classes = ap (λ (t : Table). t.classes) table ∙ is.classes;
   methods = λ number name side named.
-      subst (λ e. AreEntriesOf e (state.methods name side)) (sym (methods number side)) (is.methods number name side (subst (λ (t : Table). IsNumberOf t.names number name) table named));
+      subst (λ e. AreSeen view e (state.methods name side)) (sym (methods number side)) (is.methods number name side (subst (λ (t : Table). IsNumberOf t.names number name) table named));
   others = is.others;
 }
 
 -- the same where the table has its classes and names yet
-pub stays : (old now : SystemState) (state : State) → now.table.classes ≡ old.table.classes → now.table.names ≡ old.table.names → ((n : ℕ) (s : Side) → methods_at now.methods n s ≡ methods_at old.methods n s)
-    → IsSystemOf old state → IsSystemOf now state
-stays old now state classes names methods is = record {
+pub stays : {M : Type 0} {view : Entry → M} (old now : SystemState) (state : StateOf M) → now.table.classes ≡ old.table.classes → now.table.names ≡ old.table.names → ((n : ℕ) (s : Side) → methods_at now.methods n s ≡ methods_at old.methods n s)
+    → IsSystemBy view old state → IsSystemBy view now state
+stays {M} {view} old now state classes names methods is = record {
   classes = classes ∙ is.classes;
   methods = λ number name side named.
-      subst (λ e. AreEntriesOf e (state.methods name side)) (sym (methods number side)) (is.methods number name side (subst (λ ns. IsNumberOf ns number name) names named));
+      subst (λ e. AreSeen view e (state.methods name side)) (sym (methods number side)) (is.methods number name side (subst (λ ns. IsNumberOf ns number name) names named));
   others = is.others;
 }
 
@@ -197,55 +217,50 @@ same_place names n number name class named of only = go (nat_eq n number) (bytes
         let here : n ≡ number = only n (subst (λ (x : Name). IsNumberOf names n x) same named) in
         grind (arith, nat_tests)
 
-abbrev moved_row : ℕ → MethodRow → MethodRow
+abbrev moved_row : ℕ → PlacedRow → PlacedRow
 moved_row at row = record { category = row.category; source = row.source; from_kernel = row.from_kernel; position = cond row.from_kernel row.position (at + row.position); length = row.length }
 
-moved_is : (m : MethodChange) (at : ℕ) (k : Option KernelMethodRow) → moved_row at (method_row m 0 k) ≡ method_row m at k
+moved_is : (m : MethodChange) (at : ℕ) (k : Option KernelMethodRow) → moved_row at (placed_row m 0 k) ≡ placed_row m at k
 moved_is m at None =
     let same : 0 + source_offset m ≡ source_offset m = omega arith in
     λ i. record { category = m.category; source = m.source; from_kernel = false; position = at + same i; length = length (spell m.source) }
 moved_is m at (Some k) = refl
 
-pub entries_where : (b : Bool) (x y : Methods Entry) (z w : Methods MethodRow) → AreEntriesOf x z → AreEntriesOf y w → AreEntriesOf (cond b x y) (cond b z w)
-entries_where true x y z w put kept = put
-entries_where false x y z w put kept = kept
+-- what is seen of the entry of a method, once its block is put
+pub place_is : (old : SystemState) (m : MethodChange) (selector : Name) (placed : PlacedMethod) (at : ℕ) → TakesPlace old m selector placed → row_in (moved at placed.entry) ≡ row_at at m selector
+place_is old m selector placed at takes = ap (moved_row at) takes.row ∙ moved_is m at (kernel_row m selector)
 
-pub method_put : (old before now : SystemState) (state : State) (m : MethodChange) (selector : Name) (placed : PlacedMethod) (at : ℕ) → before.table ≡ old.table → TakesPlace old m selector placed → IsSystemOf before state
-    → HasMethod before placed at now → IsSystemOf now (put_source m selector at state)
-method_put old before now state m selector placed at table takes is has = record {
-  classes = ap (λ (t : Table). t.classes) has.table ∙ is.classes;
-  methods = entries;
-  others = others;
-}
-  where
-    row : MethodRow
-    row = method_row m at (kernel_row m selector)
+pub row_is : (old : SystemState) (m : MethodChange) (selector : Name) (placed : PlacedMethod) (at : ℕ) → TakesPlace old m selector placed → state_row (moved at placed.entry) ≡ method_row m selector
+row_is old m selector placed at takes = ap without_place takes.row ∙ row_shown m 0 selector
 
-    row_is : row_in (moved at placed.entry) ≡ row
-    row_is = ap (moved_row at) takes.row ∙ moved_is m at (kernel_row m selector)
+module _ {M : Type 0} {view : Entry → M} (row : MethodChange → List ℕ → M) (old before now : SystemState) (state : StateOf M) (m : MethodChange) (selector : Name) (placed : PlacedMethod) (at : ℕ) (shown : view (moved at placed.entry) ≡ row m selector)
+    (table : before.table ≡ old.table) (takes : TakesPlace old m selector placed) (is : IsSystemBy view before state) (has : HasMethod before placed at now) where
+  put_entries : (number : ℕ) (name : Name) (side : Side) → IsNumberOf now.table.names number name
+      → AreSeen view (methods_at now.methods number side) (cond (bytes_eq name m.class_name && same_side side m.side) (map.insert (state.methods name side) selector (row m selector)) (state.methods name side))
+  put_entries number name side named =
+      let here : IsNumberOf before.table.names number name = subst (λ (t : Table). IsNumberOf t.names number name) has.table named in
+      let there : IsNumberOf old.table.names number name = subst (λ (t : Table). IsNumberOf t.names number name) table here in
+      let place : nat_eq number placed.number ≡ bytes_eq name m.class_name = same_place old.table.names number placed.number name m.class_name there takes.number takes.only in
+      let kept : AreSeen view (methods_at before.methods number side) (state.methods name side) = is.methods number name side here in
+      subst (λ e. AreSeen view e (cond (bytes_eq name m.class_name && same_side side m.side) (map.insert (state.methods name side) selector (row m selector)) (state.methods name side)))
+      (sym (has.methods number side ∙ (λ i. cond (place i && same_side side (takes.side i)) (map.insert (methods_at before.methods number side) (takes.selector_is i) (moved at placed.entry)) (methods_at before.methods number side))))
+      (seen_where view (bytes_eq name m.class_name && same_side side m.side) (map.insert (methods_at before.methods number side) selector (moved at placed.entry)) (methods_at before.methods number side) (map.insert (state.methods name side) selector (row m selector)) (state.methods name side)
+      (seen_put view (methods_at before.methods number side) (state.methods name side) selector (moved at placed.entry) (row m selector) shown kept) kept)
 
-    entries : (number : ℕ) (name : Name) (side : Side) → IsNumberOf now.table.names number name
-        → AreEntriesOf (methods_at now.methods number side) (cond (bytes_eq name m.class_name && same_side side m.side) (map.insert (state.methods name side) selector row) (state.methods name side))
-    entries number name side named =
-        let here : IsNumberOf before.table.names number name = subst (λ (t : Table). IsNumberOf t.names number name) has.table named in
-        let there : IsNumberOf old.table.names number name = subst (λ (t : Table). IsNumberOf t.names number name) table here in
-        let place : nat_eq number placed.number ≡ bytes_eq name m.class_name = same_place old.table.names number placed.number name m.class_name there takes.number takes.only in
-        let kept : AreEntriesOf (methods_at before.methods number side) (state.methods name side) = is.methods number name side here in
-        subst (λ e. AreEntriesOf e (cond (bytes_eq name m.class_name && same_side side m.side) (map.insert (state.methods name side) selector row) (state.methods name side)))
-        (sym (has.methods number side ∙ (λ i. cond (place i && same_side side (takes.side i)) (map.insert (methods_at before.methods number side) (takes.selector_is i) (moved at placed.entry)) (methods_at before.methods number side))))
-        (entries_where (bytes_eq name m.class_name && same_side side m.side) (map.insert (methods_at before.methods number side) selector (moved at placed.entry)) (methods_at before.methods number side) (map.insert (state.methods name side) selector row) (state.methods name side)
-        (entries_put (methods_at before.methods number side) (state.methods name side) selector (moved at placed.entry) row row_is kept) kept)
+  put_other : (name : Name) → map.get state.classes name ≡ None → (b : Bool) → bytes_eq name m.class_name ≡ b → b ≡ false
+  put_other name none false is_b = refl
+  put_other name none true same =
+      let absent : map.get old.table.classes m.class_name ≡ None =
+      ap (λ (t : Table). map.get t.classes m.class_name) (sym table) ∙ ap (λ (c : Classes). map.get c m.class_name) is.classes ∙ ap (map.get state.classes) (sym ((bytes_decides name m.class_name).0 same)) ∙ none in
+      sym takes.there ∙ ap is_some absent
 
-    other : (name : Name) → map.get state.classes name ≡ None → (b : Bool) → bytes_eq name m.class_name ≡ b → b ≡ false
-    other name none false is = refl
-    other name none true same =
-        let absent : map.get old.table.classes m.class_name ≡ None =
-        ap (λ (t : Table). map.get t.classes m.class_name) (sym table) ∙ ap (λ (c : Classes). map.get c m.class_name) is.classes ∙ ap (map.get state.classes) (sym ((bytes_decides name m.class_name).0 same)) ∙ none in
-        sym takes.there ∙ ap is_some absent
-
-    others : (name : Name) (side : Side) → map.get state.classes name ≡ None → cond (bytes_eq name m.class_name && same_side side m.side) (map.insert (state.methods name side) selector row) (state.methods name side) ≡ map.empty
-    others name side none =
-        ap (λ b. cond (b && same_side side m.side) (map.insert (state.methods name side) selector row) (state.methods name side)) (other name none (bytes_eq name m.class_name) refl) ∙ is.others name side none
+  pub method_put : IsSystemBy view now (put_source row m selector state)
+  method_put = record {
+    classes = ap (λ (t : Table). t.classes) has.table ∙ is.classes;
+    methods = put_entries;
+    others = λ name side none.
+        ap (λ b. cond (b && same_side side m.side) (map.insert (state.methods name side) selector (row m selector)) (state.methods name side)) (put_other name none (bytes_eq name m.class_name) refl) ∙ is.others name side none;
+  }
 
 -- ---- a class that is put
 
@@ -275,10 +290,10 @@ among (z ∷ xs) x zero y is = in_front is
 among (z ∷ xs) x (suc n) y is = further z xs x n y (among xs x n y is)
 
 -- the class's dictionaries are as before, but for those of a new class
-class_bare : (before : SystemState) (state : State) (d : Definition) (number : Option ℕ) (entry : ClassEntry) → IsSoundSystem before → IsSystemOf before state → MayPut before.table number entry
+class_bare : {M : Type 0} {view : Entry → M} (before : SystemState) (state : StateOf M) (d : Definition) (number : Option ℕ) (entry : ClassEntry) → IsSoundSystem before → IsSystemBy view before state → MayPut before.table number entry
     → with_entry before.table entry ≡ define d state.classes
-    → IsSystemOf (record { table = put_at_number before.table number entry; methods = with_dictionaries number before.methods }) (record state { classes = define d state.classes })
-class_bare before state d number entry sound is may makes = go number may
+    → IsSystemBy view (record { table = put_at_number before.table number entry; methods = with_dictionaries number before.methods }) (record state { classes = define d state.classes })
+class_bare {M} {view} before state d number entry sound is may makes = go number may
   where
     others : (name : Name) (side : Side) → map.get (define d state.classes) name ≡ None → state.methods name side ≡ map.empty
     others name side none = is.others name side (by_name (bytes_eq name d.class_name) (sym (get-inserted state.classes d.class_name (defined_row d (map.get state.classes d.class_name)) name) ∙ none))
@@ -288,7 +303,7 @@ class_bare before state d number entry sound is may makes = go number may
         by_name false none = none
 
     go : (number : Option ℕ) → MayPut before.table number entry
-        → IsSystemOf (record { table = put_at_number before.table number entry; methods = with_dictionaries number before.methods }) (record state { classes = define d state.classes })
+        → IsSystemBy view (record { table = put_at_number before.table number entry; methods = with_dictionaries number before.methods }) (record state { classes = define d state.classes })
     go (Some n) may = record { classes = makes; methods = is.methods; others = others }
     go None may = record { classes = makes; methods = λ n name side named. entries n name side (among before.table.names (Some entry.class_name) n (Some name) named); others = others }
       where
@@ -296,14 +311,14 @@ class_bare before state d number entry sound is may makes = go number may
         nothing Instance = refl
         nothing Class = refl
 
-        entries : (n : ℕ) (name : Name) (side : Side) → IsAmong before.table.names (Some entry.class_name) n (Some name) → AreEntriesOf (methods_at (with_dictionaries None before.methods) n side) (state.methods name side)
-        entries n name side (in_front there) = subst (λ e. AreEntriesOf e (state.methods name side)) (sym (dictionaries_stay None before.methods n side)) (is.methods n name side there)
+        entries : (n : ℕ) (name : Name) (side : Side) → IsAmong before.table.names (Some entry.class_name) n (Some name) → AreSeen view (methods_at (with_dictionaries None before.methods) n side) (state.methods name side)
+        entries n name side (in_front there) = subst (λ e. AreSeen view e (state.methods name side)) (sym (dictionaries_stay None before.methods n side)) (is.methods n name side there)
         entries n name side (behind past new) =
             let named : entry.class_name ≡ name = cc in
             let absent : map.get state.classes name ≡ None = ap (map.get state.classes) (sym named) ∙ ap (λ (c : Classes). map.get c entry.class_name) (sym is.classes) ∙ may.1 in
             let far : length before.methods.sides ≤ n = omega (arith, past, sound.dictionaries) in
             let none : methods_at before.methods n side ≡ map.empty = ap (λ s. (on_side s side).methods) (get_or_past before.methods.sides n no_sides far) ∙ nothing side in
-            subst (λ e. AreEntriesOf e (state.methods name side)) (sym (dictionaries_stay None before.methods n side ∙ none)) (subst (λ r. AreEntriesOf map.empty r) (sym (is.others name side absent)) entries_empty)
+            subst (λ e. AreSeen view e (state.methods name side)) (sym (dictionaries_stay None before.methods n side ∙ none)) (subst (λ r. AreSeen view map.empty r) (sym (is.others name side absent)) (seen_empty view))
 
 -- methods that are compiled again have the rows of those that were there
 again_there : (before : SystemState) (classes : Classes) (number : Option ℕ) (p : PlacedMethod) → IsRecompiled before classes p
@@ -311,22 +326,25 @@ again_there : (before : SystemState) (classes : Classes) (number : Option ℕ) (
 again_there before classes number p is =
     ap (λ (m : Methods Entry). option_map row_in (map.get m p.selector)) (dictionaries_stay number before.methods p.number p.side) ∙ ap (option_map row_in) is.there ∙ ap Some (sym is.row)
 
-pub class_put : (before now : SystemState) (state : State) (d : Definition) (placed : Placed) → IsSoundSystem before → IsSystemOf before state → CanPut before placed → with_entry before.table placed.entry ≡ define d state.classes
-    → HasClass before placed now → IsSystemOf now (record state { classes = define d state.classes })
-class_put before now state d placed sound is can makes has = record {
+-- the dictionaries with the entry, and the same with the methods that were compiled again
+pub again_rows : (before : SystemState) (placed : Placed) → CanPut before placed → (n : ℕ) (s : Side)
+    → SameRows (put_all placed.recompiled.items (methods_at (with_dictionaries placed.number before.methods)) n s) (methods_at (with_dictionaries placed.number before.methods) n s)
+again_rows before placed can =
+    all_rows placed.recompiled.items (methods_at (with_dictionaries placed.number before.methods)) (methods_at (with_dictionaries placed.number before.methods)) (λ n s. same_rows (methods_at (with_dictionaries placed.number before.methods) n s))
+    (λ k p at. again_there before (with_entry before.table placed.entry) placed.number p (can.recompiled.each k p at))
+
+pub class_put : {M : Type 0} {view : Entry → M} → Shows view → (before now : SystemState) (state : StateOf M) (d : Definition) (placed : Placed) → IsSoundSystem before → IsSystemBy view before state → CanPut before placed → with_entry before.table placed.entry ≡ define d state.classes
+    → HasClass before placed now → IsSystemBy view now (record state { classes = define d state.classes })
+class_put {M} {view} shows before now state d placed sound is can makes has = record {
   classes = ap (λ (t : Table). t.classes) has.table ∙ bare.classes;
   methods = entries;
   others = bare.others;
 }
   where
-    bare : IsSystemOf (record { table = put before.table placed; methods = with_dictionaries placed.number before.methods }) (record state { classes = define d state.classes })
+    bare : IsSystemBy view (record { table = put before.table placed; methods = with_dictionaries placed.number before.methods }) (record state { classes = define d state.classes })
     bare = class_bare before state d placed.number placed.entry sound is can.may_put makes
 
-    rows : (n : ℕ) (s : Side) → SameRows (put_all placed.recompiled.items (methods_at (with_dictionaries placed.number before.methods)) n s) (methods_at (with_dictionaries placed.number before.methods) n s)
-    rows = all_rows placed.recompiled.items (methods_at (with_dictionaries placed.number before.methods)) (methods_at (with_dictionaries placed.number before.methods)) (λ n s. same_rows (methods_at (with_dictionaries placed.number before.methods) n s))
-        (λ k p at. again_there before (with_entry before.table placed.entry) placed.number p (can.recompiled.each k p at))
-
-    entries : (n : ℕ) (name : Name) (side : Side) → IsNumberOf now.table.names n name → AreEntriesOf (methods_at now.methods n side) (state.methods name side)
+    entries : (n : ℕ) (name : Name) (side : Side) → IsNumberOf now.table.names n name → AreSeen view (methods_at now.methods n side) (state.methods name side)
     entries n name side named =
         let there : IsNumberOf (put before.table placed).names n name = subst (λ (t : Table). IsNumberOf t.names n name) has.table named in
-        subst (λ e. AreEntriesOf e (state.methods name side)) (sym (has.methods n side)) (entries_of_rows _ _ (state.methods name side) (rows n side) (bare.methods n name side there))
+        subst (λ e. AreSeen view e (state.methods name side)) (sym (has.methods n side)) (seen_of_rows view shows _ _ (state.methods name side) (again_rows before placed can n side) (bare.methods n name side there))

@@ -1,7 +1,7 @@
 -- Whether a change is accepted, and what it makes of the state.
-use Rattle.std.specs.Prelude.{ℕ, ◌+◌, ◌&&◌, true, false, codes, List, [], ◌∷◌, ◌++◌, Bool, not, Option, Some, None, Result, Ok, Err, length, find, nat_le, option_map, unwrap_or, if◌then◌else◌}
+use Rattle.std.specs.Prelude.{ℕ, ◌+◌, List, [], ◌∷◌, ◌++◌, not, Option, Some, None, Result, Ok, Err, length, find, nat_le, option_map, unwrap_or, if◌then◌else◌}
 use Rattle.std.specs.FinMap as map
-use Rattle.s80_grammar.specs.Word.{has_name}
+use Rattle.s80_syntax.specs.Word.{has_name}
 use Rattle.s80_kernel.specs.Rows.{is_kernel_class}
 use Rattle.s80_change.specs.declared.change.Change.{Change}
 use Rattle.s80_change.specs.declared.change.Change.TheVariants.{Define, DoIt}
@@ -12,27 +12,16 @@ use Rattle.s80_form.specs.declared.refusal.ManyKind.{ManyKind}
 use Rattle.s80_form.specs.declared.refusal.ManyKind.TheVariants.{Classes as ManyClasses, InstanceVariables, ClassVariables, ClassSideVariables, Pools, Methods as ManyMethods, BitsVariables}
 use Rattle.s80_form.specs.Name.{is_name, is_class_name}
 use Rattle.s80_class.specs.Classes.{Name, ClassRow, Classes, is_under, extent_of}
-use Rattle.std.specs.Str.{bytes_eq}
-use Rattle.s80_base.specs.declared.names.Side.{Side}
-use Rattle.s80_base.specs.declared.names.Side.TheVariants.{Instance, Class}
 use Rattle.s80_dict.specs.Dict.{Methods}
-use Rattle.s80_chunk.specs.Chunks.{mark, spell, chunk}
-use Rattle.s80_kernel.specs.Methods.{KernelMethodRow, found_method}
 use Rattle.s80_change.specs.declared.change.Change.TheVariants as change
 use Rattle.s80_change.specs.declared.change.Method.{Method}
 use Rattle.s80_change.specs.declared.source_check.SourceCheck.{SourceCheck}
 use Rattle.s80_change.specs.declared.source_check.SourceCheck.TheVariants as checks
-use Rattle.s80_change.specs.Head.{head_text}
-use Rattle.s80_change.specs.Block.{head_of}
-use Rattle.s80_apply.specs.State.{MethodRow, State, put_method, kernel_method}
+use Rattle.s80_apply.specs.State.{MethodRow, State, StateOf, put_method}
 
 -- how many methods there are with one at this selector
 abbrev pub len_with : {X : Type 0} → List ℕ → Methods X → ℕ
 len_with selector methods = if map.contains_key methods selector then map.len methods else map.len methods + 1
-
-abbrev pub on_class_side : Side → Bool
-on_class_side Instance = false
-on_class_side Class = true
 
 -- ---- definitions
 
@@ -112,39 +101,29 @@ accept_definition d classes = accepted (refusal_of d classes) (define d classes)
 
 -- ---- methods
 
--- where the source of a method begins in its block
-abbrev pub source_offset : Method → ℕ
-source_offset m = length (mark ∷ chunk (head_text (head_of m)) ++ 10 ∷ [])
+-- what the state has of a method
+abbrev pub method_row : Method → List ℕ → MethodRow
+method_row m selector = record { category = m.category; source = m.source }
 
--- the method of the kernel that this one is, where it has that one's category and source
-abbrev pub same_method : Method → Option KernelMethodRow → Option KernelMethodRow
-same_method m None = None
-same_method m (Some k) = if bytes_eq m.category (codes "kernel") && bytes_eq m.source k.source then Some k else None
+abbrev pub put_source : {M : Type 0} → (Method → List ℕ → M) → Method → List ℕ → StateOf M → StateOf M
+put_source row m selector state = put_method m.class_name m.side selector (row m selector) state
 
-abbrev pub kernel_row : Method → List ℕ → Option KernelMethodRow
-kernel_row m selector = same_method m (found_method m.class_name (on_class_side m.side) selector)
-
--- a method whose block begins at this place of the log
-abbrev pub method_row : Method → ℕ → Option KernelMethodRow → MethodRow
-method_row m at None = record { category = m.category; source = m.source; from_kernel = false; position = at + source_offset m; length = length (spell m.source) }
-method_row m at (Some k) = kernel_method k
-
-abbrev pub put_source : Method → List ℕ → ℕ → State → State
-put_source m selector at state = put_method m.class_name m.side selector (method_row m at (kernel_row m selector)) state
-
-abbrev pub too_many_methods : Method → List ℕ → State → Option Refusal
+abbrev pub too_many_methods : {M : Type 0} → Method → List ℕ → StateOf M → Option Refusal
 too_many_methods m selector state = above 16384 ManyMethods (len_with selector (state.methods m.class_name m.side))
 
 -- a method is refused for its source alone, for its class, or for the number of methods that there would be
-abbrev pub accept_checked : Method → SourceCheck → ℕ → State → Result State Refusal
-accept_checked m (checks.Refused refusal) at state = Err refusal
-accept_checked m (checks.Fits selector) at state =
-    accepted (first_some (unknown_name m.class_name state.classes ∷ too_many_methods m selector state ∷ [])) (put_source m selector at state)
+abbrev pub accept_checked : {M : Type 0} → (Method → List ℕ → M) → Method → SourceCheck → StateOf M → Result (StateOf M) Refusal
+accept_checked row m (checks.Refused refusal) state = Err refusal
+accept_checked row m (checks.Fits selector) state =
+    accepted (first_some (unknown_name m.class_name state.classes ∷ too_many_methods m selector state ∷ [])) (put_source row m selector state)
 
 -- ---- changes
 
--- What a change makes of the state, whose block begins at this place of the log; or why it is refused. A doIt changes nothing, and is never refused.
-abbrev pub accept : Change → ℕ → State → Result State Refusal
-accept (Define d) at state = accepted (refusal_of d state.classes) (record state { classes = define d state.classes })
-accept (change.Method m) at state = accept_checked m m.check at state
-accept (DoIt text) at state = Ok state
+-- What a change makes of a state that keeps so much of a method; or why it is refused. A doIt changes nothing, and is never refused.
+abbrev pub accept_with : {M : Type 0} → (Method → List ℕ → M) → Change → StateOf M → Result (StateOf M) Refusal
+accept_with row (Define d) state = accepted (refusal_of d state.classes) (record state { classes = define d state.classes })
+accept_with row (change.Method m) state = accept_checked row m m.check state
+accept_with row (DoIt text) state = Ok state
+
+abbrev pub accept : Change → State → Result State Refusal
+accept change state = accept_with method_row change state

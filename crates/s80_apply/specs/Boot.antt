@@ -12,7 +12,8 @@ use Rattle.s80_dict.specs.Table.{MethodsValue, methods_at, put_at}
 use Rattle.s80_kernel.specs.declared.methods.KernelMethod.{KernelMethod}
 use Rattle.s80_apply.specs.Kernel.{kind_of, kernel_classes}
 use Rattle.s80_apply.specs.Limits.{IsWithin}
-use Rattle.s80_apply.specs.State.{MethodRow, side_of}
+use Rattle.s80_apply.specs.State.{side_of}
+use Rattle.s80_apply.specs.Placed.{PlacedRow}
 use Rattle.s80_apply.specs.Entries.{Entry, row_in}
 use Rattle.s80_apply.specs.Codes.{HasCode}
 
@@ -40,8 +41,8 @@ pub record HasClassesAlone (table : Table) (methods : MethodsValue Entry) : Type
   pub count : length methods.sides ≡ length table.names
   pub none : (n : ℕ) (s : Side) → methods_at methods n s ≡ map.empty
 
--- what the state has of a method
-abbrev pub row_held : KernelMethod → MethodRow
+-- a method with the place of its source
+abbrev pub row_held : KernelMethod → PlacedRow
 row_held m = record { category = codes "kernel"; source = slice_range kernel_text m.position (m.position + m.length); from_kernel = true; position = m.position; length = m.length }
 
 -- the dictionary of the method's class and side takes it with its code, and the others are as before

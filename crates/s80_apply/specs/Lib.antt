@@ -5,6 +5,8 @@ pub mod Coded
 pub mod Boot
 pub mod Accept
 pub mod List
+pub mod Seen
+pub mod Placed
 pub mod Limits
 pub mod Named
 pub mod Entries

@@ -5,26 +5,25 @@ use Rattle.s80_form.specs.declared.refusal.Refusal.{Refusal}
 use Rattle.s80_form.specs.declared.refusal.Refusal.TheVariants.{LogFull}
 use Rattle.s80_change.specs.Block.{block, blocks, log_limit}
 use Rattle.s80_class.specs.Classes.{Classes}
-use Rattle.s80_apply.specs.State.{State, kernel_state}
+use Rattle.s80_apply.specs.State.{State, StateOf, kernel_state}
 use Rattle.s80_apply.specs.Accept.{accept}
 
 -- the state behind a change that was worked: where it is refused it stays
-abbrev pub state_or : Result State Refusal → State → State
+abbrev pub state_or : {M : Type 0} → Result (StateOf M) Refusal → StateOf M → StateOf M
 state_or (Ok state) before = state
 state_or (Err refusal) before = before
 
--- the state after a change whose block begins at this place of the log
-abbrev pub state_after : Change → ℕ → State → State
-state_after change at state = state_or (accept change at state) state
+abbrev pub state_after : Change → State → State
+state_after change state = state_or (accept change state) state
 
--- the state that changes make of this one, one change after another, the first of whose blocks begins at this place
-abbrev pub state_from : State → ℕ → List Change → State
-state_from state at [] = state
-state_from state at (change ∷ changes) = state_from (state_after change at state) (at + length (block change)) changes
+-- the state that changes make of this one, one change after another
+abbrev pub state_from : State → List Change → State
+state_from state [] = state
+state_from state (change ∷ changes) = state_from (state_after change state) changes
 
 -- the state that a list makes of the kernel's
 abbrev pub state_of : List Change → State
-state_of changes = state_from kernel_state 0 changes
+state_of changes = state_from kernel_state changes
 
 abbrev pub classes_of : List Change → Classes
 classes_of changes = (state_of changes).classes
@@ -33,18 +32,18 @@ classes_of changes = (state_of changes).classes
 abbrev pub AreOfList : Classes → Type 0
 AreOfList classes = (changes : List Change) × (classes ≡ classes_of changes)
 
-abbrev pub IsAccepted : Result State Refusal → Type 0
+abbrev pub IsAccepted : {M : Type 0} → Result (StateOf M) Refusal → Type 0
 IsAccepted (Ok state) = Unit {0}
 IsAccepted (Err refusal) = ⊥
 
 -- each change is accepted by the state that those before it make
-abbrev pub AreAccepted : State → ℕ → List Change → Type 0
-AreAccepted state at [] = Unit {0}
-AreAccepted state at (change ∷ changes) = IsAccepted (accept change at state) × AreAccepted (state_after change at state) (at + length (block change)) changes
+abbrev pub AreAccepted : State → List Change → Type 0
+AreAccepted state [] = Unit {0}
+AreAccepted state (change ∷ changes) = IsAccepted (accept change state) × AreAccepted (state_after change state) changes
 
 -- the list is built from nothing, each of its changes accepted
 abbrev pub IsBuilt : List Change → Type 0
-IsBuilt changes = AreAccepted kernel_state 0 changes
+IsBuilt changes = AreAccepted kernel_state changes
 
 -- why a block of this size isn't put behind so many bytes of log, if it isn't
 abbrev pub too_full : ℕ → ℕ → Option Refusal
@@ -56,7 +55,7 @@ refused_or (Err refusal) full = Some refusal
 
 -- why a change is refused in this state and behind a log of this length, if it is
 abbrev pub refusal_to : State → ℕ → Change → Option Refusal
-refusal_to state end change = refused_or (accept change end state) (too_full end (length (block change)))
+refusal_to state end change = refused_or (accept change state) (too_full end (length (block change)))
 
 abbrev pub added : Option Refusal → List Change → Result (List Change) Refusal
 added None changes = Ok changes

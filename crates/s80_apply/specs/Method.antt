@@ -16,8 +16,8 @@ use Rattle.s80_form.specs.declared.refusal.Refused.TheVariants as refused
 use Rattle.s80_change.specs.Block.{block}
 use Rattle.s80_class.specs.Table.{IsNumberOf}
 use Rattle.s80_apply.specs.declared.step.PlacedMethod.{PlacedMethod}
-use Rattle.s80_apply.specs.Accept.{above, kernel_row, len_with, method_row}
-use Rattle.s80_apply.specs.State.{MethodRow}
+use Rattle.s80_apply.specs.Accept.{above, len_with}
+use Rattle.s80_apply.specs.Placed.{PlacedRow, kernel_row, row_at}
 use Rattle.s80_apply.specs.Entries.{row_in}
 use Rattle.s80_apply.specs.Codes.{HasCode}
 use Rattle.s80_apply.specs.System.{SystemState, offset_in_block}
@@ -30,9 +30,9 @@ pub record IsKernelMethod (m : MethodChange) (selector : List ℕ) (own : Kernel
   pub position : own.position ≡ row.position
   pub size : own.length ≡ length row.source
 
--- a method as the state has it, whose position in the log is counted from the beginning of its block
-abbrev pub row_for : MethodChange → List ℕ → MethodRow
-row_for m selector = method_row m 0 (kernel_row m selector)
+-- a method with the place of its source, whose position in the log is counted from the beginning of its block
+abbrev pub row_for : MethodChange → List ℕ → PlacedRow
+row_for m selector = row_at 0 m selector
 
 -- it takes its selector on its side of its class
 pub record TakesPlace (system : SystemState) (m : MethodChange) (selector : List ℕ) (placed : PlacedMethod) : Type 0 where

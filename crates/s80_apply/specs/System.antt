@@ -17,12 +17,14 @@ use Rattle.s80_apply.specs.declared.step.Placed.{Placed}
 use Rattle.s80_apply.specs.declared.step.PlacedMethod.{PlacedMethod}
 use Rattle.s80_apply.specs.declared.step.Step.{Step}
 use Rattle.s80_apply.specs.declared.step.Step.TheVariants as steps
-use Rattle.s80_apply.specs.State.{State}
+use Rattle.s80_apply.specs.State.{State, StateOf, is_kernel_method}
+use Rattle.s80_apply.specs.Placed.{PlacedState, accept_placed}
+use Rattle.s80_apply.specs.Seen.{AreSeen}
 use Rattle.s80_apply.specs.Accept.{refusal_of, define, accept}
 use Rattle.s80_change.specs.Check.{IsCheckOf}
 use Rattle.s80_apply.specs.Limits.{IsWithin}
 use Rattle.s80_apply.specs.List.{AreOfList}
-use Rattle.s80_apply.specs.Entries.{Entry, AreEntriesOf, row_in}
+use Rattle.s80_apply.specs.Entries.{Entry, row_in, state_row}
 use Rattle.s80_apply.specs.Codes.{AreCodes, HasCode, HasCodeAt}
 
 -- the table of classes, and by their numbers the dictionaries
@@ -32,19 +34,36 @@ pub record SystemState : Type 0 where
 
 -- ---- what it stands for
 
--- the system has the classes of this state, and by their numbers the methods
-pub record IsSystemOf (system : SystemState) (state : State) : Type 0 where
+-- the system has the classes of this state, and by their numbers the methods, of whose entries so much is seen
+pub record IsSystemBy {M : Type 0} (view : Entry → M) (system : SystemState) (state : StateOf M) : Type 0 where
   pub classes : system.table.classes ≡ state.classes
-  pub methods : (number : ℕ) (name : Name) (side : Side) → IsNumberOf system.table.names number name → AreEntriesOf (methods_at system.methods number side) (state.methods name side)
+  pub methods : (number : ℕ) (name : Name) (side : Side) → IsNumberOf system.table.names number name → AreSeen view (methods_at system.methods number side) (state.methods name side)
   -- a name that no class has, has no methods
   pub others : (name : Name) (side : Side) → map.get state.classes name ≡ None → state.methods name side ≡ map.empty
 
--- the classes are those of a list and within the limits, each has dictionaries, and each method has the code of its source
+-- it has the classes and methods of this state
+abbrev pub IsSystemOf : SystemState → State → Type 0
+IsSystemOf system state = IsSystemBy state_row system state
+
+-- and the places of their sources
+abbrev pub HasPlaces : SystemState → PlacedState → Type 0
+HasPlaces system placed = IsSystemBy row_in system placed
+
+-- an entry says that its source stands in the kernel's text exactly where the method is the kernel's own
+abbrev pub TellsOwn : Table → ℕ → Side → List ℕ → Entry → Type 0
+TellsOwn table number side selector entry = (name : Name) → IsNumberOf table.names number name → entry.from_kernel ≡ is_kernel_method name side selector (state_row entry)
+
+abbrev pub TellOwn : Table → MethodsValue Entry → Type 0
+TellOwn table methods =
+    (number : ℕ) (side : Side) (selector : List ℕ) (entry : Entry) → map.get (methods_at methods number side) selector ≡ Some entry → TellsOwn table number side selector entry
+
+-- the classes are those of a list and within the limits, each has dictionaries, and each method has the code of its source and tells whether it is the kernel's own
 pub record IsSoundSystem (system : SystemState) : Type 0 where
   pub of_list : AreOfList system.table.classes
   pub within : IsWithin system.table.classes
   pub dictionaries : length system.methods.sides ≡ length system.table.names
   pub codes : AreCodes system.table system.methods
+  pub own : TellOwn system.table system.methods
 
 -- the class of this name has this number, and by it dictionaries
 pub record HasNumber (system : SystemState) (name : Name) (number : ℕ) : Type 0 where
@@ -91,20 +110,24 @@ pub record IsRecompiled (system : SystemState) (classes : Classes) (p : PlacedMe
   pub named : IsNumberOf system.table.names p.number class
   pub has_code : HasCode classes class p.side p.selector p.entry
 
--- these are the methods of the class of this name and of its descendants
+-- these are the methods of the class of this name and of its descendants, each once
 pub record AreRecompiled (system : SystemState) (classes : Classes) (name : Name) (methods : List PlacedMethod) : Type 0 where
   pub each : (k : ℕ) (p : PlacedMethod) → slice_get methods k ≡ Some p → IsRecompiled system classes p
   pub all : (number : ℕ) (class : Name) (side : Side) (selector : List ℕ) (entry : Entry) → IsNumberOf system.table.names number class → is_under classes class name ≡ true
       → map.get (methods_at system.methods number side) selector ≡ Some entry
       → (k : ℕ) × (p : PlacedMethod) × (slice_get methods k ≡ Some p) × (p.number ≡ number) × (p.side ≡ side) × (p.selector ≡ selector)
+  pub apart : (j k : ℕ) (p q : PlacedMethod) → slice_get methods j ≡ Some p → slice_get methods k ≡ Some q
+      → p.number ≡ q.number → p.side ≡ q.side → p.selector ≡ q.selector → j ≡ k
 
--- the methods of one side of a class, with their code for the classes as they are, behind others
+-- the methods of one side of a class, each once, with their code for the classes as they are, behind others
 pub record Adds (system : SystemState) (number : ℕ) (side : Side) (before now : List PlacedMethod) : Type 0 where
   pub more : List PlacedMethod
   pub behind : now ≡ before ++ more
   pub each : (k : ℕ) (p : PlacedMethod) → slice_get more k ≡ Some p → IsRecompiled system system.table.classes p
+  pub on : (k : ℕ) (p : PlacedMethod) → slice_get more k ≡ Some p → (p.number ≡ number) × (p.side ≡ side)
   pub all : (selector : List ℕ) (entry : Entry) → map.get (methods_at system.methods number side) selector ≡ Some entry
       → (k : ℕ) × (p : PlacedMethod) × (slice_get more k ≡ Some p) × (p.number ≡ number) × (p.side ≡ side) × (p.selector ≡ selector)
+  pub apart : (j k : ℕ) (p q : PlacedMethod) → slice_get more j ≡ Some p → slice_get more k ≡ Some q → p.selector ≡ q.selector → j ≡ k
 
 -- the entry may be put: then the classes are within the limits yet, and all methods whose classes it changes have their new code
 pub record CanPut (system : SystemState) (placed : Placed) : Type 0 where
@@ -136,11 +159,12 @@ Places classes d now (Err refused.Memory) = ⊤
 
 -- ---- a method that is put
 
--- its class is there, its selector has room on that side, and its code is that of its source
+-- its class is there, its selector has room on that side, its code is that of its source, and it tells whether it is the kernel's own
 pub record CanPutMethod (system : SystemState) (placed : PlacedMethod) : Type 0 where
   pub number : placed.number < length system.methods.sides
   pub room : HasRoom (room_at system.methods placed.number placed.side) placed.selector
   pub code : HasCodeAt system.table placed.number placed.side placed.selector placed.entry
+  pub own : TellsOwn system.table placed.number placed.side placed.selector placed.entry
 
 -- so many bytes of its block stand before the source; the kernel's text has a source of the kernel's
 abbrev pub offset_in_block : Entry → ℕ
@@ -181,14 +205,19 @@ IsInstalled before steps.Nothing at now = now ≡ before
 IsInstalled before (steps.Class placed) at now = HasClass before placed now
 IsInstalled before (steps.Method placed) at now = HasMethod before placed at now
 
--- Whatever a step makes of the system, whose block begins at this place, it is what accepting the change makes of the state.
-abbrev pub Makes : SystemState → Step → Change → State → ℕ → Type 0
-Makes system step change state at = (after : State) × (accept change at state ≡ Ok after) × ((now : SystemState) → IsInstalled system step at now → IsSystemOf now after)
+-- Whatever a step makes of the system, wherever its block begins, it is what accepting the change makes of the state.
+abbrev pub Makes : SystemState → Step → Change → State → Type 0
+Makes system step change state = (after : State) × (accept change state ≡ Ok after) × ((at : ℕ) (now : SystemState) → IsInstalled system step at now → IsSystemOf now after)
+
+-- and its sources stand where those of the change do
+abbrev pub MakesPlaces : SystemState → Step → Change → PlacedState → Type 0
+MakesPlaces system step change placed =
+    (at : ℕ) → (after : PlacedState) × (accept_placed change at placed ≡ Ok after) × ((now : SystemState) → IsInstalled system step at now → HasPlaces now after)
 
 -- what preparing a change answers in this state: a step that makes what accepting it makes, or the first reason to refuse it
 abbrev pub Prepares : State → Change → SystemState → Result Step Refused → Type 0
-Prepares state change now (Ok step) = (at : ℕ) → Makes now step change state at
-Prepares state change now (Err (refused.Refusal refusal)) = (at : ℕ) → accept change at state ≡ Err refusal
+Prepares state change now (Ok step) = Makes now step change state
+Prepares state change now (Err (refused.Refusal refusal)) = accept change state ≡ Err refusal
 Prepares state change now (Err refused.Memory) = ⊤
 
 -- what preparing a method answers in this state

@@ -3,7 +3,8 @@ ghost use Rattle.std.specs.Prelude.{◌≡◌, ◌+◌, ◌≤◌, true, codes, 
 ghost use Rattle.std.specs.FinMap as map;
 ghost use Rattle.s80_apply.specs.Kernel.{kind_of};
 ghost use Rattle.s80_apply.specs.State.{kernel_state, side_of};
-ghost use Rattle.s80_apply.specs.System.{IsSystemOf};
+ghost use Rattle.s80_apply.specs.Placed.{placed_kernel_state};
+ghost use Rattle.s80_apply.specs.System.{HasPlaces, IsSystemOf, TellOwn};
 ghost use Rattle.s80_kernel.specs.Text.{kernel_text};
 ghost use Rattle.s80_change.specs.Check.{IsCheckOf};
 ghost use Rattle.s80_change.specs.declared.source_check.SourceCheck.TheVariants.{Fits};
@@ -20,15 +21,17 @@ use s80_class::{ClassEntry, ClassTable, Kind};
 use s80_dict::{MethodEntry, MethodTable};
 use s80_form::split_names;
 use s80_kernel::{
-    KernelClass, KernelMethod, class_rows, kernel_methods_are_of_kernel_classes,
-    kernel_sources_are_plain, kernel_sources_stand_in_the_text, kernel_text, method_rows,
+    KernelClass, KernelMethod, class_rows, found_methods_are_those_named,
+    kernel_methods_are_of_kernel_classes, kernel_sources_are_plain,
+    kernel_sources_stand_in_the_text, kernel_text, method_rows,
 };
 use s80_verify::Verified;
 use std::alloc::Global;
 
 /// A system whose classes and methods are those of the kernel.
 pub fn boot(alloc: Global) -> Result<System, OutOfMemory>
-    ensures { IfOk result (λ system. IsSystemOf system kernel_state) }
+    ensures state { IfOk result (λ system. IsSystemOf system kernel_state) }
+    ensures places { IfOk result (λ system. HasPlaces system placed_kernel_state) }
 {
     let (classes, mut methods) = booted_classes(alloc)?;
     put_kernel_methods(alloc, &classes, &mut methods)?;
@@ -48,12 +51,15 @@ fn put_kernel_methods(
     requires { HasClassesAlone classes.now methods.old }
     ensures count { length methods.new.sides ≡ length methods.old.sides }
     ensures system { OnOk result (IsSystemOf (record { table = classes.now; methods = methods.new }) kernel_state) }
+    ensures places { OnOk result (HasPlaces (record { table = classes.now; methods = methods.new }) placed_kernel_state) }
     ensures codes { OnOk result (AreCodes classes.now methods.new) }
+    ensures own { OnOk result (TellOwn classes.now methods.new) }
 {
     kernel_methods_are_of_kernel_classes();
     kernel_sources_stand_in_the_text();
     kernel_sources_are_plain();
     kernel_sources_fit();
+    found_methods_are_those_named();
     for method in method_rows() {
         put_kernel_method(alloc, classes, methods, method)?;
     }

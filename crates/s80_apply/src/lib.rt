@@ -21,7 +21,7 @@ pub use lasting::{
 };
 pub use laws::{
     accepted_classes_are_named, accepted_definitions_are_lawful, kernel_classes_are_named,
-    sources_stand,
+    places_are_of_the_state, sources_stand,
 };
 pub use step::{Placed, PlacedMethod, Step};
 pub use system::System;

@@ -5,7 +5,9 @@ ghost use Rattle.s80_change.specs.declared.change.Change.TheVariants as changes;
 ghost use Rattle.s80_change.specs.Block.{block};
 ghost use Rattle.s80_chunk.specs.Chunks.{spell};
 ghost use Rattle.s80_kernel.specs.Text.{kernel_text};
-ghost use Rattle.s80_apply.specs.Accept.{kernel_row, len_with, on_class_side, source_offset};
+ghost use Rattle.s80_apply.specs.Accept.{len_with};
+ghost use Rattle.s80_apply.specs.State.{on_class_side};
+ghost use Rattle.s80_apply.specs.Placed.{kernel_row, source_offset};
 ghost use Rattle.s80_change.specs.Check.{IsCheckOf};
 ghost use Rattle.s80_change.specs.declared.source_check.SourceCheck.TheVariants.{Fits};
 ghost use Rattle.s80_apply.specs.Entries.{row_in};
@@ -18,7 +20,7 @@ use crate::code::code_of;
 use crate::entry::class_named;
 use crate::step::PlacedMethod;
 use s80_base::{OutOfMemory, Side, Text};
-use s80_change::{Method, SectionHead, SourceCheck, copy_refusal, head_text};
+use s80_change::{Method, SectionHead, SourceCheck, head_text};
 use s80_chunk::write_chunk;
 use s80_class::ClassTable;
 use s80_dict::{MethodDict, MethodEntry, MethodTable};
@@ -50,7 +52,7 @@ pub(crate) fn placed_method(
 {
     match &method.check {
         SourceCheck::Fits(selector) => placed_at(alloc, classes, methods, method, selector),
-        SourceCheck::Refused(refusal) => Err(Refused::Refusal(copy_refusal(alloc, refusal)?)),
+        SourceCheck::Refused(refusal) => Err(Refused::Refusal(refusal.copy(alloc)?)),
     }
 }
 

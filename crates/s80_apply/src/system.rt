@@ -6,11 +6,13 @@ ghost use Rattle.s80_dict.specs.Table.{methods_at, room_at};
 ghost use Rattle.s80_class.specs.Classes.{IsValid};
 ghost use Rattle.s80_change.specs.Block.{block};
 ghost use Rattle.s80_change.specs.declared.change.Change.TheVariants as changes;
+ghost use Rattle.s80_apply.specs.declared.step.Step.TheVariants as steps;
 ghost use Rattle.s80_apply.specs.Accept.{refusal_of};
 ghost use Rattle.s80_apply.specs.List.{AreOfList};
 ghost use Rattle.s80_apply.specs.State.{State};
+ghost use Rattle.s80_apply.specs.Placed.{PlacedState};
 ghost use Rattle.s80_apply.specs.Codes.{AreCodes};
-ghost use Rattle.s80_apply.specs.System.{CanPut, CanPutMethod, HasClass, HasMethod, HasNumber, HasDictionaryRoom, HaveRoom, IsChecked, IsInstalled, IsReady, IsSoundSystem, IsSystemOf, MayPut, Places, PlacesMethod, Prepares, offset_in_block, offset_of, put_all, put_at_number, with_dictionaries, with_entry};
+ghost use Rattle.s80_apply.specs.System.{CanPut, CanPutMethod, HasClass, HasMethod, HasNumber, HasDictionaryRoom, HasPlaces, HaveRoom, IsChecked, IsInstalled, IsReady, IsSoundSystem, IsSystemOf, MakesPlaces, MayPut, Places, PlacesMethod, Prepares, TellOwn, offset_in_block, offset_of, put_all, put_at_number, with_dictionaries, with_entry};
 
 use crate::checks::{bad_name, cycle, duplicate, kernel_class, too_many, unknown_class};
 use crate::entry::{class_named, defined_entry};
@@ -60,6 +62,7 @@ impl System {
     pub fn methods(&self) -> &MethodTable<Verified>
         ensures methods { result.now ≡ self.now.methods }
         ensures codes { AreCodes self.now.table self.now.methods }
+        ensures own { TellOwn self.now.table self.now.methods }
         ensures dictionaries { length self.now.methods.sides ≡ length self.now.table.names }
     {
         &self.methods
@@ -79,9 +82,12 @@ impl System {
     pub fn prepare(&mut self, alloc: Global, change: &Change) -> Result<Step, Refused>
         requires { IsChecked change.now }
         ensures answer { (state : State) → IsSystemOf self.old state → Prepares state change.now self.new result }
+        ensures places { (placed : PlacedState) → HasPlaces self.old placed → IfOk result (λ step. MakesPlaces self.new step change.now placed) }
         ensures ready { IfOk result (λ step. IsReady self.new step × (offset_of step ≤ length (block change.now))) }
         ensures same { (state : State) → IsSystemOf self.old state → IsSystemOf self.new state }
+        ensures same_places { (placed : PlacedState) → HasPlaces self.old placed → HasPlaces self.new placed }
         ensures names { self.new.table.names ≡ self.old.table.names }
+        ensures classes { self.new.table.classes ≡ self.old.table.classes }
     {
         match change {
             Change::Define(definition) => Ok(Step::Class(self.place(alloc, definition)?)),
@@ -96,7 +102,9 @@ impl System {
         ensures sound { IfOk result (λ _. IsSoundSystem self.new) }
         ensures of_list { IfOk result (λ _. AreOfList self.old.table.classes) }
         ensures same { (state : State) → IsSystemOf self.old state → IsSystemOf self.new state }
+        ensures same_places { (placed : PlacedState) → HasPlaces self.old placed → HasPlaces self.new placed }
         ensures names { self.new.table.names ≡ self.old.table.names }
+        ensures classes { self.new.table.classes ≡ self.old.table.classes }
     {
         if let Some(refusal) = self.refusal(alloc, definition)? {
             return Err(Refused::Refusal(refusal));
@@ -151,9 +159,12 @@ impl System {
     fn place_method(&mut self, alloc: Global, method: &Method) -> Result<PlacedMethod, Refused>
         requires { IsChecked (changes.Method method.now) }
         ensures answer { (state : State) → IsSystemOf self.old state → PlacesMethod state method.now self.new result }
+        ensures places { (state : PlacedState) → HasPlaces self.old state → IfOk result (λ placed. MakesPlaces self.new (steps.Method placed) (changes.Method method.now) state) }
         ensures ready { IfOk result (λ placed. CanPutMethod self.new placed × (offset_in_block placed.entry ≤ length (block (changes.Method method.now)))) }
         ensures same { (state : State) → IsSystemOf self.old state → IsSystemOf self.new state }
+        ensures same_places { (state : PlacedState) → HasPlaces self.old state → HasPlaces self.new state }
         ensures names { self.new.table.names ≡ self.old.table.names }
+        ensures classes { self.new.table.classes ≡ self.old.table.classes }
     {
         let placed = placed_method(alloc, &self.classes, &self.methods, method)?;
         self.methods

@@ -1,2 +1,3 @@
-pub mod Lists
+pub mod lemmas
+pub mod Sameness
 pub mod Taken

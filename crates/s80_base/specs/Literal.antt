@@ -1,11 +1,18 @@
 -- Literals without where they lie in memory.
 use Rattle.std.specs.Prelude.{ℕ, ℤ, List, [], ◌∷◌}
 use Rattle.s80_base.specs.declared.literal.NumberKind.{NumberKind}
+use Rattle.s80_base.specs.declared.literal.NumberKind.TheVariants.{LargePositive, LargeNegative, Float}
 use Rattle.s80_base.specs.declared.literal.Literal.{Literal}
 use Rattle.s80_base.specs.declared.literal.Literals.{Literals}
 use Rattle.s80_base.specs.declared.literal.Literal.TheOpen.{Literal-F, Literals-F}
 use Rattle.s80_base.specs.declared.literal.Literal.TheOpen as layer
 use Rattle.s80_base.specs.declared.literal.Literal.TheFolds.{fold-Literal, fold-Literals}
+
+-- the kinds of number, by numbers
+abbrev pub kind_number : NumberKind → ℕ
+kind_number LargePositive = 0
+kind_number LargeNegative = 1
+kind_number Float = 2
 
 mutual
   pub data LiteralTree : Type 0 where

@@ -1,12 +1,12 @@
 -- What the source of a method is by itself.
 use Rattle.std.proofs.Common.{◌≡◌, ◌≢◌, inl, inr, ℕ, List, Bool, refl, ap, sym, ◌∙◌, Option, Some, None}
 use Rattle.s80_tree.specs.Tree.{MethodParts}
-use Rattle.s80_grammar.specs.Lexeme.{Lexemes}
-use Rattle.s80_grammar.specs.Faults.{IsMethodText}
+use Rattle.s80_syntax.specs.Lexeme.{Lexemes}
+use Rattle.s80_syntax.specs.Faults.{IsMethodText}
 use Rattle.s80_syntax.specs.declared.fault.ParseFault.{ParseFault}
 use Rattle.s80_syntax.specs.declared.fault.ParseFault.TheVariants as faults
 use Rattle.s80_syntax.specs.Text.{IsMethodOf, IsFaultOf}
-use Rattle.s80_syntax.proofs.OneReading.{one_method_of, method_only_memory, one_fault_of}
+use Rattle.s80_syntax.proofs.lemmas.OneReading.{one_method_of, method_only_memory, one_fault_of}
 use Rattle.s80_change.specs.declared.source_check.SourceCheck.{SourceCheck}
 use Rattle.s80_change.specs.declared.source_check.SourceCheck.TheVariants.{Fits, Refused}
 use Rattle.s80_form.specs.declared.refusal.SyntaxKind.TheVariants as kinds

@@ -1,31 +1,29 @@
 -- The text of a head is a doIt whose tree is that head.
-use Rattle.std.proofs.Common.{◌≡◌, ℕ, ◌-◌, inl, inr, List, [], ◌∷◌, ◌++◌, Bool, true, false, codes, cond, not, ◌&&◌, ◌==◌, length, refl, ap, sym, ◌∙◌, subst, arith, length-append}
-use Rattle.std.specs.List.{flat_map}
-use Rattle.std.proofs.lemmas.Bool.{eqb-true, not-true, and_parts}
-use Rattle.std.proofs.lemmas.List.{append-nil, take_at}
-use Rattle.s80_base.specs.Literal.{LiteralTree, str}
+use Rattle.std.proofs.Common.{◌≡◌, ℕ, inr, List, [], ◌∷◌, ◌++◌, Bool, true, codes, not, refl, sym, ◌∙◌, subst, arith}
+use Rattle.std.proofs.lemmas.Bool.{not-true, and_parts}
+use Rattle.std.proofs.lemmas.List.{append-nil}
+use Rattle.s80_base.specs.Literal.{str}
 use Rattle.s80_base.specs.declared.names.Side.{Side}
 use Rattle.s80_base.specs.declared.names.Side.TheVariants.{Instance, Class}
-use Rattle.s80_lex.specs.declared.token.TokenKind.{TokenKind}
 use Rattle.s80_lex.specs.declared.token.TokenKind.TheVariants as kind
-use Rattle.s80_lex.specs.Spelling.{quoted, doubled, keyword}
+use Rattle.s80_lex.specs.Spelling.{quoted, keyword}
 use Rattle.s80_lex.specs.Text.{IsLongest}
 use Rattle.s80_tree.specs.Tree.{DoItParts}
-use Rattle.s80_grammar.specs.Lexeme.{Lexeme, Lexemes}
-use Rattle.s80_grammar.specs.Limits.{AreLawfulMessages}
-use Rattle.s80_grammar.specs.Literals.{IsLiteralKind, token_literal, unquoted, between_ends}
-use Rattle.s80_grammar.specs.Grammar.{IsOperand, IsChain, IsDoIt}
-use Rattle.s80_grammar.specs.Word.{is_reserved}
-use Rattle.s80_form.specs.Name.{is_identifier, IsName}
-use Rattle.s80_form.specs.Definition.{argument}
-use Rattle.s80_form.specs.Form.{alone}
+use Rattle.s80_syntax.specs.Lexeme.{Lexemes}
+use Rattle.s80_syntax.specs.Limits.{AreLawfulMessages}
+use Rattle.s80_syntax.specs.Grammar.{IsChain, IsDoIt}
+use Rattle.s80_syntax.specs.Word.{is_reserved}
+use Rattle.s80_lex.specs.Selector.{is_name as is_identifier}
+use Rattle.s80_lex.proofs.lemmas.SelectorLemmas.{name_is}
+use Rattle.s80_form.specs.Name.{IsName}
+use Rattle.s80_form.specs.TreeParts.{alone, all_sent, to_side}
 use Rattle.s80_form.proofs.Splits.{identifier_of}
 use Rattle.s80_form.proofs.Longest.{name_longest, keyword_longest, string_longest}
-use Rattle.s80_form.proofs.Building.{Spells, Begun, named, words_spell, start, separated, tokened, ended}
-use Rattle.s80_form.proofs.Building as building
+use Rattle.s80_form.proofs.lemmas.Building.{Spells, Begun, words_spell, start, separated, tokened, ended}
+use Rattle.s80_form.proofs.lemmas.Building as building
+use Rattle.s80_form.proofs.lemmas.Operands.{str_is, operand}
 use Rattle.s80_change.specs.declared.head.SectionHead.{SectionHead}
-use Rattle.s80_change.specs.Head.{beginning, to_side, side_text, head_text, IsLawfulHead, IsHeadOf}
-use Rattle.s80_change.specs.HeadForm.{all_sent, begins}
+use Rattle.s80_change.specs.Head.{beginning, side_text, head_text, IsLawfulHead, IsHeadOf}
 use Rattle.s80_change.proofs.Heads.{one_head_of}
 
 -- the words of a head
@@ -40,12 +38,12 @@ abbrev words_of : SectionHead → building.Words
 words_of head = (kind.Name, head.class_name) ∷ message_words head.side head.category
 
 name_before_space : (w rest : List ℕ) → is_identifier w ≡ true → IsLongest kind.Name w (32 ∷ rest)
-name_before_space w rest e = name_longest w 32 rest (named w e) (record { passes = refl; colon = refl })
+name_before_space w rest e = name_longest w 32 rest (name_is w e) (record { passes = refl; colon = refl })
 
 category_begun : (t : List ℕ) (words : building.Words) (category : List ℕ) → Begun t words (codes " methodsFor: " ++ quoted 39 category) → Begun t ((words ++ (kind.Keyword, codes "methodsFor:") ∷ []) ++ (kind.Str, quoted 39 category) ∷ []) []
 category_begun t words category h =
     let one = separated t words 32 (keyword (codes "methodsFor") ++ 32 ∷ quoted 39 category) refl h in
-    let two = tokened t words kind.Keyword (keyword (codes "methodsFor")) (32 ∷ quoted 39 category) (λ i. cc) (keyword_longest (codes "methodsFor") (32 ∷ quoted 39 category) (named (codes "methodsFor") refl) refl) one in
+    let two = tokened t words kind.Keyword (keyword (codes "methodsFor")) (32 ∷ quoted 39 category) (λ i. cc) (keyword_longest (codes "methodsFor") (32 ∷ quoted 39 category) (name_is (codes "methodsFor") refl) refl) one in
     let three = separated t (words ++ (kind.Keyword, codes "methodsFor:") ∷ []) 32 (quoted 39 category) refl two in
     tokened t (words ++ (kind.Keyword, codes "methodsFor:") ∷ []) kind.Str (quoted 39 category) [] (λ i. cc) (string_longest category [] refl)
     (subst (Begun t (words ++ (kind.Keyword, codes "methodsFor:") ∷ [])) (sym (append-nil (quoted 39 category))) three)
@@ -61,50 +59,22 @@ begun Class w category h t e =
     let three = tokened t ((kind.Name, w) ∷ []) kind.Name (codes "class") rest (λ i. cc) (name_before_space (codes "class") (codes "methodsFor: " ++ quoted 39 category) refl) two in
     category_begun t ((kind.Name, w) ∷ (kind.Name, codes "class") ∷ []) category three
 
--- a string, from its token
-unquoted_other : (b : ℕ) (bytes : List ℕ) → (b == 39) ≡ false → unquoted (b ∷ bytes) ≡ b ∷ unquoted bytes
-unquoted_other b [] e = refl
-unquoted_other b (c ∷ bytes) e = ap (λ t. cond (t && (c == 39)) (39 ∷ unquoted bytes) (b ∷ unquoted (c ∷ bytes))) e
-
-unquoted_byte : (t : Bool) (b : ℕ) (text : List ℕ) → (b == 39) ≡ t → unquoted (flat_map (doubled 39) text) ≡ text → unquoted (flat_map (doubled 39) (b ∷ text)) ≡ b ∷ text
-unquoted_byte true b text e h =
-    let quote : b ≡ 39 = eqb-true b 39 e in
-    ap (λ (x : ℕ). unquoted (flat_map (doubled 39) (x ∷ text))) quote ∙ ap (λ l. 39 ∷ l) h ∙ ap (λ (x : ℕ). x ∷ text) (sym quote)
-unquoted_byte false b text e h =
-    ap (λ l. unquoted (l ++ flat_map (doubled 39) text)) (ap (λ t. cond t (39 ∷ 39 ∷ []) (b ∷ [])) e) ∙ unquoted_other b (flat_map (doubled 39) text) e ∙ ap (λ l. b ∷ l) h
-
-unquoted_is : (text : List ℕ) → unquoted (flat_map (doubled 39) text) ≡ text
-unquoted_is [] = refl
-unquoted_is (b ∷ text) = unquoted_byte (b == 39) b text refl (unquoted_is text)
-
-between_is : (text : List ℕ) → between_ends (quoted 39 text) ≡ flat_map (doubled 39) text
-between_is text =
-    let inner : List ℕ = flat_map (doubled 39) text in
-    take_at inner (39 ∷ []) (length (quoted 39 text) - 2) (omega (arith, length-append inner (39 ∷ [])))
-
-str_is : (text : List ℕ) → str text ≡ token_literal kind.Str (quoted 39 text)
-str_is text = ap str (sym (ap unquoted (between_is text) ∙ unquoted_is text))
-
-operand : (v : LiteralTree) (k : TokenKind) (w : List ℕ) (l : Lexeme) (ls rest : Lexemes) → ls ≡ l ∷ rest → l.kind ≡ k → l.bytes ≡ w → IsLiteralKind k → v ≡ token_literal k w → IsOperand (argument v) 1 ls rest
-operand v k w l ls rest e i b lit is =
-    (rest, refl, tt, inl (l, e, subst IsLiteralKind (sym i) lit, is ∙ ap (token_literal k) (sym b) ∙ ap (λ j. token_literal j l.bytes) (sym i)), refl)
-
 -- the messages
-category_chain : (category : List ℕ) (ls : Lexemes) → Spells ls (category_words category) → IsChain (beginning category) 0 2 ls []
+category_chain : (category : List ℕ) (ls : Lexemes) → Spells ls (category_words category) → IsChain (to_side (Instance, beginning category)) 0 2 ls []
 category_chain category ls k =
     let c = k.5 in
     ([], 3, inr (k.0, k.1, c.1, [], (k.2, k.3), sym (append-nil k.0.bytes ∙ k.4), omega arith, omega arith, refl, operand (str category) kind.Str (quoted 39 category) c.0 k.1 c.1 c.2 c.3 c.4 tt (str_is category), (c.5, refl)), refl)
 
-chain : (side : Side) (category : List ℕ) (ls : Lexemes) → Spells ls (message_words side category) → IsChain (to_side side (beginning category)) 0 2 ls []
+chain : (side : Side) (category : List ℕ) (ls : Lexemes) → Spells ls (message_words side category) → IsChain (to_side (side, beginning category)) 0 2 ls []
 chain Instance category ls k = category_chain category ls k
 chain Class category ls k = (k.1, 0, (k.0, (k.2, k.3), sym k.4, refl, refl), category_chain category k.1 k.5)
 
-lawful_messages : (side : Side) (category : List ℕ) (assigns : List ℕ → Bool) → AreLawfulMessages true 0 assigns (to_side side (beginning category))
+lawful_messages : (side : Side) (category : List ℕ) (assigns : List ℕ → Bool) → AreLawfulMessages true 0 assigns (to_side (side, beginning category))
 lawful_messages Instance category assigns = (((tt, tt, tt, tt), tt), tt)
 lawful_messages Class category assigns = (tt, (((tt, tt, tt, tt), tt), tt))
 
 abbrev tree_of : SectionHead → ℕ → DoItParts
-tree_of head at = alone (all_sent (record { name = head.class_name; at = at }, begins (head.side, head.category)))
+tree_of head at = alone (all_sent (record { name = head.class_name; at = at }, to_side (head.side, beginning head.category)))
 
 is_doit : (head : SectionHead) (ls : Lexemes) → (s : Spells ls (words_of head)) → IsDoIt (tree_of head s.0.at) ls
 is_doit head ls s =
@@ -112,7 +82,7 @@ is_doit head ls s =
 
 pub text_begins : (head : SectionHead) → IsLawfulHead head → IsHeadOf (head_text head) head
 text_begins head lawful =
-    let h = begun head.side head.class_name head.category lawful (head_text head) refl in
+    let h = begun head.side head.class_name head.category lawful.class_name (head_text head) refl in
     let s = words_spell (head_text head) h.tokens (words_of head) h.are_words in record {
       tree = tree_of head s.0.at;
       tree_is = record {
@@ -123,8 +93,8 @@ text_begins head lawful =
       };
       head_is = record {
         at = s.0.at;
-        tree_is = refl;
-        receiver = not-true (is_reserved head.class_name) (and_parts (is_identifier head.class_name) (not (is_reserved head.class_name)) lawful).1;
+        sending = record { tree_is = refl; receiver = not-true (is_reserved head.class_name) (and_parts (is_identifier head.class_name) (not (is_reserved head.class_name)) lawful.class_name).1 };
+        brief = lawful.brief;
       };
     }
 

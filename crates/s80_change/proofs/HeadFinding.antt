@@ -1,13 +1,14 @@
 -- The parts of a head's text.
 use Rattle.std.proofs.Common.{◌≡◌, ℕ, List, [], ◌∷◌, ◌++◌, codes, take, drop, refl, ap, sym, ◌∙◌, append_assoc}
+use Rattle.std.proofs.lemmas.List.{append-nil}
 use Rattle.s80_base.specs.declared.names.Side.{Side}
 use Rattle.s80_base.specs.declared.names.Side.TheVariants.{Instance, Class}
 use Rattle.s80_lex.specs.Spelling.{quoted}
-use Rattle.s80_form.specs.Read.{word_len}
-use Rattle.s80_form.proofs.Cuts.{word_cut, name_inner}
+use Rattle.s80_form.specs.TextParts.{FindsString, word_len}
+use Rattle.s80_form.proofs.lemmas.Cuts.{word_cut, name_inner}
 use Rattle.s80_change.specs.declared.head.SectionHead.{SectionHead}
 use Rattle.s80_change.specs.Head.{head_text, side_text}
-use Rattle.s80_change.specs.HeadParts.{FindsParts, FindsSide, FindsText}
+use Rattle.s80_change.specs.HeadParts.{FindsParts, FindsSide}
 use Rattle.s80_change.proofs.Heads.{fields_same}
 
 -- a space ends the class's name
@@ -15,13 +16,13 @@ behind : (side : Side) (text : List ℕ) → (rest : List ℕ) × (side_text sid
 behind Instance text = (codes "methodsFor: " ++ text, refl)
 behind Class text = (codes "class" ++ (codes " methodsFor: " ++ text), refl)
 
-pub parts_are : (text word rest left string category : List ℕ) (side : Side) (found : SectionHead) → word ≡ take (word_len text) text → rest ≡ drop (word_len text) text → FindsSide rest side left → string ≡ drop 14 left → FindsText string category
+pub parts_are : (text word rest left string category after : List ℕ) (side : Side) (found : SectionHead) → word ≡ take (word_len text) text → rest ≡ drop (word_len text) text → FindsSide rest side left → string ≡ drop 14 left → FindsString string category after
     → found.class_name ≡ word → found.side ≡ side → found.category ≡ category → FindsParts text found
-parts_are text word rest left string category side found ew er finds es text_is en ed ec = λ head lawful t.
+parts_are text word rest left string category after side found ew er finds es text_is en ed ec = λ head lawful t.
     let b = behind head.side (quoted 39 head.category) in
-    let cut = word_cut text head.class_name 32 b.0 (name_inner head.class_name lawful) refl (t ∙ ap (λ l. head.class_name ++ l) b.1) in
+    let cut = word_cut text head.class_name 32 b.0 (name_inner head.class_name lawful.class_name) refl (t ∙ ap (λ l. head.class_name ++ l) b.1) in
     let two = finds head.side (quoted 39 head.category) (er ∙ cut.1 ∙ sym b.1) in
-    let three = text_is.1 head.category [] refl (es ∙ ap (drop 14) two.1) in
+    let three = text_is head.category [] refl (ap (λ l. 39 ∷ l) (es ∙ ap (drop 14) two.1) ∙ sym (append-nil (quoted 39 head.category))) in
     fields_same found head (en ∙ ew ∙ cut.0) (ed ∙ two.0) (ec ∙ three.0)
 
 -- the text, part by part

@@ -1,12 +1,9 @@
-pub mod HeadTrees
-pub mod HeadForms
+pub mod lemmas
 pub mod Heads
 pub mod HeadFinding
 pub mod HeadBeginning
 pub mod Checking
-pub mod BlockLaws
-pub mod TextOf
 pub mod MethodOf
 pub mod Lines
-pub mod FirstFrames
+pub mod FirstFramings
 pub mod FirstBlocks

@@ -6,9 +6,9 @@ use Rattle.std.proofs.lemmas.Bool.{true≢false}
 use Rattle.std.proofs.lemmas.Bool.Decides.{Decides-eqb}
 use Rattle.std.proofs.lemmas.Slice.Eq.{starts_is}
 use Rattle.s80_chunk.specs.Chunks.{mark, spell, chunk, IsNoMark}
-use Rattle.s80_chunk.proofs.Spelling.{chunk_unique, not_ended}
-use Rattle.s80_change.specs.declared.front.NoFrame.{NoFrame}
-use Rattle.s80_change.specs.declared.front.NoFrame.TheVariants.{Memory, Absent, Unended}
+use Rattle.s80_chunk.proofs.lemmas.Spelling.{chunk_unique, not_ended}
+use Rattle.s80_change.specs.declared.front.NoFraming.{NoFraming}
+use Rattle.s80_change.specs.declared.front.NoFraming.TheVariants.{Memory, Absent, Unended}
 use Rattle.s80_change.specs.Fronts.{HasFirst, IsFirst, IsEnd, HasChunk, IsFirstChunk, line}
 
 -- a chunk and what follows it, as its spelled text and then the mark
@@ -77,7 +77,7 @@ no_line_in_chunk : (end text x after : List ℕ) → IsEnd end → chunk text �
 no_line_in_chunk end text x after is e = no_end_is_empty end after is (chunk_unique text x [] (end ++ after) tt (end_is_no_mark end after is) (e ∙ regrouped_line end x after)).1
 
 -- where there is no chunk there is no line
-pub no_chunk : (end bytes : List ℕ) (fault : NoFrame) → IsEnd end → IsFirstChunk bytes (Err fault) → IsFirst (line end) (λ _. ⊤) bytes (Err fault)
+pub no_chunk : (end bytes : List ℕ) (fault : NoFraming) → IsEnd end → IsFirstChunk bytes (Err fault) → IsFirst (line end) (λ _. ⊤) bytes (Err fault)
 no_chunk end bytes Memory is none = tt
 no_chunk end bytes Absent is none = absurd none
 no_chunk end bytes Unended is (text, inl e) = (

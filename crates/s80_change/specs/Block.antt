@@ -6,15 +6,14 @@ use Rattle.s80_change.specs.declared.change.Change.{Change}
 use Rattle.s80_change.specs.declared.change.Change.TheVariants.{Define, Method, DoIt}
 use Rattle.s80_change.specs.declared.change.Method.{Method as MethodChange}
 use Rattle.s80_form.specs.Definition.{definition_text, IsLawfulDefinition, IsNoDefinition}
-use Rattle.s80_form.specs.Name.{IsName}
 use Rattle.s80_change.specs.declared.head.SectionHead.{SectionHead}
-use Rattle.s80_change.specs.Head.{head_text}
+use Rattle.s80_change.specs.Head.{head_text, IsLawfulHead}
 use Rattle.s80_change.specs.Check.{IsCheckOf}
-use Rattle.s80_change.specs.declared.frame.Frame.{Frame}
-use Rattle.s80_change.specs.declared.frame.Frame.TheVariants.{Plain, Section}
+use Rattle.s80_change.specs.declared.framing.Framing.{Framing}
+use Rattle.s80_change.specs.declared.framing.Framing.TheVariants.{Plain, Section}
 
--- A frame of a log: a plain text as a chunk, and a line feed; or a section of one method: its head, and the source.
-abbrev pub framed : Frame → List ℕ
+-- A framing of a log: a plain text as a chunk, and a line feed; or a section of one method: its head, and the source.
+abbrev pub framed : Framing → List ℕ
 framed (Plain text) = chunk text ++ 10 ∷ []
 framed (Section head source) = mark ∷ chunk head ++ (10 ∷ chunk source ++ (32 ∷ mark ∷ 10 ∷ []))
 
@@ -23,22 +22,22 @@ abbrev pub head_of : MethodChange → SectionHead
 head_of m = record { class_name = m.class_name; side = m.side; category = m.category }
 
 -- a definition and a doIt stand in the log as plain texts, and a method in a section of its own
-abbrev pub frame_of : Change → Frame
-frame_of (Define d) = Plain (definition_text d)
-frame_of (Method m) = Section (head_text (head_of m)) m.source
-frame_of (DoIt text) = Plain text
+abbrev pub framing_of : Change → Framing
+framing_of (Define d) = Plain (definition_text d)
+framing_of (Method m) = Section (head_text (head_of m)) m.source
+framing_of (DoIt text) = Plain text
 
 -- how the log keeps a change
 abbrev pub block : Change → List ℕ
-block change = framed (frame_of change)
+block change = framed (framing_of change)
 
 -- the log of a list of changes: their blocks, one after the other
 abbrev pub blocks : List Change → List ℕ
 blocks changes = flat_map block changes
 
--- A method is of a class with a lawful name. Its source is a text of a chunk that isn't too long, and what is said of it by itself is so.
+-- A method stands under a lawful head. Its source is a text of a chunk that isn't too long, and what is said of it by itself is so.
 pub record IsLawfulMethod (m : MethodChange) : Type 0 where
-  pub class_name : IsName m.class_name
+  pub head : IsLawfulHead (head_of m)
   pub text : IsChunkText m.source
   pub short : length m.source ≤ longest
   pub check : IsCheckOf m.source m.check
@@ -49,13 +48,13 @@ IsLawful (Define d) = IsLawfulDefinition d
 IsLawful (Method m) = IsLawfulMethod m
 IsLawful (DoIt text) = IsPlainText text × IsNoDefinition text
 
--- the frame is that of no lawful change
-abbrev pub HasNoChange : Frame → Type 0
-HasNoChange frame = (change : Change) → IsLawful change → frame_of change ≡ frame → ⊥
+-- the framing is that of no lawful change
+abbrev pub HasNoChange : Framing → Type 0
+HasNoChange framing = (change : Change) → IsLawful change → framing_of change ≡ framing → ⊥
 
 -- the greatest length of a log
 abbrev pub log_limit : ℕ
-log_limit = 2 ^ 30
+log_limit = 2 ^ 36
 
 -- a list of changes that a log keeps
 pub record IsList (changes : List Change) : Type 0 where

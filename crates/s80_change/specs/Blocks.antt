@@ -2,7 +2,7 @@
 use Rattle.std.specs.Prelude.{◌≡◌, ◌≢◌, List, ℕ, [], ◌++◌, length}
 use Rattle.s80_change.specs.declared.change.Change.{Change}
 use Rattle.s80_change.specs.Block.{framed, block, IsLawful}
-use Rattle.s80_change.specs.declared.frame.Frame.{Frame}
+use Rattle.s80_change.specs.declared.framing.Framing.{Framing}
 use Rattle.s80_change.specs.declared.first.FirstBlock.{FirstBlock}
 use Rattle.s80_change.specs.declared.first.FirstBlock.TheVariants.{Found, Absent, Unended}
 
@@ -16,11 +16,11 @@ pub record BeginsWith (bytes : List ℕ) (change : Change) : Type 0 where
 abbrev pub BeginsWithNone : List ℕ → Type 0
 BeginsWithNone bytes = (change : Change) → BeginsWith bytes change → ⊥
 
--- the bytes end before a block does: they are a front of a frame, and not all of it
+-- the bytes end before a block does: they are a front of a framing, and not all of it
 pub record AreUnended (bytes : List ℕ) : Type 0 where
-  pub frame : Frame
+  pub framing : Framing
   pub more : List ℕ
-  pub goes_on : framed frame ≡ bytes ++ more
+  pub goes_on : framed framing ≡ bytes ++ more
   pub some : more ≢ []
   pub none : BeginsWithNone bytes
 

@@ -1,8 +1,8 @@
 -- Why a text is refused by itself, and what the source of a method is.
 use Rattle.std.specs.Prelude.{◌≡◌, ◌⊎◌, ℕ, List, [], Bool, Option, Some, None}
 use Rattle.s80_tree.specs.Tree.{MethodParts, DoItParts}
-use Rattle.s80_grammar.specs.Lexeme.{Lexemes}
-use Rattle.s80_grammar.specs.Faults.{IsMethodText}
+use Rattle.s80_syntax.specs.Lexeme.{Lexemes}
+use Rattle.s80_syntax.specs.Faults.{IsMethodText}
 use Rattle.s80_syntax.specs.declared.fault.ParseFault.{ParseFault}
 use Rattle.s80_syntax.specs.declared.fault.ParseFault.TheVariants as faults
 use Rattle.s80_syntax.specs.Text.{IsMethodOf, IsFaultOf}

@@ -1,7 +1,6 @@
 -- How the parts of a head's text are found.
 use Rattle.std.specs.Prelude.{◌≡◌, ℕ, List, ◌++◌, codes}
 use Rattle.s80_base.specs.declared.names.Side.{Side}
-use Rattle.s80_form.specs.Read.{FindsString}
 use Rattle.s80_change.specs.declared.head.SectionHead.{SectionHead}
 use Rattle.s80_change.specs.Head.{head_text, side_text, IsLawfulHead}
 
@@ -13,7 +12,3 @@ FindsParts text found = (head : SectionHead) → IsLawfulHead head → text ≡ 
 abbrev pub FindsSide : List ℕ → Side → List ℕ → Type 0
 FindsSide bytes found left =
     (side : Side) (text : List ℕ) → bytes ≡ side_text side ++ (codes " methodsFor: " ++ text) → (found ≡ side) × (left ≡ codes " methodsFor: " ++ text)
-
--- the string that a quote ends, with each quote in it doubled
-abbrev pub FindsText : List ℕ → List ℕ → Type 0
-FindsText bytes found = (left : List ℕ) × FindsString bytes found left

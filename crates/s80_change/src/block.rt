@@ -4,15 +4,15 @@ ghost use Rattle.s80_chunk.specs.Chunks.{IsChunkText, IsPlainText};
 ghost use Rattle.s80_change.specs.declared.change.Change.{Change};
 ghost use Rattle.s80_form.specs.Definition.{IsNoDefinition, IsNoForm, IsSomeDefinition, IsSomeForm};
 ghost use Rattle.s80_tree.specs.Tree.{doit_of};
-ghost use Rattle.s80_change.specs.Block.{block, frame_of, IsLawful, HasNoChange};
-ghost use Rattle.s80_change.specs.declared.frame.Frame.{Frame};
+ghost use Rattle.s80_change.specs.Block.{block, framing_of, IsLawful, HasNoChange};
+ghost use Rattle.s80_change.specs.declared.framing.Framing.{Framing};
 
 use crate::change::{Change, Method};
 use crate::check::check_source;
-use crate::frame::Frame;
+use crate::framing::Framing;
 use crate::head::SectionHead;
 use crate::logged_head::{head_text, read_head};
-use s80_base::{OutOfMemory, Text};
+use s80_base::{OutOfMemory, Text, is_separator};
 use s80_chunk::LONGEST;
 use s80_form::{Recognised, definition_text, read_definition, recognise};
 use s80_syntax::{DoItTree, ParseFault, parse_doit};
@@ -22,40 +22,40 @@ use std::alloc::Global;
 pub fn block_text(alloc: Global, change: &Change) -> Result<Text, OutOfMemory>
     ensures { IfOk result (λ text. text ≡ block change.now) }
 {
-    frame(alloc, change)?.bytes(alloc)
+    framing(alloc, change)?.bytes(alloc)
 }
 
-/// The frame of a change.
-fn frame(alloc: Global, change: &Change) -> Result<Frame, OutOfMemory>
-    ensures { IfOk result (λ frame. frame ≡ frame_of change.now) }
+/// The framing of a change.
+fn framing(alloc: Global, change: &Change) -> Result<Framing, OutOfMemory>
+    ensures { IfOk result (λ framing. framing ≡ framing_of change.now) }
 {
     match change {
-        Change::Define(definition) => Ok(Frame::Plain(definition_text(alloc, definition)?)),
+        Change::Define(definition) => Ok(Framing::Plain(definition_text(alloc, definition)?)),
         Change::Method(method) => {
             let head = SectionHead {
                 class_name: method.class_name.copy(alloc)?,
                 side: method.side,
                 category: method.category.copy(alloc)?,
             };
-            Ok(Frame::Section(head_text(alloc, &head)?, method.source.copy(alloc)?))
+            Ok(Framing::Section(head_text(alloc, &head)?, method.source.copy(alloc)?))
         }
-        Change::DoIt { text } => Ok(Frame::Plain(text.copy(alloc)?)),
+        Change::DoIt { text } => Ok(Framing::Plain(text.copy(alloc)?)),
     }
 }
 
-/// The change whose block has this frame, if there is one.
-pub fn read_change(alloc: Global, frame: Frame) -> Result<Option<Change>, OutOfMemory>
-    ensures { IfOk result (λ found. MatchOption found (HasNoChange frame) (λ change. IsLawful change × (frame_of change ≡ frame))) }
+/// The change whose block has this framing, if there is one.
+pub fn read_change(alloc: Global, framing: Framing) -> Result<Option<Change>, OutOfMemory>
+    ensures { IfOk result (λ found. MatchOption found (HasNoChange framing) (λ change. IsLawful change × (framing_of change ≡ framing))) }
 {
-    match frame {
-        Frame::Plain(text) => read_plain(alloc, text),
-        Frame::Section(head, source) => read_method(alloc, &head, source),
+    match framing {
+        Framing::Plain(text) => read_plain(alloc, text),
+        Framing::Section(head, source) => read_method(alloc, &head, source),
     }
 }
 
 /// The method whose section has this head and this source, if there is one.
 fn read_method(alloc: Global, head: &Text, source: Text) -> Result<Option<Change>, OutOfMemory>
-    ensures { IfOk result (λ found. MatchOption found (HasNoChange (Frame.Section head.now source)) (λ change. IsLawful change × (frame_of change ≡ Frame.Section head.now source))) }
+    ensures { IfOk result (λ found. MatchOption found (HasNoChange (Framing.Section head.now source)) (λ change. IsLawful change × (framing_of change ≡ Framing.Section head.now source))) }
 {
     let Some(head) = read_head(alloc, head)? else {
         return Ok(None);
@@ -78,14 +78,14 @@ fn is_short_text(text: &[u8]) -> bool
     ensures { IsTrue result ↔ (IsChunkText text.now × (length text.now ≤ 65535)) }
 {
     match text.first() {
-        None | Some(b' ' | b'\t' | b'\n' | b'\x0c' | b'\r') => false,
-        Some(_) => text.len() <= LONGEST,
+        None => false,
+        Some(byte) => !is_separator(*byte) && text.len() <= LONGEST,
     }
 }
 
 /// The change whose plain text this is, if there is one.
 fn read_plain(alloc: Global, text: Text) -> Result<Option<Change>, OutOfMemory>
-    ensures { IfOk result (λ found. MatchOption found (HasNoChange (Frame.Plain text)) (λ change. IsLawful change × (frame_of change ≡ Frame.Plain text))) }
+    ensures { IfOk result (λ found. MatchOption found (HasNoChange (Framing.Plain text)) (λ change. IsLawful change × (framing_of change ≡ Framing.Plain text))) }
 {
     if let Some(definition) = read_definition(alloc, &text)? {
         return Ok(Some(Change::Define(definition)));

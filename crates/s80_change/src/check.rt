@@ -1,7 +1,7 @@
 // Why a text is refused by itself.
 ghost use Rattle.std.specs.Prelude.{◌≡◌, ◌≤◌, ℕ, List, length, IfOk, OnErr};
 ghost use Rattle.s80_tree.specs.Tree.{doit_of, method_of};
-ghost use Rattle.s80_grammar.specs.Faults.{IsDoItText, IsMethodText};
+ghost use Rattle.s80_syntax.specs.Faults.{IsDoItText, IsMethodText};
 ghost use Rattle.s80_change.specs.declared.source_check.SourceCheck.{SourceCheck as Check};
 ghost use Rattle.s80_syntax.specs.Text.{IsFaultOf};
 ghost use Rattle.s80_syntax.specs.declared.fault.ParseFault.TheVariants.{Memory};

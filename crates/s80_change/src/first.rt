@@ -5,8 +5,8 @@ ghost use Rattle.s80_change.specs.Fronts.{IsFramedBlock};
 
 use crate::block::read_change;
 use crate::change::Change;
-use crate::frame::Frame;
-use crate::front::{NoFrame, first_frame};
+use crate::framing::Framing;
+use crate::front::{NoFraming, first_framing};
 use s80_base::OutOfMemory;
 use std::alloc::Global;
 
@@ -25,19 +25,19 @@ pub enum FirstBlock {
 pub fn first_block(alloc: Global, bytes: &[u8]) -> Result<FirstBlock, OutOfMemory>
     ensures { IfOk result (IsFirstBlock bytes.now) }
 {
-    match first_frame(alloc, bytes) {
-        Ok((frame, length)) => framed_block(alloc, frame, length),
-        Err(NoFrame::Memory) => Err(OutOfMemory),
-        Err(NoFrame::Absent) => Ok(FirstBlock::Absent),
-        Err(NoFrame::Unended) => Ok(FirstBlock::Unended),
+    match first_framing(alloc, bytes) {
+        Ok((framing, length)) => framed_block(alloc, framing, length),
+        Err(NoFraming::Memory) => Err(OutOfMemory),
+        Err(NoFraming::Absent) => Ok(FirstBlock::Absent),
+        Err(NoFraming::Unended) => Ok(FirstBlock::Unended),
     }
 }
 
-/// The block of so many bytes that has this frame, if a change has it.
-fn framed_block(alloc: Global, frame: Frame, length: usize) -> Result<FirstBlock, OutOfMemory>
-    ensures { IfOk result (IsFramedBlock frame length) }
+/// The block of so many bytes that has this framing, if a change has it.
+fn framed_block(alloc: Global, framing: Framing, length: usize) -> Result<FirstBlock, OutOfMemory>
+    ensures { IfOk result (IsFramedBlock framing length) }
 {
-    match read_change(alloc, frame)? {
+    match read_change(alloc, framing)? {
         Some(change) => Ok(FirstBlock::Found(change, length)),
         None => Ok(FirstBlock::Absent),
     }

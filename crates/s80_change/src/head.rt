@@ -1,9 +1,10 @@
 // Heads of sections.
-ghost use Rattle.std.specs.Prelude.{◌≡◌, ◌≤◌, List, ℕ, length, IfOk, IfErr};
-ghost use Rattle.s80_change.specs.Head.{IsHeadFault, IsHeadOf};
+ghost use Rattle.std.specs.Prelude.{◌≡◌, ◌≤◌, ◌↔◌, List, ℕ, length, IsTrue, IfOk, IfErr};
+ghost use Rattle.s80_change.specs.Head.{IsBriefHead, IsHeadFault, IsHeadOf};
 
 use crate::head_form::recognise_head;
 use s80_base::{OutOfMemory, Side, Text};
+use s80_form::is_brief;
 use s80_syntax::{ParseFault, parse_doit};
 use std::alloc::Global;
 
@@ -48,3 +49,10 @@ pub fn head_of(alloc: Global, text: &Text) -> Result<SectionHead, HeadFault>
 pub fn one_head()
     ensures { (text : List ℕ) (one other : SectionHead) → IsHeadOf text one → IsHeadOf text other → one ≡ other }
 {}
+
+/// Whether the name of a head's class and its category are brief.
+pub(crate) fn is_brief_head(head: &SectionHead) -> bool
+    ensures { IsTrue result ↔ IsBriefHead head.now }
+{
+    is_brief(&head.class_name) && is_brief(&head.category)
+}

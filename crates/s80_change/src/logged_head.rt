@@ -1,9 +1,9 @@
 // Heads as the log keeps them.
-ghost use Rattle.std.specs.Prelude.{◌≡◌, IfOk, MatchOption};
+ghost use Rattle.std.specs.Prelude.{◌≡◌, ◌↔◌, IsTrue, IfOk, MatchOption};
 ghost use Rattle.s80_change.specs.declared.head.SectionHead.{SectionHead as Head};
 ghost use Rattle.s80_change.specs.Head.{IsHeadOf, IsLawfulHead, IsNoHeadText, head_text, side_text};
 
-use crate::head::SectionHead;
+use crate::head::{SectionHead, is_brief_head};
 use crate::head_parts::parts;
 use s80_base::{OutOfMemory, Side, Text};
 use s80_form::{add_quoted, is_name};
@@ -30,12 +30,12 @@ fn side_text(side: Side) -> &'static [u8]
     }
 }
 
-/// The lawful head that has this very text, if there is one. It knows no limit on the text.
+/// The lawful head that has this very text, if there is one. The text may be longer than one that is read from a chunk.
 pub fn read_head(alloc: Global, text: &Text) -> Result<Option<SectionHead>, OutOfMemory>
     ensures { IfOk result (λ found. MatchOption found (IsNoHeadText text.now) (λ head. IsLawfulHead head × (text.now ≡ head_text head))) }
 {
     let head = parts(alloc, text.bytes())?;
-    if !is_name(head.class_name.bytes()) {
+    if !is_lawful(&head) {
         return Ok(None);
     }
     let spelled = head_text(alloc, &head)?;
@@ -55,3 +55,9 @@ pub fn a_head_text_is_a_head()
 pub fn one_head_text()
     ensures { (one other : Head) → IsLawfulHead one → IsLawfulHead other → head_text one ≡ head_text other → one ≡ other }
 {}
+
+fn is_lawful(head: &SectionHead) -> bool
+    ensures { IsTrue result ↔ IsLawfulHead head.now }
+{
+    is_name(head.class_name.bytes()) && is_brief_head(head)
+}

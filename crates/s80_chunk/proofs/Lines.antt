@@ -8,7 +8,7 @@ use Rattle.s80_chunk.specs.declared.item.Item.TheVariants as items
 use Rattle.s80_chunk.specs.declared.scanner.Phase.TheVariants as phases
 use Rattle.s80_chunk.specs.Chunks.{chunk, chunk_lines, plain_items, IsBlank, IsPlainText, Reads, HoldsNone, IsReading, section_after}
 use Rattle.s80_chunk.specs.Chunks.Reads.{stop}
-use Rattle.s80_chunk.proofs.Reading.{reads_then}
+use Rattle.s80_chunk.proofs.lemmas.Reading.{reads_then}
 use Rattle.s80_chunk.proofs.Again.{again, not_empty, plain_text}
 use Rattle.s80_chunk.proofs.Stopping.{open_holds_none}
 

@@ -7,7 +7,7 @@ use Rattle.s80_class.specs.declared.entry.ClassEntry.{ClassEntry}
 use Rattle.s80_class.specs.Classes.{Name, ClassRow, IsValid}
 use Rattle.s80_class.specs.Table.{Table, IsNumberOf, IsClass, IsSuperclass, IsAbove, IsEntryOf, row_of}
 use Rattle.s80_class.specs.Kept.{names_of, classes_of, name_at, IsKept, IsPlace}
-use Rattle.s80_class.proofs.Rows.{Entries, IsAt, entry_of_number}
+use Rattle.s80_class.proofs.lemmas.Rows.{Entries, IsAt, entry_of_number}
 use Rattle.s80_class.proofs.Keeping.{is_entry, class_within}
 use Rattle.s80_class.proofs.Changes
 

@@ -8,8 +8,8 @@ use Rattle.s80_class.specs.declared.entry.ClassEntry.{ClassEntry}
 use Rattle.s80_class.specs.Classes.{Name, ClassRow, IsLine, IsValid}
 use Rattle.s80_class.specs.Table.{IsNumberOf, IsClass, IsSuperclass, IsAbove, row_of}
 use Rattle.s80_class.specs.Kept.{names_of, classes_of, name_at, IsKept, IsPlace}
-use Rattle.s80_class.proofs.Lines.{Entry, passes, IsOver, valid-insert, valid-remove, absent_passed, lineage_line}
-use Rattle.s80_class.proofs.Rows.{Entries, IsAt, IsDistinct, Shows, shows_rows, shows_same, shows_pushed, shows_set, shows_taken, distinct_entries, distinct_names, number_of_entry, entry_of_number, name_is, superclass_in, get_kept, get_new, get_pushed, get_set, get_set_other, set_again, is_superclass_kept, same_number}
+use Rattle.s80_class.proofs.lemmas.Lines.{Entry, passes, IsOver, valid-insert, valid-remove, absent_passed, lineage_line}
+use Rattle.s80_class.proofs.lemmas.Rows.{Entries, IsAt, IsDistinct, Shows, shows_rows, shows_same, shows_pushed, shows_set, shows_taken, distinct_entries, distinct_names, number_of_entry, entry_of_number, name_is, superclass_in, get_kept, get_new, get_pushed, get_set, get_set_other, set_again, is_superclass_kept, same_number}
 use Rattle.s80_class.proofs.Keys.{keys_rise, key_of_class, present_place, keys-insert_new, keys-insert_old, keys-remove}
 use Rattle.s80_class.proofs.Keeping.{distinct_kept, shows_kept}
 

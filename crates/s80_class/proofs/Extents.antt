@@ -12,9 +12,9 @@ use Rattle.s80_class.specs.Classes.{Name, ClassRow, Classes, IsLine, IsValid, In
 use Rattle.s80_class.specs.Table.{Table, IsNumberOf}
 use Rattle.s80_class.specs.Counted.{counted, totals, greatest_of, raised}
 use Rattle.s80_class.specs.Family.{Found, IsFamily, least}
-use Rattle.s80_class.proofs.Lines.{Entry, passes, get-here, get-elsewhere, not_eq, lineage_line}
+use Rattle.s80_class.proofs.lemmas.Lines.{Entry, passes, get-here, get-elsewhere, not_eq, lineage_line}
 use Rattle.s80_class.proofs.Indexed.{none_there}
-use Rattle.s80_class.proofs.Most.{most_of, at_least, at_most, some_row, listed}
+use Rattle.s80_class.proofs.lemmas.Most.{most_of, at_least, at_most, some_row, listed}
 use Rattle.s80_class.specs.Known.{IsKnown}
 use Rattle.s80_class.proofs.Families.{IsFound, class_found, counts, found_where}
 

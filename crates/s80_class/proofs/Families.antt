@@ -13,13 +13,13 @@ use Rattle.s80_class.specs.Table.{Table, IsNumberOf, row_of}
 use Rattle.s80_class.specs.Kept.{names_of, classes_of, name_at, IsKept}
 use Rattle.s80_class.specs.Family.{Found, IsBelow, AreDistinct, AreUnder, Grows}
 use Rattle.s80_class.specs.Known.{IsKnown}
-use Rattle.s80_class.proofs.Lines.{Entry, passes, bytes_eq-self, not_eq, get-left, one_line, never_again, contains_some, len_positive}
-use Rattle.s80_class.proofs.Rows.{Entries, get_kept, entry_of_number, number_of_entry}
+use Rattle.s80_class.proofs.lemmas.Lines.{Entry, passes, bytes_eq-self, not_eq, get-left, one_line, never_again, contains_some, len_positive}
+use Rattle.s80_class.proofs.lemmas.Rows.{Entries, get_kept, entry_of_number, number_of_entry}
 use Rattle.s80_class.proofs.Keeping.{shows_kept}
 use Rattle.s80_class.proofs.Changes.{name_at_is}
 use Rattle.s80_class.proofs.Calls.{shown}
 use Rattle.s80_class.proofs.Indexed.{none_there}
-use Rattle.s80_class.proofs.Walks.{same_name, totals_more}
+use Rattle.s80_class.proofs.lemmas.Walks.{same_name, totals_more}
 
 -- ---- what was found so far
 

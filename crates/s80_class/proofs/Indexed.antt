@@ -19,7 +19,7 @@ use Rattle.s80_class.specs.Table.{Table, IsNumberOf, IsClass, IsSuperclass, IsEn
 use Rattle.s80_class.specs.Kept.{names_of, IsKept}
 use Rattle.s80_class.specs.Below.{Pair, comes_before, Has, IsPlaceOf, IsWith, IsWithout, IsMoved, IsIndexed}
 use Rattle.s80_class.specs.Family.{Found, IsBelow, AreDistinct, AreUnder, AreSubclasses}
-use Rattle.s80_class.proofs.Rows.{Entries, IsAt, get_kept, get_new, get_pushed, get_set, get_set_other, same_number, entry_of_number, name_is, superclass_in}
+use Rattle.s80_class.proofs.lemmas.Rows.{Entries, IsAt, get_kept, get_new, get_pushed, get_set, get_set_other, same_number, entry_of_number, name_is, superclass_in}
 use Rattle.s80_class.proofs.Keeping.{shows_kept, is_entry}
 use Rattle.s80_class.proofs.Calls.{shown}
 use Rattle.s80_class.proofs.Pairs.{before_itself}

@@ -13,7 +13,7 @@ use Rattle.s80_class.specs.declared.entry.ClassEntry.{ClassEntry}
 use Rattle.s80_class.specs.Classes.{Name, ClassRow}
 use Rattle.s80_class.specs.Table.{IsNumberOf, IsClass, IsEntryOf}
 use Rattle.s80_class.specs.Kept.{names_of, classes_of, name_at, IsKept, is_below, IsRising, IsPlace}
-use Rattle.s80_class.proofs.Rows.{Entries, IsAt, IsDistinct, Shows, shows_rows, distinct_entries, number_of_entry, name_is}
+use Rattle.s80_class.proofs.lemmas.Rows.{Entries, IsAt, IsDistinct, Shows, shows_rows, distinct_entries, number_of_entry, name_is}
 use Rattle.s80_class.proofs.Keys.{keys_rise, no_key, below_trans}
 
 -- ---- a search

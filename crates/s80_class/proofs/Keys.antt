@@ -15,7 +15,7 @@ use Rattle.std.proofs.lemmas.List.{length-map}
 use Rattle.std.proofs.lemmas.Option.{slice_get_within, slice_get-get_or}
 use Rattle.s80_class.specs.Classes.{Name, ClassRow, Classes}
 use Rattle.s80_class.specs.Kept.{is_below, IsRising, IsPlace}
-use Rattle.s80_class.proofs.Lines.{Entry, get-inserted, get-removed}
+use Rattle.s80_class.proofs.lemmas.Lines.{Entry, get-inserted, get-removed}
 
 abbrev R : Name → Name → Ordering
 R = slice_cmp nat_cmp

@@ -1,11 +1,8 @@
-pub mod Lines
-pub mod Rows
+pub mod lemmas
 pub mod Keys
 pub mod Keeping
 pub mod Changes
 pub mod Calls
-pub mod Walks
-pub mod Most
 pub mod Pairs
 pub mod Indexed
 pub mod Families

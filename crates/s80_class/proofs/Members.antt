@@ -12,7 +12,7 @@ use Rattle.s80_class.specs.Counted.{totals}
 use Rattle.s80_class.specs.Table.{Table, IsNumberOf}
 use Rattle.s80_class.specs.Family.{Found, IsFamily, FindsFamily, AreFamily}
 use Rattle.s80_class.specs.Known.{IsKnown}
-use Rattle.s80_class.proofs.Lines.{get-inserted}
+use Rattle.s80_class.proofs.lemmas.Lines.{get-inserted}
 
 abbrev pub numbers_of : List Found → List ℕ
 numbers_of found = list_map (λ p. p.0) found

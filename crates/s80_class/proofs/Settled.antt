@@ -12,10 +12,10 @@ use Rattle.s80_class.specs.Table.{Table, IsNumberOf, IsSuperclass, IsAbove, name
 use Rattle.s80_class.specs.Family.{Found, IsFamily}
 use Rattle.s80_class.specs.Known.{IsKnown}
 use Rattle.s80_class.specs.Totalled.{AreTotals, HasSettled, IsSettled}
-use Rattle.s80_class.proofs.Lines.{Entry, passes, valid-insert, get-here, get-elsewhere, get-left, line_across, lineage_line, absent_passed, alone_passed}
-use Rattle.s80_class.proofs.Rows.{get_kept, get_new, get_pushed, get_set, get_set_other, same_number, superclass_in, name_is}
+use Rattle.s80_class.proofs.lemmas.Lines.{Entry, passes, valid-insert, get-here, get-elsewhere, get-left, line_across, lineage_line, absent_passed, alone_passed}
+use Rattle.s80_class.proofs.lemmas.Rows.{get_kept, get_new, get_pushed, get_set, get_set_other, same_number, superclass_in, name_is}
 use Rattle.s80_class.proofs.Indexed.{none_there}
-use Rattle.s80_class.proofs.Walks.{same_name, totals_more}
+use Rattle.s80_class.proofs.lemmas.Walks.{same_name, totals_more}
 
 -- ---- as many classes as before, one more, one less
 

@@ -7,3 +7,4 @@ pub mod Family
 pub mod Sound
 pub mod Known
 pub mod Totalled
+pub mod Lookup

@@ -1,5 +1,7 @@
 -- A table of classes, in which each has a number.
-use Rattle.std.specs.Prelude.{◌≡◌, ℕ, List, false, Option, Some, None, slice_get, option_and_then}
+use Rattle.std.specs.Prelude.{◌≡◌, ℕ, suc, List, [], ◌∷◌, false, Option, Some, None, slice_get, option_and_then, unwrap_or, if◌then◌else◌}
+use Rattle.std.specs.Option.{option_map}
+use Rattle.std.specs.Str.{bytes_eq}
 use Rattle.std.specs.FinMap as map
 use Rattle.s80_class.specs.declared.entry.ClassEntry.{ClassEntry}
 use Rattle.s80_class.specs.Classes.{Name, ClassRow, Classes, is_under}
@@ -13,6 +15,19 @@ pub record Table : Type 0 where
 -- the name of the class of this number
 abbrev pub name_of : List (Option Name) → ℕ → Option Name
 name_of names number = option_and_then (λ name. name) (slice_get names number)
+
+-- the same, and no byte where there is none
+abbrev pub class_name : Table → ℕ → Name
+class_name t c = unwrap_or (name_of t.names c) []
+
+-- the number of the class of this name
+abbrev pub onto_number : Name → Option Name → Option ℕ → Option ℕ
+onto_number word None rest = option_map suc rest
+onto_number word (Some name) rest = if bytes_eq name word then Some 0 else option_map suc rest
+
+abbrev pub number_of : List (Option Name) → Name → Option ℕ
+number_of [] word = None
+number_of (n ∷ names) word = onto_number word n (number_of names word)
 
 -- a class of this name has this number
 abbrev pub IsNumberOf : List (Option Name) → ℕ → Name → Type 0

@@ -3,7 +3,7 @@ ghost use Rattle.std.specs.Prelude.{◌≡◌, ◌≢◌, ◌+◌, ◌<◌, ◌�
 ghost use Rattle.std.specs.FinMap as map;
 ghost use Rattle.s80_class.specs.Classes.{Name, ClassRow, IsLine, IsValid, descends, inherited_in, inherited_of, extent_of};
 ghost use Rattle.s80_class.specs.Counted.{totals, greatest_of, over, own};
-ghost use Rattle.s80_class.specs.Table.{IsNumberOf, IsClass, IsSuperclass, IsAbove, IsEntryOf, name_of, row_of};
+ghost use Rattle.s80_class.specs.Table.{IsNumberOf, IsClass, IsSuperclass, IsAbove, IsEntryOf, name_of, number_of, row_of};
 ghost use Rattle.s80_class.specs.Family.{AreFamily, Found};
 ghost use Rattle.s80_class.specs.Known.{IsKnown};
 ghost use Rattle.s80_class.specs.Totalled.{IsSettled};
@@ -82,6 +82,13 @@ impl ClassTable {
         ensures found { MatchOption result (map.get self.now.classes name.now ≡ None) (λ c. IsNumberOf self.now.names c name.now) }
         ensures only { (c : ℕ) → IsNumberOf self.now.names c name.now → result ≡ Some c }
         ensures valid { IsValid self.now.classes }
+    {
+        self.tree.find(name.bytes())
+    }
+
+    /// The same of a name that is given by its bytes. Takes no memory.
+    pub(crate) fn find_bytes(&self, name: &[u8]) -> Option<u32>
+        ensures { result ≡ number_of self.now.names name.now }
     {
         self.tree.find(name)
     }

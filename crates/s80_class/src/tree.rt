@@ -97,16 +97,16 @@ impl ClassTree {
     }
 
     /// The number of the class of this name.
-    pub(crate) fn find(&self, name: &Text) -> Option<u32>
+    pub(crate) fn find(&self, name: &[u8]) -> Option<u32>
         ensures found { MatchOption result (map.get self.now.classes name.now ≡ None) (λ c. IsNumberOf self.now.names c name.now) }
         ensures only { (c : ℕ) → IsNumberOf self.now.names c name.now → result ≡ Some c }
         ensures valid { IsValid self.now.classes }
     {
-        let at = place(&self.entries, &self.order, name.bytes());
+        let at = place(&self.entries, &self.order, name);
         let Some(&number) = self.order.get(at) else {
             return None;
         };
-        if name_in(&self.entries, number) == name.bytes() {
+        if name_in(&self.entries, number) == name {
             Some(number)
         } else {
             None

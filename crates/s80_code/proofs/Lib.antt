@@ -1,3 +1,2 @@
+pub mod lemmas
 pub mod LineLemmas
-pub mod SpellingLemmas
-pub mod TableLemmas

@@ -5,7 +5,7 @@ use Rattle.std.specs.Option.{option_map_or}
 use Rattle.s80_code.specs.declared.instruction.Instruction.{Instruction}
 use Rattle.s80_code.specs.Table.{decoded}
 use Rattle.s80_code.specs.Listing.{hex_byte, spaced, line, lines, disassembly}
-use Rattle.s80_code.proofs.TableLemmas.{decodes}
+use Rattle.s80_code.proofs.lemmas.TableLemmas.{decodes}
 
 -- bytes behind a space each are bytes parted by spaces, behind a space
 pub spaced_parted : (b : ℕ) (bytes : List ℕ) → flat_map spaced (b ∷ bytes) ≡ 32 ∷ join_with_byte 32 (map hex_byte (b ∷ bytes))

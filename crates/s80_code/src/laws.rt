@@ -1,7 +1,8 @@
 // Laws of the table, for the crates above.
-ghost use Rattle.std.specs.Prelude.{◌≡◌, ℕ, ◌-◌, ◌<◌, ◌≤◌, ◌⊎◌, ◌↔◌, List, ◌∷◌, ◌++◌, true, false, Some, None, IsSome, length, take, slice_get, slice_range};
+ghost use Rattle.std.specs.Prelude.{◌≡◌, ℕ, ◌-◌, ◌<◌, ◌≤◌, ◌⊎◌, ◌↔◌, ◌≢◌, List, ◌∷◌, ◌++◌, true, false, Some, None, IsSome, codes, get_or, length, take, slice_get, slice_range};
 ghost use Rattle.s80_code.specs.declared.instruction.Instruction.{Instruction};
 ghost use Rattle.std.specs.List.{All};
+ghost use Rattle.s80_code.specs.Special.{SpecialMessage, block_copy, number_of, special_arguments, special_messages, special_number, special_selectors};
 ghost use Rattle.s80_code.specs.Spelling.{IsSpellable, spelled};
 ghost use Rattle.s80_code.specs.Table.{Row, rows, formed, decoded, width_of, is_unused, Stands};
 
@@ -61,4 +62,15 @@ pub fn a_spelling_is_the_shortest()
     ensures { (bytes : List ℕ) (instruction : Instruction) (width : ℕ) → All (λ b. b < 256) bytes
         → decoded bytes ≡ Some (instruction, width)
         → IsSpellable instruction × (length (spelled instruction) ≤ width) }
+{}
+
+/// A special message's number is its place in the table, where no other has its selector. All are sent by their numbers but
+/// `blockCopy:`, whose number is 24.
+pub fn a_special_message_has_one_number()
+    ensures columns { (n : ℕ) (message : SpecialMessage) → slice_get special_messages n ≡ Some message
+        → (slice_get special_selectors n ≡ Some message.selector) × (get_or special_arguments n 0 ≡ message.arguments) }
+    ensures numbers { (selector : List ℕ) (n : ℕ) → number_of selector ≡ Some n ↔ slice_get special_selectors n ≡ Some selector }
+    ensures copy { (n : ℕ) → slice_get special_selectors n ≡ Some (codes "blockCopy:") ↔ n ≡ block_copy }
+    ensures sent { (selector : List ℕ) (n : ℕ)
+        → special_number selector ≡ Some n ↔ (slice_get special_selectors n ≡ Some selector) × (n ≢ block_copy) }
 {}

@@ -5,7 +5,7 @@ use Rattle.std.proofs.lemmas.List.{append-nil}
 use Rattle.std.proofs.lemmas.List.Elements.{Contains-push, Contains-append_left, Contains-append_right, Contains-append_cases}
 use Rattle.std.proofs.lemmas.Map.Made.{Contains-tail}
 use Rattle.s80_code.specs.Entries.{EntryTree}
-use Rattle.s80_agree.specs.Compiles.{AreFirsts}
+use Rattle.s80_compile.specs.Compiles.{AreFirsts}
 use Rattle.s80_compile.specs.Emitted.{HasRoom}
 
 pub firsts_join : (seen v w a b : List EntryTree) → AreFirsts seen v a → AreFirsts (seen ++ a) w b → AreFirsts seen (v ++ w) (a ++ b)

@@ -9,7 +9,7 @@ use Rattle.s80_core.specs.declared.core_tree.CoreMessage.{CoreMessage, out-CoreM
 use Rattle.s80_core.specs.declared.core_tree.CoreMessages.{CoreMessages, out-CoreMessages}
 use Rattle.s80_core.specs.Core.{CoreTree, SendTree, SendTrees, cores_from, cores_of, core_of, count, no_sends, sends, sends_from, sends_of, send_of}
 use Rattle.s80_core.specs.Measures.{size_all, selector_entries}
-use Rattle.s80_agree.specs.Rows.{SendsTo}
+use Rattle.s80_compile.specs.Rows.{SendsTo}
 use Rattle.s80_compile.specs.Emitted.{Emitted, CoresRow, OneRow, AllFit, MessageFits, HasRoom, AreEmitted, IsMessageEmitted, Adds, SendsGoOn}
 use Rattle.s80_compile.proofs.Fitting.{message_arguments, message_selector}
 use Rattle.s80_compile.proofs.Going.{next_sent}

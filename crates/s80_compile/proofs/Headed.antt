@@ -14,12 +14,12 @@ use Rattle.s80_scope.specs.declared.shape.Binding.{Binding}
 use Rattle.s80_core.specs.Core.{CoreTree}
 use Rattle.s80_core.specs.Measures.{CoreFits, entries}
 use Rattle.s80_core.specs.Elaborate.{elaborated}
-use Rattle.s80_core.proofs.FitAll.{core_fits}
-use Rattle.s80_agree.specs.Sent.{AreWellSent, IsWellSent}
-use Rattle.s80_agree.proofs.SentArms.{arms_had}
-use Rattle.s80_agree.proofs.SentCore.{core_sent}
-use Rattle.s80_agree.specs.Rows.{At}
-use Rattle.s80_agree.specs.Compiles.{AreFirsts}
+use Rattle.s80_core.proofs.lemmas.FitAll.{core_fits}
+use Rattle.s80_compile.specs.Sent.{AreWellSent, IsWellSent}
+use Rattle.s80_compile.proofs.SentArms.{arms_had}
+use Rattle.s80_compile.proofs.lemmas.SentCore.{core_sent}
+use Rattle.s80_compile.specs.Rows.{At}
+use Rattle.s80_compile.specs.Compiles.{AreFirsts}
 use Rattle.s80_compile.specs.Emitted.{Fits, IsEmitted, CoreRow}
 use Rattle.s80_compile.proofs.Moves.{Sits, sits_all}
 use Rattle.s80_compile.proofs.Parts.{core_moves, moved}

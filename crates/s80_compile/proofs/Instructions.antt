@@ -9,8 +9,8 @@ use Rattle.s80_code.specs.declared.instruction.Instruction.{Instruction}
 use Rattle.s80_code.specs.declared.instruction.Instruction.TheVariants.{Jump}
 use Rattle.s80_code.specs.Table.{Stands, decoded}
 use Rattle.s80_code.specs.Spelling.{spelled, IsSpellable}
-use Rattle.s80_code.proofs.SpellingLemmas.{spelled_tells}
-use Rattle.s80_agree.proofs.WidthTable.{most_bytes, narrow_there}
+use Rattle.s80_code.proofs.lemmas.SpellingLemmas.{spelled_tells}
+use Rattle.s80_compile.proofs.WidthTable.{most_bytes, narrow_there}
 use Rattle.s80_compile.specs.Emitted.{Adds, AddsBack}
 
 -- a spelling by itself

@@ -5,12 +5,13 @@ use Rattle.s80_base.specs.Literal.{small}
 use Rattle.std.specs.Prelude.{pos}
 use Rattle.s80_code.specs.Entries.{EntryTree}
 use Rattle.s80_code.specs.declared.instruction.Instruction.TheVariants.{ReturnTop, ReturnFromBlock, ReturnFixed, PushContext, SendSpecial}
+use Rattle.s80_code.specs.Special.{block_copy}
 use Rattle.s80_code.specs.Spelling.{Written}
 use Rattle.s80_scope.specs.declared.fit.position.Position.{Position}
 use Rattle.s80_scope.specs.declared.fit.position.Position.TheVariants.{Value, Effect}
 use Rattle.s80_core.specs.Core.{VariableTree, LeafTree, CoreTree, SendTree, SendTrees, leaf, assign, value, send, cascade, real_block, two_arms, one_arm, repeat, nothing, before, answer, answer_fixed, leave, count}
 use Rattle.s80_core.specs.Measures.{entries, entries_all, entries_sends, leaf_entries, variable_entries, constant_entries, selector_entries, size, size_all, size_sends, popped}
-use Rattle.s80_agree.specs.Rows.{Ends, NilFor, Stores, Pushes, SendsTo, jump_unless}
+use Rattle.s80_compile.specs.Rows.{Ends, NilFor, Stores, Pushes, SendsTo, jump_unless}
 use Rattle.s80_compile.specs.Emitted.{Row, Emitted, CoreRow, CoresRow, SendsRow, OneRow, MessageRow, IsEmitted, AreEmitted, AreSent, IsMessageEmitted, message_entries, Adds, AddsEnd, AddsNil, AddsChoice, AddsFar, AddsTakes, ClosesLoop, constant_width}
 use Rattle.s80_compile.proofs.Moves.{leaf_goes_along, stores_go_along, sends_go_along}
 use Rattle.s80_compile.proofs.Singles.{count_is}
@@ -107,7 +108,7 @@ module _ (f g h i : List EntryTree) (c d e k : List ℕ) (position : Position) w
       (core_moves x Value) (core_moves a Effect) p q refl z.unless refl z.back added nil
 
   pub block_made : (first n : ℕ) (x : CoreTree) (context counted copied taken body jumped : List ℕ) → Adds PushContext 1 c context → Emitted (CountRow n) (constant_entries (small (pos n))) (constant_width (small (pos n))) f g context counted
-      → Adds (SendSpecial 24) 1 counted copied → AddsTakes first n [] taken → IsEmitted x Effect g h taken body → AddsFar (length body) copied jumped → d ≡ jumped ++ body → AddsEnd position d e
+      → Adds (SendSpecial block_copy) 1 counted copied → AddsTakes first n [] taken → IsEmitted x Effect g h taken body → AddsFar (length body) copied jumped → d ≡ jumped ++ body → AddsEnd position d e
       → IsEmitted (real_block first n x) position f h c e
   block_made first n x context counted copied taken body jumped push number special takes b far is end =
       subst (λ (m : ℕ). Emitted (CoreRow (real_block first n x) position) (entries (real_block first n x)) (4 + m + 2 * n + size Effect x + popped position) f h c e) (count_is n)

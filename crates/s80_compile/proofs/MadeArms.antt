@@ -12,7 +12,7 @@ use Rattle.s80_scope.specs.declared.fit.position.Position.{Position}
 use Rattle.s80_scope.specs.declared.fit.position.Position.TheVariants.{Value}
 use Rattle.s80_core.specs.Core.{CoreTree, constant, shortcut}
 use Rattle.s80_core.specs.Measures.{entries, constant_entries, size, popped}
-use Rattle.s80_agree.specs.Rows.{Ends, Pushes, shortcut_number}
+use Rattle.s80_compile.specs.Rows.{Ends, Pushes, shortcut_number}
 use Rattle.s80_compile.specs.Emitted.{Emitted, CoreRow, OneRow, IsEmitted, Adds, AddsEnd, AddsChoice, constant_width}
 use Rattle.s80_compile.proofs.Made.{changed}
 use Rattle.s80_compile.proofs.Parts.{BothRow, ChooseRow, CountRow, joined, ended, instructed, core_moves, ends_moves, stands_moves, chosen}

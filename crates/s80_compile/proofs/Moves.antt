@@ -10,12 +10,12 @@ use Rattle.s80_code.specs.declared.instruction.Instruction.{Instruction}
 use Rattle.s80_code.specs.declared.instruction.Instruction.TheVariants.{Jump}
 use Rattle.s80_code.specs.Table.{Stands, decoded}
 use Rattle.s80_code.specs.Spelling.{Written}
-use Rattle.s80_code.proofs.TableLemmas.{decodes, place_law}
+use Rattle.s80_code.proofs.lemmas.TableLemmas.{decodes, place_law}
 use Rattle.s80_scope.specs.declared.fit.position.Position.{Position}
 use Rattle.s80_scope.specs.declared.fit.position.Position.TheVariants.{Value, Effect}
 use Rattle.s80_core.specs.Core.{VariableTree, temporary, instance, class_variable, outer, LeafTree, variable, constant, receiver, context, CoreTree, CoreTrees, SendTrees, leaf, assign, value, send, cascade, real_block, two_arms, one_arm, shortcut, repeat, nothing, before, answer, answer_fixed, leave, no_cores, cores, no_sends, sends, count}
 use Rattle.s80_core.specs.Measures.{fixed_number, sent_number}
-use Rattle.s80_agree.specs.Rows.{Part, Holds, PushesConstant, Pushes, Stores, SendsBy, SendsTo, One, Both, Ends, NilFor, JumpsTo, JumpsOver, Chooses, Skips, Loops, Takes, Makes, At, AllAt, SendsAt}
+use Rattle.s80_compile.specs.Rows.{Part, Holds, PushesConstant, Pushes, Stores, SendsBy, SendsTo, One, Both, Ends, NilFor, JumpsTo, JumpsOver, Chooses, Skips, Loops, Takes, Makes, At, AllAt, SendsAt}
 
 -- what is read at a place, with more behind
 pub get_more : {X : Type 0} (xs ys : List X) (n : ℕ) (x : X) → slice_get xs n ≡ Some x → slice_get (xs ++ ys) n ≡ Some x

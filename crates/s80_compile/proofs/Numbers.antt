@@ -6,7 +6,7 @@ use Rattle.std.proofs.lemmas.Bool.{cases_lt}
 use Rattle.std.proofs.lemmas.Option.{slice_get_within, get_or_from_slice_get, slice_get-get_or}
 use Rattle.std.proofs.Math.Seq.{get_or-append_seam}
 use Rattle.s80_code.specs.Entries.{EntryTree}
-use Rattle.s80_agree.specs.Compiles.{AreFirsts}
+use Rattle.s80_compile.specs.Compiles.{AreFirsts}
 use Rattle.s80_compile.specs.Emitted.{Finds, HasRoom}
 use Rattle.s80_compile.specs.Same.{AreOther, IsNamed, same_entry}
 use Rattle.s80_compile.proofs.Firsts.{frame_few, room_second, room_first}

@@ -6,14 +6,15 @@ use Rattle.s80_base.specs.Literal.{small}
 use Rattle.s80_code.specs.Entries.{EntryTree}
 use Rattle.s80_code.specs.declared.instruction.Instruction.{Instruction}
 use Rattle.s80_code.specs.declared.instruction.Instruction.TheVariants.{Jump, PushContext, SendSpecial}
+use Rattle.s80_code.specs.Special.{block_copy}
 use Rattle.s80_code.specs.Spelling.{Written, far}
-use Rattle.s80_code.proofs.SpellingLemmas.{ahead}
+use Rattle.s80_code.proofs.lemmas.SpellingLemmas.{ahead}
 use Rattle.s80_scope.specs.declared.fit.position.Position.{Position}
 use Rattle.s80_scope.specs.declared.fit.position.Position.TheVariants.{Value, Effect}
 use Rattle.s80_core.specs.Core.{CoreTree, CoreTrees, SendTrees, constant}
 use Rattle.s80_core.specs.Measures.{popped, nil_width}
-use Rattle.s80_agree.specs.Rows.{Both, Ends, NilFor, Chooses, JumpsOver, Skips, Loops, Makes, Takes, Pushes, jump_unless}
-use Rattle.s80_agree.specs.Compiles.{AreFirsts}
+use Rattle.s80_compile.specs.Rows.{Both, Ends, NilFor, Chooses, JumpsOver, Skips, Loops, Makes, Takes, Pushes, jump_unless}
+use Rattle.s80_compile.specs.Compiles.{AreFirsts}
 use Rattle.s80_compile.specs.Emitted.{Row, Emitted, CoreRow, CoresRow, SendsRow, OneRow, Adds, AddsBack, AddsFar, AddsEnd, AddsNil, AddsTakes, AddsChoice, HasRoom}
 use Rattle.s80_compile.proofs.Firsts.{firsts_join, room_second}
 use Rattle.s80_compile.proofs.Moves.{Sits, sits_all, sits_more, sits_last, sits_within, written_goes, over_goes, get_more, core_goes, cores_go, sends_go, takes_goes, constant_goes_along}
@@ -290,7 +291,7 @@ pub takes_move : (first n : ℕ) → Moves (λ bytes entries p q. Takes bytes fi
 takes_move first n part whole k old new here kept = takes_goes part whole k old new here kept n first
 
 pub made : (first n : ℕ) (B : Row) (position : Position) (v w : List EntryTree) (l m : ℕ) (f g h : List EntryTree) (old context counted copied taken body jumped code new : List ℕ)
-    → Moves B → Adds PushContext 1 old context → Emitted (CountRow n) v l f g context counted → Adds (SendSpecial 24) 1 counted copied
+    → Moves B → Adds PushContext 1 old context → Emitted (CountRow n) v l f g context counted → Adds (SendSpecial block_copy) 1 counted copied
     → AddsTakes first n [] taken → Emitted B w m g h taken body → AddsFar (length body) copied jumped → code ≡ jumped ++ body → AddsEnd position code new
     → Emitted (BlockRow first n B position) (v ++ w) (4 + l + 2 * n + m + popped position) f h old new
 made first n B position v w l m f g h old context counted copied taken body jumped code new b_moves push count special takes b over is end =
@@ -331,7 +332,7 @@ made first n B position v w l m f g h old context counted copied taken body jump
         parameters = moved (CountRow n) count.part all (length push.part) g h b.added (length push.part) (length pushed) (count_moves n)
             (front_in count.part (length push.part) (sits_more count.part copy jump (length push.part) (sits_more count.part pushed special.part (length push.part) (sits_last push.part count.part))))
             b.is_frame refl pushed_length count.stands;
-        copies = stands_moved (SendSpecial 24) special.part all (length pushed) (length pushed) (length copy)
+        copies = stands_moved (SendSpecial block_copy) special.part all (length pushed) (length pushed) (length copy)
             (front_in special.part (length pushed) (sits_more special.part copy jump (length pushed) (sits_last pushed special.part))) refl copy_length special.stands;
         over = over_moved (length body) all (length copy) (length made) (length copy) (length front) jump_in over.reach refl front_length made_length;
         takes = moved (λ bytes entries p q. Takes bytes first n p q) takes.part all (length front + 0) h h [] (length front) (length front + length takes.part) (takes_move first n)

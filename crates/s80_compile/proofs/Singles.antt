@@ -11,8 +11,8 @@ use Rattle.s80_code.specs.declared.instruction.Instruction.{Instruction}
 use Rattle.s80_code.specs.declared.instruction.Instruction.TheVariants.{Push, PopInto}
 use Rattle.s80_core.specs.Core.{constant}
 use Rattle.s80_core.specs.Measures.{fixed_number, count_width, sent_number, constant_entries, selector_entries}
-use Rattle.s80_agree.specs.Rows.{Pushes, PushesConstant, SendsBy, SendsTo, Takes, send_of}
-use Rattle.s80_agree.specs.Compiles.{AreFirsts}
+use Rattle.s80_compile.specs.Rows.{Pushes, PushesConstant, SendsBy, SendsTo, Takes, send_of}
+use Rattle.s80_compile.specs.Compiles.{AreFirsts}
 use Rattle.s80_compile.specs.Emitted.{Adds, AddsTakes, Emitted, Finds, OneRow, constant_width}
 use Rattle.s80_compile.proofs.Moves.{sits_all, sits_more, sits_last}
 use Rattle.s80_compile.proofs.Parts.{behind_two, told, stands_moved, moved, takes_move}
@@ -68,6 +68,11 @@ pub super_named : (to_super : Bool) (s : List ℕ) (arguments : ℕ) (f g : List
     → Adds (send_of true arguments n) 3 c d → Emitted (OneRow (λ entries i. SendsTo entries to_super s arguments i)) (selector_entries to_super s) 3 f g c d
 super_named to_super s arguments f g n c d yes_super found a =
     subst (λ (b : Bool). Emitted (OneRow (λ entries i. SendsTo entries b s arguments i)) (selector_entries b s) 3 f g c d) (sym yes_super) (selector_named true s arguments f g n c d refl found a)
+
+pub plain_named : (to_super : Bool) (s : List ℕ) (arguments : ℕ) (f g : List EntryTree) (n : ℕ) (c d : List ℕ) → to_super ≡ false → None ≡ sent_number false s → Finds (frame.constant (symbol s)) f g n
+    → Adds (send_of false arguments n) 3 c d → Emitted (OneRow (λ entries i. SendsTo entries to_super s arguments i)) (selector_entries to_super s) 3 f g c d
+plain_named to_super s arguments f g n c d no_super none found a =
+    subst (λ (b : Bool). Emitted (OneRow (λ entries i. SendsTo entries b s arguments i)) (selector_entries b s) 3 f g c d) (sym no_super) (selector_named false s arguments f g n c d none found a)
 
 -- ---- parameters
 

@@ -4,7 +4,7 @@ use Rattle.std.proofs.lemmas.List.{drop_all, drop_more}
 use Rattle.s80_core.specs.declared.core_tree.Core.{Core}
 use Rattle.s80_core.specs.declared.core_tree.CoreMessage.{CoreMessage, out-CoreMessage}
 use Rattle.s80_core.specs.Core.{SendTrees, core_of, cores_of, send_of, sends_from}
-use Rattle.s80_agree.specs.Compiles.{any_to_super, goes_to_super, sends_to_super}
+use Rattle.s80_compile.specs.Compiles.{any_to_super, goes_to_super, sends_to_super}
 use Rattle.s80_compile.proofs.OpenCore.{cores_left, cores_next, cores_done, message_open}
 
 -- after a tree, all goes to super as this tree or what is left does

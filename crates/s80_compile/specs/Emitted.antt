@@ -11,8 +11,8 @@ use Rattle.s80_core.specs.Core.{VariableTree, LeafTree, variable, CoreTree, Core
 use Rattle.std.specs.Option.{option_map_or}
 use Rattle.s80_base.specs.Literal.{LiteralTree}
 use Rattle.s80_core.specs.Measures.{fixed_number, popped, nil_width, variable_entries, selector_entries, InRange, entries, entries_all, entries_sends, size, size_all, size_sends, AreInRange, AllInRange, SendsInRange, HasFewArguments, AllHaveFewArguments, SendsHaveFewArguments}
-use Rattle.s80_agree.specs.Rows.{At, AllAt, SendsAt, SendsTo, One, Both, Holds, Takes, Ends, NilFor, jump_unless}
-use Rattle.s80_agree.specs.Compiles.{AreFirsts}
+use Rattle.s80_compile.specs.Rows.{At, AllAt, SendsAt, SendsTo, One, Both, Holds, Takes, Ends, NilFor, jump_unless}
+use Rattle.s80_compile.specs.Compiles.{AreFirsts}
 
 -- ---- instructions
 

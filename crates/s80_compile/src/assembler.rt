@@ -2,7 +2,7 @@
 ghost use Rattle.std.specs.Prelude.{◌<◌, pos, OnOk};
 ghost use Rattle.s80_code.specs.Spelling.{IsSmall};
 ghost use Rattle.s80_code.specs.declared.instruction.Instruction.TheVariants as is;
-ghost use Rattle.s80_agree.specs.Rows.{jump_unless};
+ghost use Rattle.s80_compile.specs.Rows.{jump_unless};
 ghost use Rattle.s80_compile.specs.Emitted.{Adds, AddsBack, AddsFar};
 
 use s80_base::{OutOfMemory, Text};

@@ -16,7 +16,7 @@ use crate::pieces::{
     take_parameters,
 };
 use s80_base::{Literal, OutOfMemory, Text};
-use s80_code::Frame;
+use s80_code::{BLOCK_COPY, Frame};
 use s80_core::{Core, CoreMessage, CoreMessages, Cores, Leaf, Variable};
 use s80_scope::Position;
 use std::alloc::Global;
@@ -196,7 +196,7 @@ fn real_block(
 {
     push_context(code)?;
     constant(alloc, frame, code, &Literal::Small(i32::from(parameters)))?;
-    send_special(code, 24)?;
+    send_special(code, BLOCK_COPY)?;
     let mut inner = Text::empty(alloc);
     take_parameters(&mut inner, first, parameters)?;
     emit(alloc, frame, &mut inner, body, Position::Effect)?;

@@ -1,11 +1,11 @@
 // The entries of a frame, each once.
 ghost use Rattle.std.specs.Prelude.{◌≡◌, [], ◌∷◌, IfOk, OnOk, MatchResult};
-ghost use Rattle.s80_base.specs.Literal.{literal_of, literals_of, symbol};
+ghost use Rattle.s80_base.specs.Literal.{literal_of, symbol};
 ghost use Rattle.s80_code.specs.Entries.{class_variable, constant as constant_entry, entries_of, entry_of, outer};
 ghost use Rattle.s80_compile.specs.Emitted.{Finds, HasRoom};
-ghost use Rattle.s80_compile.specs.Same.{IsFound, IsNamed, same_entry, same_literal, same_literals};
+ghost use Rattle.s80_compile.specs.Same.{IsFound, IsNamed, same_entry};
 
-use s80_base::{Literal, Literals, OutOfMemory, Text};
+use s80_base::{Literal, OutOfMemory, Text};
 use s80_code::{Entry, Frame};
 use std::alloc::Global;
 
@@ -46,7 +46,7 @@ pub(crate) fn constant(
     requires { HasRoom (entries_of frame.old) (constant_entry (literal_of literal.now) ∷ []) }
     ensures { IfOk result (Finds (constant_entry (literal_of literal.now)) (entries_of frame.old) (entries_of frame.new)) }
 {
-    let copy = copy_literal(alloc, literal)?;
+    let copy = literal.copy(alloc)?;
     number_of(frame, Entry::Const(copy))
 }
 
@@ -85,7 +85,7 @@ fn same_entry(a: &Entry, b: &Entry) -> bool
 {
     match a {
         Entry::Const(a) => match b {
-            Entry::Const(b) => same_literal(a, b),
+            Entry::Const(b) => a.equals(b),
             _ => false,
         },
         Entry::ClassVar(class, word) => match b {
@@ -101,67 +101,4 @@ fn same_entry(a: &Entry, b: &Entry) -> bool
         Entry::Owner(..) => false,
         Entry::Extension(_) => false,
     }
-}
-
-#[cycle(same)]
-fn same_literal(a: &Literal, b: &Literal) -> bool
-    ensures { result ≡ same_literal (literal_of a.now) (literal_of b.now) }
-{
-    match a {
-        Literal::Small(a) => matches!(b, Literal::Small(b) if *a == *b),
-        Literal::Character(a) => matches!(b, Literal::Character(b) if *a == *b),
-        Literal::Str(a) => matches!(b, Literal::Str(b) if a.bytes() == b.bytes()),
-        Literal::Symbol(a) => matches!(b, Literal::Symbol(b) if a.bytes() == b.bytes()),
-        Literal::Array(a) => matches!(b, Literal::Array(b) if same_literals(a, b)),
-        Literal::True => matches!(b, Literal::True),
-        Literal::False => matches!(b, Literal::False),
-        Literal::Nil => matches!(b, Literal::Nil),
-        Literal::Number(kind, a) => {
-            matches!(b, Literal::Number(other, b) if *kind == *other && a.bytes() == b.bytes())
-        }
-    }
-}
-
-#[cycle(same)]
-fn same_literals(a: &Literals, b: &Literals) -> bool
-    ensures { result ≡ same_literals (literals_of a.now) (literals_of b.now) }
-{
-    let count = a.items.len();
-    if count != b.items.len() {
-        return false;
-    }
-    for i in 0..count {
-        if !same_literal(&a.items[i], &b.items[i]) {
-            return false;
-        }
-    }
-    true
-}
-
-#[cycle(copy)]
-fn copy_literal(alloc: Global, literal: &Literal) -> Result<Literal, OutOfMemory>
-    ensures { IfOk result (λ copy. literal_of copy ≡ literal_of literal.now) }
-{
-    match literal {
-        Literal::Small(number) => Ok(Literal::Small(*number)),
-        Literal::Character(byte) => Ok(Literal::Character(*byte)),
-        Literal::Str(text) => Ok(Literal::Str(text.copy(alloc)?)),
-        Literal::Symbol(text) => Ok(Literal::Symbol(text.copy(alloc)?)),
-        Literal::Array(elements) => Ok(Literal::Array(copy_literals(alloc, elements)?)),
-        Literal::True => Ok(Literal::True),
-        Literal::False => Ok(Literal::False),
-        Literal::Nil => Ok(Literal::Nil),
-        Literal::Number(kind, text) => Ok(Literal::Number(*kind, text.copy(alloc)?)),
-    }
-}
-
-#[cycle(copy)]
-fn copy_literals(alloc: Global, literals: &Literals) -> Result<Literals, OutOfMemory>
-    ensures { IfOk result (λ copy. literals_of copy ≡ literals_of literals.now) }
-{
-    let mut copy = Literals::empty(alloc);
-    for literal in &literals.items {
-        copy.push(copy_literal(alloc, literal)?)?;
-    }
-    Ok(copy)
 }

@@ -1,7 +1,7 @@
 // Whether a method sends to super, so that its code must tell the class it is in.
 ghost use Rattle.std.specs.Prelude.{◌≡◌};
 ghost use Rattle.s80_core.specs.Core.{core_of, cores_of, sends_of};
-ghost use Rattle.s80_agree.specs.Compiles.{any_to_super, goes_to_super, sends_to_super};
+ghost use Rattle.s80_compile.specs.Compiles.{any_to_super, goes_to_super, sends_to_super};
 
 use s80_core::{Core, CoreMessages, Cores};
 

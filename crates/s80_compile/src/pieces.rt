@@ -5,7 +5,7 @@ ghost use Rattle.s80_code.specs.Entries.{entries_of};
 ghost use Rattle.s80_core.specs.Core as tree;
 ghost use Rattle.s80_core.specs.Core.{leaf_of, variable_of};
 ghost use Rattle.s80_core.specs.Measures.{InRange, constant_entries, leaf_entries, selector_entries, variable_entries};
-ghost use Rattle.s80_agree.specs.Rows.{Pushes, SendsTo, Stores};
+ghost use Rattle.s80_compile.specs.Rows.{Pushes, SendsTo, Stores};
 ghost use Rattle.s80_compile.specs.Emitted.{AddsChoice, AddsEnd, AddsNil, AddsTakes, ClosesLoop, Emitted, HasRoom, HasStorage, LeafInRange, OneRow, constant_width};
 
 use crate::assembler::{
@@ -13,9 +13,9 @@ use crate::assembler::{
     send_special, send_to_super, store,
 };
 use crate::entry;
-use crate::special::{fixed_number, special_number};
+use crate::fixed::fixed_number;
 use s80_base::{Literal, OutOfMemory, Text};
-use s80_code::{Frame, Storage};
+use s80_code::{Frame, Storage, special_number};
 use s80_core::{Leaf, Variable};
 use s80_scope::Position;
 use std::alloc::Global;

@@ -1,24 +1,25 @@
 -- The entries of a core tree are those of its parsed tree, each as what it means.
-use Rattle.std.proofs.Common.{◌≡◌, ℕ, suc, ◌+◌, List, [], ◌∷◌, ◌++◌, Bool, true, false, cond, ◌||◌, ◌==◌, Option, Some, None, find, is_some, nat_le, bytes_eq, codes, refl, ap, sym, ◌∙◌, pos, negsuc, true≢false, if◌then◌else◌, arith}
+use Rattle.std.proofs.Common.{◌≡◌, ℕ, ◌+◌, List, [], ◌∷◌, ◌++◌, Bool, true, false, cond, ◌||◌, ◌==◌, Option, Some, None, find, is_some, nat_le, bytes_eq, codes, refl, ap, sym, ◌∙◌, pos, negsuc, true≢false, if◌then◌else◌, arith}
 use Rattle.std.specs.List.{AllByRecursion, list_any}
-use Rattle.std.specs.Option.{option_map, option_map_or, option_or}
+use Rattle.std.specs.Option.{option_map, option_map_or}
 use Rattle.std.proofs.lemmas.Bool.Decides.{nat_tests}
 use Rattle.std.proofs.lemmas.List.Folds.{list_any-append}
 use Rattle.s80_base.specs.Literal.{LiteralTree, small, character, str, symbol, array, true_literal, false_literal, nil_literal, number}
 use Rattle.s80_tree.specs.declared.name.NameAt.{NameAt}
 use Rattle.s80_tree.specs.Tree.{MethodParts}
-use Rattle.s80_grammar.specs.Word.{Names, has_name, is_reserved}
+use Rattle.s80_syntax.specs.Word.{is_reserved}
 use Rattle.s80_code.specs.Entries as frame
 use Rattle.s80_code.specs.Entries.{EntryTree}
+use Rattle.s80_code.specs.Special.{special_number}
 use Rattle.s80_scope.specs.declared.shape.Shape.{Shape}
 use Rattle.s80_scope.specs.Shape as meant
 use Rattle.s80_scope.specs.Shape.{WhereTree}
 use Rattle.s80_scope.specs.Names.{means, word_means, last_place, declarations_of, is_at, reserved_meaning, reserved_meanings, declares as shows}
 use Rattle.s80_scope.specs.FitLiterals as parsed
-use Rattle.s80_scope.specs.FitLiterals.{Entry, constant, variable, declares, is_special, arithmetic_selectors, common_selectors, name_entries, target_entries, expr_entries, primary_entries, messages_entries, exprs_entries, body_entries}
+use Rattle.s80_scope.specs.FitLiterals.{Entry, constant, variable, declares, is_special, name_entries, target_entries, expr_entries, primary_entries, messages_entries, exprs_entries, body_entries}
 use Rattle.s80_core.specs.Core.{CoreTree}
-use Rattle.s80_core.specs.Elaborate.{leaf_meant, target_meant, assigned, place_in}
-use Rattle.s80_core.specs.Measures.{special_number, common_number, variable_entries, constant_entries, leaf_entries, selector_entries, entries}
+use Rattle.s80_core.specs.Elaborate.{leaf_meant, target_meant, assigned}
+use Rattle.s80_core.specs.Measures.{variable_entries, constant_entries, leaf_entries, selector_entries, entries}
 
 -- ---- lists
 
@@ -86,23 +87,9 @@ module _ (shape : Shape) (In : EntryTree → Type 0) where
   constant_held (array vs) h = (h.0.0, tt)
   constant_held (number kind bytes) h = (h.0.0, tt)
 
-  place_is : (names : Names) (word : List ℕ) → has_name names word ≡ is_some (place_in names word)
-  place_is [] word = refl
-  place_is (n ∷ ns) word = by_test (bytes_eq word n) (place_in ns word) (place_is ns word)
-    where
-      by_test : (b : Bool) (o : Option ℕ) → has_name ns word ≡ is_some o → (b || has_name ns word) ≡ is_some (if b then Some 0 else option_map suc o)
-      by_test true o e = refl
-      by_test false None e = e
-      by_test false (Some k) e = e
-
   special_is : (word : List ℕ) → is_special word ≡ is_some (special_number word)
   unfolding is_special
-  special_is word = by_places (has_name arithmetic_selectors word) (has_name common_selectors word) (place_in arithmetic_selectors word) (place_in common_selectors word) (place_is arithmetic_selectors word) (place_is common_selectors word)
-    where
-      by_places : (a b : Bool) (o p : Option ℕ) → a ≡ is_some o → b ≡ is_some p → (a || b) ≡ is_some (option_or o (option_map common_number p))
-      by_places a b (Some k) p e f = ap (λ c. c || b) e
-      by_places a b None None e f = ap (λ c. c || b) e ∙ f
-      by_places a b None (Some k) e f = ap (λ c. c || b) e ∙ f
+  special_is word = refl
 
   pub selector_held : (to_super : Bool) (word : List ℕ) → AllHeld (parsed.selector_entries to_super word) → AllIn (selector_entries to_super word)
   selector_held true word h = (h.0.0, tt)

@@ -13,7 +13,7 @@ use Rattle.std.proofs.lemmas.List.{map-append}
 use Rattle.std.proofs.lemmas.List.Elements.{All-from_recursion, recursion_from_All, All-contains_itself, Contains-append_left, Contains-append_right}
 use Rattle.s80_tree.specs.declared.name.NameAt.{NameAt}
 use Rattle.s80_tree.specs.Tree.{MethodParts}
-use Rattle.s80_grammar.specs.Word.{names_in, has_name}
+use Rattle.s80_syntax.specs.Word.{names_in, has_name}
 use Rattle.s80_code.specs.Entries as frame
 use Rattle.s80_code.specs.Entries.{EntryTree}
 use Rattle.s80_scope.specs.declared.shape.Shape.{Shape}

@@ -4,7 +4,7 @@ use Rattle.std.specs.List.{list_any}
 use Rattle.std.specs.Option.{option_map_or}
 use Rattle.s80_tree.specs.declared.name.NameAt.{NameAt}
 use Rattle.s80_tree.specs.Tree.{MethodParts}
-use Rattle.s80_grammar.specs.Word.{names_in, has_name}
+use Rattle.s80_syntax.specs.Word.{names_in, has_name}
 use Rattle.s80_code.specs.Entries.{EntryTree}
 use Rattle.s80_scope.specs.declared.shape.Shape.{Shape}
 use Rattle.s80_scope.specs.Names.{Declaration, last_place, declarations_of, is_at, declared_over, declares as shows}
@@ -16,7 +16,7 @@ use Rattle.s80_scope.specs.declared.fit.ending.Ending.TheVariants.{Sent, Cascade
 use Rattle.s80_core.specs.Core.{CoreTree, CoreTrees, SendTrees, no_cores, cores}
 use Rattle.s80_core.specs.Elaborate.{first_of, second_of, last_core}
 use Rattle.s80_core.specs.Measures.{selector_entries, entries, entries_all, entries_sends}
-use Rattle.s80_core.proofs.CoverEnds.{KeepsAtEnds}
+use Rattle.s80_core.proofs.lemmas.CoverEnds.{KeepsAtEnds}
 use Rattle.s80_core.proofs.Cover.{both, left, right, or_left, any_left, any_right, AllHeld, AllIn, selector_held}
 
 -- ---- declarations

@@ -1,11 +1,11 @@
 -- The entries of a method's core are meant by those of its tree.
 use Rattle.std.proofs.Common.{◌≡◌, ℕ, ◌+◌, List, [], ◌++◌, Bool, true, false, cond, ◌&&◌, length, refl, ◌∙◌, subst, pos}
 use Rattle.s80_base.specs.Literal.{small}
-use Rattle.s80_tree.specs.Tree.{ExprTree, PrimaryTree, ExprTrees, MessageTrees, BodyTree, MethodParts, expr, name, literal, block, paren, no_exprs, exprs, no_messages, messages, no_stmts, stmts}
+use Rattle.s80_tree.specs.Tree.{ExprTree, PrimaryTree, ExprTrees, MessageTrees, BodyTree, MethodParts, expr, name, literal, block, paren, no_exprs, exprs, no_messages, messages, no_stmts, stmts, is_super}
 use Rattle.s80_code.specs.Entries.{EntryTree}
 use Rattle.s80_scope.specs.declared.shape.Shape.{Shape}
 use Rattle.s80_scope.specs.Names.{means, last_place, declarations_of, is_at, expr_uses, primary_uses, messages_uses, exprs_uses, body_uses, expr_declarations, primary_declarations, messages_declarations, exprs_declarations, body_declarations, declares as shows}
-use Rattle.s80_scope.specs.Inlined.{ending, is_inlined, is_loop, is_single, is_super}
+use Rattle.s80_scope.specs.Inlined.{ending, is_inlined, is_loop, is_single}
 use Rattle.s80_scope.specs.FitStack.{expr_parameters, primary_parameters, messages_parameters, exprs_parameters}
 use Rattle.s80_scope.specs.FitLiterals as parsed
 use Rattle.s80_scope.specs.FitLiterals.{declares, target_entries, expr_entries, primary_entries, messages_entries, exprs_entries, body_entries}
@@ -16,7 +16,7 @@ use Rattle.s80_core.specs.Core.{CoreTree, SendTrees, send}
 use Rattle.s80_core.specs.Elaborate.{statement, expr_core, receiver_core, chain_core, sends_core, exprs_core, arms_core, arm_core, body_core}
 use Rattle.s80_core.specs.Measures.{constant_entries, selector_entries, entries, entries_all, entries_sends}
 use Rattle.s80_core.proofs.Cover.{both, left, right, Held, AllHeld, AllIn, or_left, constant_held, selector_held, word_held, targets_held, any_left, itself}
-use Rattle.s80_core.proofs.CoverEnds.{statement_kept, last_kept, empty_kept}
+use Rattle.s80_core.proofs.lemmas.CoverEnds.{statement_kept, last_kept, empty_kept}
 use Rattle.s80_core.proofs.CoverParts.{Stands, first, second, behind, inside, last_some, at_ends, last_core_in}
 
 and_true : (a : Bool) → (a && true) ≡ a

@@ -1,33 +1,15 @@
 -- Lists that grow at their end.
-use Rattle.std.proofs.Common.{◌≡◌, ℕ, suc, ◌+◌, ◌-◌, ◌<◌, List, [], ◌∷◌, ◌++◌, length, drop, get_or, map, refl, ap, ap₂, sym, subst, ◌∙◌, arith}
+use Rattle.std.proofs.Common.{◌≡◌, ℕ, ◌+◌, ◌-◌, ◌<◌, List, [], ◌∷◌, ◌++◌, length, drop, get_or, map, refl, ap, ap₂, sym, subst, ◌∙◌, arith}
 use Rattle.std.proofs.lemmas.List.{drop_more}
 use Rattle.std.proofs.lemmas.List.Elements.{Contains-get_or}
 use Rattle.std.specs.List.{Contains}
-use Rattle.s80_base.specs.Literal.{LiteralTree, LiteralTrees, no_literals, literals, literals_append}
 use Rattle.s80_tree.specs.declared.name.NameAt.{NameAt}
-use Rattle.s80_tree.proofs.Lists.{map_append}
+use Rattle.s80_tree.proofs.lemmas.Lists.{map_append}
 use Rattle.s80_scope.specs.Shape.{WhereTree}
 use Rattle.s80_core.specs.declared.core_tree.Core.{Core}
 use Rattle.s80_core.specs.Core.{CoreTree, CoreTrees, SendTrees, VariableTree, assign, before, core_of, cores, no_cores, sends, no_sends}
 use Rattle.s80_core.specs.Elaborate.{assigned, target_meant}
 use Rattle.s80_core.specs.Walk.{cores_append, sends_append, joined}
-
--- ---- literals
-
-literals_pushed : (a : LiteralTrees) (l : LiteralTree) (b : LiteralTrees) → literals_append (literals_append a (literals l no_literals)) b ≡ literals_append a (literals l b)
-literals_pushed no_literals l b = refl
-literals_pushed (literals m a) l b = ap (literals m) (literals_pushed a l b)
-
-literals_whole : (a : LiteralTrees) → literals_append a no_literals ≡ a
-literals_whole no_literals = refl
-literals_whole (literals m a) = ap (literals m) (literals_whole a)
-
-pub literals_step : (made next all left rest : LiteralTrees) (l copy : LiteralTree) → literals_append made left ≡ all → left ≡ literals l rest → copy ≡ l → next ≡ literals_append made (literals copy no_literals) → literals_append next rest ≡ all
-literals_step made next all left rest l copy goes split same pushed =
-    ap (λ a. literals_append a rest) (pushed ∙ ap (λ c. literals_append made (literals c no_literals)) same) ∙ literals_pushed made l rest ∙ ap (literals_append made) (sym split) ∙ goes
-
-pub literals_end : (made all left : LiteralTrees) → literals_append made left ≡ all → left ≡ no_literals → made ≡ all
-literals_end made all left goes none = sym (literals_whole made) ∙ ap (literals_append made) (sym none) ∙ goes
 
 -- ---- core trees and messages
 

@@ -12,19 +12,20 @@ use Rattle.s80_tree.specs.declared.expr.Block.{Block, out-Block}
 use Rattle.s80_tree.specs.declared.expr.Message.{Message, out-Message}
 use Rattle.s80_tree.specs.declared.expr.Messages.{Messages, out-Messages}
 use Rattle.s80_tree.specs.declared.expr.Body.{Body, out-Body}
-use Rattle.s80_tree.proofs.Lists.{body_open, map_append, messages_open}
+use Rattle.s80_tree.proofs.lemmas.Lists.{body_open, map_append, messages_open}
 use Rattle.s80_tree.specs.declared.expr.Stmt.{Stmt, out-Stmt}
-use Rattle.s80_tree.specs.Tree.{ExprTree, ExprTrees, PrimaryTree, MessageTree, MessageTrees, BlockTree, BodyTree, StmtTree, expr, block, exprs, no_messages, messages, no_stmts, stmts, messages_from, body_from, expr_of, exprs_of, primary_of, body_of, message_of, messages_of, stmt_of}
+use Rattle.s80_tree.specs.Tree.{ExprTree, ExprTrees, PrimaryTree, MessageTree, MessageTrees, BlockTree, BodyTree, StmtTree, expr, block, exprs, no_messages, messages, no_stmts, stmts, messages_from, body_from, expr_of, exprs_of, primary_of, body_of, message_of, messages_of, stmt_of, is_super}
 use Rattle.s80_scope.specs.declared.fit.ending.Ending.{Ending}
 use Rattle.s80_scope.specs.declared.fit.ending.Ending.TheVariants.{Sent, Cascaded, TwoArms, OneArm, Shortcut, Loop}
 use Rattle.s80_scope.specs.FitStack.{expr_parameters, primary_parameters, messages_parameters, exprs_parameters, body_parameters}
-use Rattle.s80_scope.specs.Inlined.{are_arms, branch, chain_ending, ending, expr_ending, is_inlined, is_loop, is_plain_block, is_super, message_ending, with_arms}
+use Rattle.s80_scope.specs.Inlined.{are_arms, branch, chain_ending, ending, expr_ending, is_inlined, is_loop, is_plain_block, message_ending, with_arms}
 use Rattle.s80_scope.specs.Names.{expr_uses, primary_uses, messages_uses, exprs_uses, body_uses}
 use Rattle.s80_scope.specs.Shape.{WhereTree}
 use Rattle.s80_scope.specs.Walk.{last_has_arms}
-use Rattle.s80_scope.proofs.Counted.{IsMore, IsMoreStatements, next_arms}
-use Rattle.s80_scope.proofs.Endings.{ending_arms}
-use Rattle.s80_scope.proofs.Opens.{block_open, expr_open, message_open, messages_left, messages_next, primary_block, stmt_open}
+use Rattle.s80_scope.proofs.lemmas.Counted.{IsMore, IsMoreStatements, next_arms}
+use Rattle.s80_scope.proofs.lemmas.Endings.{ending_arms}
+use Rattle.s80_tree.proofs.lemmas.Opens.{block_open, expr_open, message_open, primary_block, stmt_open}
+use Rattle.s80_scope.proofs.lemmas.Opens.{messages_left, messages_next}
 use Rattle.s80_core.specs.declared.core_tree.Core.{Core}
 use Rattle.s80_core.specs.declared.elaboration.Enclosing.{Enclosing}
 use Rattle.s80_core.specs.declared.elaboration.Enclosing.TheVariants as enclosing

@@ -2,8 +2,8 @@
 use Rattle.std.proofs.Common.{ℕ, ◌+◌, ◌≤◌, max, List, [], ◌∷◌, Bool, true, false, length, Option, Some, None, arith}
 use Rattle.std.specs.Option.{option_map_or}
 use Rattle.s80_tree.specs.declared.name.NameAt.{NameAt}
-use Rattle.s80_tree.specs.Tree.{ExprTree, PrimaryTree, ExprTrees, MessageTrees, BodyTree, MethodParts, expr, name, literal, block, paren, no_exprs, exprs, no_messages, messages, no_stmts, stmts}
-use Rattle.s80_scope.specs.Inlined.{ending, is_loop, is_super}
+use Rattle.s80_tree.specs.Tree.{ExprTree, PrimaryTree, ExprTrees, MessageTrees, BodyTree, MethodParts, expr, name, literal, block, paren, no_exprs, exprs, no_messages, messages, no_stmts, stmts, is_super}
+use Rattle.s80_scope.specs.Inlined.{ending, is_loop}
 use Rattle.s80_scope.specs.FitStack.{Needs, at_least, greatest, values_below, expr_needs, receiver_needs, messages_needs, arguments_needs, arms_needs, arm_needs, body_needs, expr_parameters, primary_parameters, messages_parameters, exprs_parameters, temporaries}
 use Rattle.s80_scope.specs.FitStack as tree
 use Rattle.s80_scope.specs.Names.{means}

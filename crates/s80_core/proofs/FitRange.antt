@@ -3,8 +3,8 @@ use Rattle.std.proofs.Common.{◌≡◌, ℕ, suc, ◌+◌, ◌<◌, ◌≤◌, 
 use Rattle.std.specs.Option.{option_map, option_map_or}
 use Rattle.std.specs.Str.{bytes_eq}
 use Rattle.s80_tree.specs.declared.name.NameAt.{NameAt}
-use Rattle.s80_tree.specs.Tree.{ExprTree, PrimaryTree, ExprTrees, MessageTrees, BodyTree, MethodParts, expr, name, literal, block, paren, no_exprs, exprs, no_messages, messages, no_stmts, stmts}
-use Rattle.s80_scope.specs.Inlined.{ending, is_loop, is_super, is_bare}
+use Rattle.s80_tree.specs.Tree.{ExprTree, PrimaryTree, ExprTrees, MessageTrees, BodyTree, MethodParts, expr, name, literal, block, paren, no_exprs, exprs, no_messages, messages, no_stmts, stmts, is_super, is_bare}
+use Rattle.s80_scope.specs.Inlined.{ending, is_loop}
 use Rattle.s80_scope.specs.FitStack.{expr_parameters, primary_parameters, messages_parameters, exprs_parameters, body_parameters, temporaries}
 use Rattle.s80_scope.specs.FitWeight.{short_returns}
 use Rattle.s80_scope.specs.Names.{means, declares, declarations_of, last_place, reserved_meaning, reserved_meanings}
@@ -13,7 +13,7 @@ use Rattle.s80_scope.specs.declared.shape.Binding.{Binding}
 use Rattle.s80_scope.specs.declared.shape.Shape.{Shape}
 use Rattle.s80_scope.specs.declared.fit.ending.Ending.{Ending}
 use Rattle.s80_scope.specs.declared.fit.ending.Ending.TheVariants.{Sent, Cascaded, TwoArms, OneArm, Shortcut, Loop}
-use Rattle.s80_scope.proofs.Places.{last_place_below}
+use Rattle.s80_scope.proofs.lemmas.Places.{last_place_below}
 use Rattle.s80_core.specs.declared.elaboration.Enclosing.{Enclosing}
 use Rattle.s80_core.specs.declared.elaboration.Enclosing.TheVariants as enclosing
 use Rattle.s80_core.specs.Core.{CoreTree, CoreTrees, SendTrees, leaf, send, answer, answer_fixed, no_cores, cores}

@@ -4,9 +4,9 @@ use Rattle.std.specs.Option.{option_map, option_map_or}
 use Rattle.std.specs.Str.{bytes_eq}
 use Rattle.std.proofs.lemmas.Bool.Decides.{nat_tests}
 use Rattle.s80_tree.specs.declared.name.NameAt.{NameAt}
-use Rattle.s80_tree.specs.Tree.{ExprTree, PrimaryTree, ExprTrees, MessageTrees, BodyTree, MethodParts, expr, name, literal, block, paren, no_exprs, exprs, no_messages, messages, no_stmts, stmts}
-use Rattle.s80_grammar.specs.Word.{has_name}
-use Rattle.s80_scope.specs.Inlined.{ending, is_loop, is_super, is_bare, is_arm, are_arms, is_inlined}
+use Rattle.s80_tree.specs.Tree.{ExprTree, PrimaryTree, ExprTrees, MessageTrees, BodyTree, MethodParts, expr, name, literal, block, paren, no_exprs, exprs, no_messages, messages, no_stmts, stmts, is_super, is_bare}
+use Rattle.s80_syntax.specs.Word.{has_name}
+use Rattle.s80_scope.specs.Inlined.{ending, is_loop, is_arm, are_arms, is_inlined}
 use Rattle.s80_scope.specs.FitStack.{expr_parameters, primary_parameters, messages_parameters, exprs_parameters, body_parameters}
 use Rattle.s80_scope.specs.FitWeight.{short_returns, is_short, is_short_name, position_within, dropped, arm_leaves, statement_position, statement_weight, expr_weight, receiver_weight, messages_weight, arguments_weight, arms_weight, arm_weight, body_weight, method_leaves, weight}
 use Rattle.s80_scope.specs.Names.{means}
@@ -19,8 +19,8 @@ use Rattle.s80_scope.specs.declared.fit.position.Position.{Position}
 use Rattle.s80_scope.specs.declared.fit.position.Position.TheVariants.{Value, Effect}
 use Rattle.s80_scope.specs.declared.fit.position.Leaves.{Leaves}
 use Rattle.s80_scope.specs.declared.fit.position.Leaves.TheVariants as leaves
-use Rattle.s80_scope.proofs.Counted.{IsMore, arm_block, first_arm, other_arms}
-use Rattle.s80_scope.proofs.Endings.{ending_arms}
+use Rattle.s80_scope.proofs.lemmas.Counted.{IsMore, arm_block, first_arm, other_arms}
+use Rattle.s80_scope.proofs.lemmas.Endings.{ending_arms}
 use Rattle.s80_core.specs.declared.elaboration.Enclosing.{Enclosing}
 use Rattle.s80_core.specs.declared.elaboration.Enclosing.TheVariants as enclosing
 use Rattle.s80_core.specs.Arms.{arguments_of, arms_wanted, LastHasArms, ExprHasArms, PrimaryHasArms, ExprsHaveArms, MessagesHaveArms, BodyHasArms, HaveArms}

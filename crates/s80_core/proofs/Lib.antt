@@ -1,3 +1,4 @@
+pub mod lemmas
 pub mod OpenCores
 pub mod ElaborateLists
 pub mod Cover
@@ -10,6 +11,4 @@ pub mod FitRange
 pub mod FitFew
 pub mod FitNeeds
 pub mod FitSize
-pub mod FitAll
-pub mod CoverEnds
 pub mod ElaborateWalk

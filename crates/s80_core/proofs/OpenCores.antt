@@ -1,9 +1,7 @@
 -- Lists of core trees in memory, opened by one layer.
-use Rattle.std.proofs.Common.{◌≡◌, ℕ, List, [], ◌∷◌, ◌++◌, map, refl, ap, sym, ◌∙◌}
-use Rattle.s80_tree.proofs.Lists.{map_append}
-use Rattle.s80_core.specs.declared.core_tree.Core.{Core}
+use Rattle.std.proofs.Common.{◌≡◌, List, [], ◌∷◌, ◌++◌, map, refl, ap}
+use Rattle.s80_tree.proofs.lemmas.Lists.{map_append}
 use Rattle.s80_core.specs.declared.core_tree.Cores.{Cores, out-Cores, fold_out-Cores, out-roll-Cores}
-use Rattle.s80_core.specs.declared.core_tree.CoreMessage.{CoreMessage}
 use Rattle.s80_core.specs.declared.core_tree.CoreMessages.{CoreMessages, out-CoreMessages, fold_out-CoreMessages, out-roll-CoreMessages}
 use Rattle.s80_core.specs.Core.{CoreTree, CoreTrees, SendTree, SendTrees, cores, cores_from, cores_of, core_of, no_cores, no_sends, sends, sends_from, sends_of, send_of, core_layer, send_layer, sends_layer, cores_layer}
 use Rattle.s80_core.specs.Walk.{cores_append, sends_append}

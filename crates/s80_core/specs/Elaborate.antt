@@ -3,13 +3,13 @@ use Rattle.std.specs.Prelude.{ℕ, suc, ◌+◌, List, [], ◌∷◌, Bool, true
 use Rattle.std.specs.Option.{option_map, option_map_or}
 use Rattle.std.specs.Str.{bytes_eq}
 use Rattle.s80_tree.specs.declared.name.NameAt.{NameAt}
-use Rattle.s80_tree.specs.Tree.{ExprTree, PrimaryTree, ExprTrees, MessageTrees, BodyTree, MethodParts, expr, name, literal, block, paren, no_exprs, exprs, no_messages, messages, no_stmts, stmts}
-use Rattle.s80_grammar.specs.Word.{Names}
+use Rattle.s80_tree.specs.Tree.{ExprTree, PrimaryTree, ExprTrees, MessageTrees, BodyTree, MethodParts, expr, name, literal, block, paren, no_exprs, exprs, no_messages, messages, no_stmts, stmts, is_bare, is_super}
+use Rattle.s80_syntax.specs.Word.{Names}
 use Rattle.s80_scope.specs.declared.shape.Shape.{Shape}
 use Rattle.s80_scope.specs.Shape as meant
 use Rattle.s80_scope.specs.Shape.{WhereTree}
 use Rattle.s80_scope.specs.Names.{means}
-use Rattle.s80_scope.specs.Inlined.{ending, is_bare, is_loop, is_super}
+use Rattle.s80_scope.specs.Inlined.{ending, is_loop}
 use Rattle.s80_scope.specs.FitStack.{expr_parameters, primary_parameters, messages_parameters, exprs_parameters}
 use Rattle.s80_scope.specs.FitWeight.{short_returns}
 use Rattle.s80_scope.specs.declared.fit.ending.Ending.{Ending}

@@ -1,17 +1,16 @@
 -- What the code of a core tree needs: bytes, values on a stack, entries of the frame, and numbers in range.
 use Rattle.std.specs.Prelude.{ℕ, ◌+◌, ◌*◌, ◌≤◌, ◌<◌, List, [], ◌∷◌, ◌++◌, Bool, true, false, length, nat_le, Option, Some, None, if◌then◌else◌, pos, negsuc}
 use Rattle.std.specs.List.{All, Contains}
-use Rattle.std.specs.Option.{option_map, option_map_or, option_or}
+use Rattle.std.specs.Option.{option_map_or}
 use Rattle.s80_base.specs.Literal.{LiteralTree, small, symbol, true_literal, false_literal, nil_literal}
 use Rattle.s80_code.specs.Entries as frame
 use Rattle.s80_code.specs.Entries.{EntryTree}
+use Rattle.s80_code.specs.Special.{special_number}
 use Rattle.s80_scope.specs.declared.fit.position.Position.{Position}
 use Rattle.s80_scope.specs.declared.fit.position.Position.TheVariants.{Value, Effect}
-use Rattle.s80_scope.specs.FitLiterals.{arithmetic_selectors, common_selectors}
 use Rattle.s80_scope.specs.FitStack.{Needs, at_least, greatest, above}
 use Rattle.s80_scope.specs.FitStack as stack
 use Rattle.s80_core.specs.Core.{VariableTree, temporary, instance, class_variable, outer, LeafTree, variable, constant, receiver, context, CoreTree, CoreTrees, SendTrees, leaf, assign, value, send, cascade, real_block, two_arms, one_arm, shortcut, repeat, nothing, before, answer, answer_fixed, leave, no_cores, cores, no_sends, sends, count}
-use Rattle.s80_core.specs.Elaborate.{place_in}
 
 -- ---- instructions without an entry
 
@@ -24,13 +23,7 @@ fixed_number (small (pos n)) = if nat_le n 2 then Some (5 + n) else None
 fixed_number (small (negsuc n)) = if nat_le n 0 then Some 4 else None
 fixed_number _ = None
 
--- the messages that have an instruction of their own, by its number; 24 is that of `blockCopy:`, which begins a block
-abbrev pub common_number : ℕ → ℕ
-common_number k = if nat_le k 7 then 16 + k else 17 + k
-
-abbrev pub special_number : List ℕ → Option ℕ
-special_number s = option_or (place_in arithmetic_selectors s) (option_map common_number (place_in common_selectors s))
-
+-- the messages that have an instruction of their own, by its number; none where they are sent to super
 abbrev pub sent_number : Bool → List ℕ → Option ℕ
 sent_number true s = None
 sent_number false s = special_number s

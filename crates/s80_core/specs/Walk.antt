@@ -1,14 +1,12 @@
 -- What the private functions of the elaboration promise.
-use Rattle.std.specs.Prelude.{◌≡◌, ℕ, ◌+◌, ◌≤◌, List, [], ◌∷◌, Bool, cond, length}
+use Rattle.std.specs.Prelude.{ℕ, ◌+◌, ◌≤◌, List, [], ◌∷◌, cond, length}
 use Rattle.std.specs.List.{Contains}
 use Rattle.s80_tree.specs.declared.name.NameAt.{NameAt}
-use Rattle.s80_tree.specs.Tree.{ExprTrees, MethodParts, method_of}
-use Rattle.s80_scope.specs.declared.shape.Shape.{Shape}
+use Rattle.s80_tree.specs.Tree.{ExprTrees, method_of}
 use Rattle.s80_scope.specs.declared.fit.ending.Ending.{Ending}
 use Rattle.s80_scope.specs.Inlined.{is_inlined}
 use Rattle.s80_scope.specs.Names.{AreInOrder, declarations_of, means, uses_of}
 use Rattle.s80_scope.specs.Shape.{WhereTree}
-use Rattle.s80_core.specs.declared.core_tree.Core.{Core}
 use Rattle.s80_core.specs.declared.elaboration.Home.{Home}
 use Rattle.s80_core.specs.declared.elaboration.walk.Chain.{Chain}
 use Rattle.s80_core.specs.declared.elaboration.walk.Chain.TheVariants as chain

@@ -5,7 +5,6 @@ ghost use Rattle.s80_scope.specs.Names.{AreInOrder, declarations_of, uses_of};
 ghost use Rattle.s80_core.specs.Core.{core_of};
 ghost use Rattle.s80_core.specs.Elaborate.{elaborated, method_end};
 
-mod copies;
 mod ends;
 mod names;
 mod walk;

@@ -1,4 +1,4 @@
-pub mod Run
+pub mod lemmas
 pub mod Steps
 pub mod Pushed
 pub mod Mixed

@@ -1,6 +1,8 @@
 pub mod Image
 pub mod Moments
 pub mod Keeps
+pub mod Untouched
+pub mod Shown
 pub mod Plan
 pub mod Five
 pub mod History

@@ -3,13 +3,13 @@ use Rattle.std.specs.Prelude.{◌≡◌, ◌<◌, ℕ, List, length, take, Optio
 use Rattle.std.specs.Io.KnownBytes.{Consumes, Appends, IsAtEnd}
 use Rattle.s80_disk.specs.declared.real.RealDisk.{RealDisk}
 
--- it has the type of the runtime and of one type that comes with it
-module _ {R A : Type 0} where
+-- it has the type of the runtime and of two types that come with it
+module _ {R A B : Type 0} where
   -- how many of its calls failed
-  abbrev pub faults_of_real : RealDisk R A → ℕ
+  abbrev pub faults_of_real : RealDisk R A B → ℕ
   faults_of_real disk = disk.faults
 
-  abbrev pub runtime_of : RealDisk R A → R
+  abbrev pub runtime_of : RealDisk R A B → R
   runtime_of disk = disk.rt
 
 -- over where a file stands, what reads of it will give and what was written to it, where these are known

@@ -1,4 +1,5 @@
-//! Five files as a program sees them: what a read gives, and what a crash at each moment may leave.
+//! Five files as a program sees them: what a read gives, and what a crash at each moment may leave; and the outside, a disk, a source, a
+//! sink and a clock that are one object.
 #![tactic(auto)]
 
 mod bytes;
@@ -19,5 +20,5 @@ pub use memory::MemDisk;
 pub use memory_outside::MemOutside;
 pub use outside::{Outside, put_output, take_input, time_now};
 pub use plan::FaultPlan;
-pub use real::RealDisk;
+pub use real::{HasLock, RealDisk};
 pub use streams::{read_some, write_some};

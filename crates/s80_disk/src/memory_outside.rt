@@ -82,6 +82,21 @@ impl<S: Source + Drop> MemOutside<S> {
 }
 
 impl<S: Source + Drop> Outside for MemOutside<S> {
+    ghost shown = { λ o. record {
+      tells = Self.tells o;
+      files = Self.reads o;
+      left = Self.left o;
+      taken = Self.taken o;
+      told = Self.told o;
+      seconds = Self.seconds o;
+    } };
+
+    ghost shown_is = { λ o. refl };
+
+    ghost faults = { λ o. record { read = Self.read_faults o; write = Self.write_faults o; disk = Self.disk_faults o } };
+
+    ghost faults_is = { λ o. refl };
+
     ghost beside_is = { λ o. refl };
 
     ghost take_keeps_files = { λ o p h. files_stay (λ x. x.disk) (λ x. Self.beside x) o p (told_by_itself o.disk p.disk h.0) refl };

@@ -23,17 +23,35 @@ const PAUSE_MILLISECONDS: u64 = 10;
 
 const TRIES: u32 = 500;
 
+/// A file of the system that has a lock.
+pub trait HasLock {
+    /// Takes the lock of the whole file, unless another program holds it.
+    fn try_lock(&self) -> Result<(), TryLockError>;
+}
+
+impl HasLock for File {
+    fn try_lock(&self) -> Result<(), TryLockError> {
+        File::try_lock(self)
+    }
+}
+
 /// The five files of a folder, which stay open and locked from `attach` on.
 #[derive(Drop)]
-pub struct RealDisk<R: Files<File = File> + AllocGlobal + Clock + Drop> {
+pub struct RealDisk<R: Files + AllocGlobal + Clock + Drop>
+where
+    R::File: HasLock,
+{
     rt: R,
-    files: Vec<File>,
+    files: Vec<R::File>,
     /// The folder, opened so often that no file of it gets the number of a standard stream that is closed.
-    folders: Vec<File>,
+    folders: Vec<R::File>,
     faults: u64,
 }
 
-impl<R: Files<File = File> + AllocGlobal + Clock + Drop> RealDisk<R> {
+impl<R: Files + AllocGlobal + Clock + Drop> RealDisk<R>
+where
+    R::File: HasLock,
+{
     ghost use Rattle.s80_disk.specs.Real.{faults_of_real, runtime_of};
 
     /// A disk without a folder. Until one is attached each other call fails.
@@ -60,11 +78,7 @@ impl<R: Files<File = File> + AllocGlobal + Clock + Drop> RealDisk<R> {
 }
 
 /// Opens a file, and makes an absent one, empty.
-fn open_one<R: Files<File = File> + AllocGlobal>(
-    rt: &R,
-    folder: &str,
-    name: &str,
-) -> io::Result<File> {
+fn open_one<R: Files + AllocGlobal>(rt: &R, folder: &str, name: &str) -> io::Result<R::File> {
     let path = format!(in rt.alloc(); "{folder}/{name}")?;
     OpenOptions::new()
         .read(true)
@@ -74,10 +88,7 @@ fn open_one<R: Files<File = File> + AllocGlobal>(
 }
 
 /// Opens the folder for reading, once for each standard stream.
-fn open_folders<R: Files<File = File> + AllocGlobal>(
-    rt: &R,
-    folder: &str,
-) -> io::Result<Vec<File>> {
+fn open_folders<R: Files + AllocGlobal>(rt: &R, folder: &str) -> io::Result<Vec<R::File>> {
     let mut folders = Vec::with_capacity(rt.alloc(), 3)?;
     for _ in 0..3 {
         folders.push(OpenOptions::new().read(true).open(rt, folder)?)?;
@@ -86,7 +97,7 @@ fn open_folders<R: Files<File = File> + AllocGlobal>(
 }
 
 /// Opens the files in the order of `FileId`.
-fn open_files<R: Files<File = File> + AllocGlobal>(rt: &R, folder: &str) -> io::Result<Vec<File>> {
+fn open_files<R: Files + AllocGlobal>(rt: &R, folder: &str) -> io::Result<Vec<R::File>> {
     let mut files = Vec::with_capacity(rt.alloc(), 5)?;
     for name in ["mark", "log0", "log1", "image0", "image1"] {
         files.push(open_one(rt, folder, name)?)?;
@@ -95,7 +106,7 @@ fn open_files<R: Files<File = File> + AllocGlobal>(rt: &R, folder: &str) -> io::
 }
 
 /// Takes the lock of an open file, and waits while another program holds it. The system frees it when this program ends, however it ends.
-fn lock<R: Clock>(rt: &R, file: &File) -> io::Result<()> {
+fn lock<R: Clock, F: HasLock>(rt: &R, file: &F) -> io::Result<()> {
     let begun = Instant::now(rt)?;
     for _ in 0..TRIES {
         match file.try_lock() {
@@ -113,10 +124,13 @@ fn lock<R: Clock>(rt: &R, file: &File) -> io::Result<()> {
 
 /// Opens the folder and its files, takes the lock of the first one, and syncs the folder, so that the names of those that it made outlive
 /// a power cut.
-fn open_all<R: Files<File = File> + AllocGlobal + Clock>(
+fn open_all<R: Files + AllocGlobal + Clock>(
     rt: &R,
     folder: &[u8],
-) -> io::Result<(Vec<File>, Vec<File>)> {
+) -> io::Result<(Vec<R::File>, Vec<R::File>)>
+where
+    R::File: HasLock,
+{
     let folder = match std::str::from_utf8(folder) {
         Ok(folder) => folder,
         Err(_) => return Err(io::Error::from(ErrorKind::InvalidInput)),
@@ -200,7 +214,10 @@ fn noted<T>(faults: &mut u64, call: Call, outcome: io::Result<T>) -> Result<T, F
     }
 }
 
-impl<R: Files<File = File> + AllocGlobal + Clock + Drop> Disk for RealDisk<R> {
+impl<R: Files + AllocGlobal + Clock + Drop> Disk for RealDisk<R>
+where
+    R::File: HasLock,
+{
     ghost use Rattle.s80_disk.specs.Real.{faults_of_real};
 
     ghost tells = { λ _. false };

@@ -9,9 +9,9 @@ use Rattle.s80_verify.specs.Effect.{distance_of, Goes}
 use Rattle.s80_verify.specs.Reach.{IsPlaceAfter, IsPlace, Begins, ReachedIn}
 use Rattle.s80_verify.specs.Fault.{RunsAt}
 use Rattle.s80_verify.specs.Record.{HasDepths}
-use Rattle.s80_verify.proofs.PlaceLemmas.{same_instruction, goes_forward, ends_within, place_behind}
-use Rattle.s80_verify.proofs.LawLemmas.{fits_there, fits_as}
-use Rattle.s80_agree.proofs.PointsSound.{one_target}
+use Rattle.s80_verify.proofs.lemmas.PlaceLemmas.{same_instruction, goes_forward, ends_within, place_behind}
+use Rattle.s80_verify.proofs.lemmas.LawLemmas.{fits_there, fits_as}
+use Rattle.s80_compile.proofs.PointsSound.{one_target}
 
 module _ (bytes : List ℕ) (P : Instruction → Type 0) where
   -- the next so many instructions from a place on

@@ -4,7 +4,7 @@ use Rattle.std.proofs.lemmas.Bool.Decides.{nat_tests}
 use Rattle.s80_base.specs.declared.names.Side.TheVariants.{Instance}
 use Rattle.s80_tree.specs.Tree.{DoItParts, MethodParts}
 use Rattle.s80_syntax.specs.Text.{IsDoItOf}
-use Rattle.s80_syntax.proofs.OneReading.{one_doit_of}
+use Rattle.s80_syntax.proofs.lemmas.OneReading.{one_doit_of}
 use Rattle.s80_scope.specs.declared.fit.Fit.{Fit}
 use Rattle.s80_scope.specs.declared.fit.Fit.TheVariants as fits
 use Rattle.s80_scope.specs.declared.fit.FitKind.{FitKind}
@@ -13,7 +13,7 @@ use Rattle.s80_scope.specs.declared.fit.Measures.{Measures}
 use Rattle.s80_scope.specs.Fit.{fit, measures, cut_measures}
 use Rattle.s80_scope.specs.Walk.{cut}
 use Rattle.s80_code.specs.declared.code.Code.{Code}
-use Rattle.s80_agree.specs.Compiles.{Compiles}
+use Rattle.s80_compile.specs.Compiles.{Compiles}
 use Rattle.s80_change.specs.Check.{as_method, size_refusal, too_large}
 use Rattle.s80_doit.specs.DoIt.{Fits, IsDoItCode}
 

@@ -1,3 +1,5 @@
+mod Evaluated
+mod OneHouse
 mod Fitting
 mod Setting
 mod Ran

@@ -3,20 +3,20 @@ use Rattle.std.proofs.Common.{◌≡◌, ℕ, ◌+◌, ◌<◌, List, [], ◌∷
 use Rattle.std.specs.List.{list_any}
 use Rattle.std.specs.Option.{option_map, option_map_or}
 use Rattle.s80_tree.specs.declared.name.NameAt.{NameAt}
-use Rattle.s80_tree.specs.Tree.{ExprTree, PrimaryTree, ExprTrees, MessageTrees, BodyTree, MethodParts, expr, name, literal, block, paren, no_exprs, exprs, no_messages, messages, no_stmts, stmts}
-use Rattle.s80_grammar.specs.Word.{is_reserved}
+use Rattle.s80_tree.specs.Tree.{ExprTree, PrimaryTree, ExprTrees, MessageTrees, BodyTree, MethodParts, expr, name, literal, block, paren, no_exprs, exprs, no_messages, messages, no_stmts, stmts, is_super}
+use Rattle.s80_syntax.specs.Word.{is_reserved}
 use Rattle.s80_scope.specs.declared.shape.Binding.{Binding}
 use Rattle.s80_scope.specs.declared.shape.Shape.{Shape}
 use Rattle.s80_scope.specs.Shape.{WhereTree, temp, inst, class_var, outer}
 use Rattle.s80_scope.specs.Names.{means, declares, declarations_of, last_place, reserved_meaning, reserved_meanings}
-use Rattle.s80_scope.specs.Inlined.{ending, is_loop, is_super}
+use Rattle.s80_scope.specs.Inlined.{ending, is_loop}
 use Rattle.s80_scope.specs.FitStack.{expr_parameters, primary_parameters, messages_parameters, exprs_parameters}
 use Rattle.s80_scope.specs.declared.fit.ending.Ending.{Ending}
 use Rattle.s80_scope.specs.declared.fit.ending.Ending.TheVariants.{Sent, Cascaded, TwoArms, OneArm, Shortcut, Loop}
-use Rattle.s80_scope.proofs.Places.{last_place_below}
+use Rattle.s80_scope.proofs.lemmas.Places.{last_place_below}
 use Rattle.s80_core.specs.Core.{CoreTree, CoreTrees, SendTrees, send, no_cores, cores}
 use Rattle.s80_core.specs.Elaborate.{leaf_meant, target_meant, assigned, first_of, second_of, last_core, expr_core, receiver_core, chain_core, sends_core, exprs_core, arms_core, arm_core, body_core, method_end, elaborated}
-use Rattle.s80_core.proofs.CoverEnds.{KeepsAtEnds, statement_kept, last_kept, empty_kept}
+use Rattle.s80_core.proofs.lemmas.CoverEnds.{KeepsAtEnds, statement_kept, last_kept, empty_kept}
 use Rattle.s80_doit.proofs.Fields.{IsBelow, LeafIsBelow, AreBelow, AllBelow, SendsBelow}
 use Rattle.s80_doit.proofs.Targets.{AreFree, ExprIsFree, PrimaryIsFree, ExprsAreFree, MessagesAreFree, BodyIsFree}
 

@@ -8,12 +8,12 @@ use Rattle.s80_code.specs.declared.instruction.Storage.TheVariants.{Temporary}
 use Rattle.s80_code.specs.Entries.{EntryTree}
 use Rattle.s80_code.specs.Table.{Stands}
 use Rattle.s80_code.specs.Spelling.{Written}
-use Rattle.s80_code.proofs.TableLemmas.{value as same_value}
+use Rattle.s80_code.proofs.lemmas.TableLemmas.{value as same_value}
 use Rattle.s80_scope.specs.declared.fit.position.Position.{Position}
 use Rattle.s80_scope.specs.declared.fit.position.Position.TheVariants.{Value, Effect}
 use Rattle.s80_core.specs.Core.{VariableTree, temporary, instance, class_variable, outer, LeafTree, variable, constant, receiver, context, CoreTree, CoreTrees, SendTrees, leaf, assign, value, send, cascade, real_block, two_arms, one_arm, shortcut, repeat, nothing, before, answer, answer_fixed, leave, no_cores, cores, no_sends, sends, count}
 use Rattle.s80_core.specs.Measures.{fixed_number, sent_number}
-use Rattle.s80_agree.specs.Rows.{Holds as HoldsVariable, PushesConstant, Pushes, Stores, send_of, SendsBy, SendsTo, jump_unless, One, Ends, NilFor, JumpsTo, JumpsOver, Takes, shortcut_number, At, AllAt, SendsAt}
+use Rattle.s80_compile.specs.Rows.{Holds as HoldsVariable, PushesConstant, Pushes, Stores, send_of, SendsBy, SendsTo, jump_unless, One, Ends, NilFor, JumpsTo, JumpsOver, Takes, shortcut_number, At, AllAt, SendsAt}
 use Rattle.s80_machine.specs.Sound.{of_receiver, receiver_variable_in}
 use Rattle.s80_doit.proofs.Fields.{IsBelow, LeafIsBelow, AreBelow, AllBelow, SendsBelow}
 use Rattle.s80_doit.proofs.Behind.{HoldsFrom, before_it}

@@ -8,14 +8,14 @@ use Rattle.s80_lex.specs.declared.token.TokenKind.{TokenKind}
 use Rattle.s80_lex.specs.declared.token.TokenKind.TheVariants as kind
 use Rattle.s80_lex.specs.Spelling.{IsToken, IsBinary, IsKeyword, keyword, IsName as IsWordOfName}
 use Rattle.s80_lex.specs.Text.{IsSlice}
-use Rattle.s80_lex.proofs.Slices.{slices}
+use Rattle.s80_lex.proofs.lemmas.Slices.{slices}
 use Rattle.s80_tree.specs.declared.name.NameAt.{NameAt}
 use Rattle.s80_tree.specs.Tree.{MethodParts}
-use Rattle.s80_grammar.specs.Lexeme.{Lexeme, Lexemes, lexemes}
-use Rattle.s80_grammar.specs.Grammar.{IsName, AreKeywords, IsPattern, IsMethod}
+use Rattle.s80_syntax.specs.Lexeme.{Lexeme, Lexemes, lexemes}
+use Rattle.s80_syntax.specs.Grammar.{IsName, AreKeywords, IsPattern, IsMethod}
 use Rattle.s80_syntax.specs.Text.{IsMethodOf}
-use Rattle.s80_verify.specs.Selector.{IsSelectorOf}
-use Rattle.s80_verify.proofs.SelectorLemmas.{Joined}
+use Rattle.s80_lex.specs.Selector.{IsSelectorOf}
+use Rattle.s80_lex.proofs.lemmas.SelectorLemmas.{Joined}
 
 -- ---- tokens as they are spelled
 

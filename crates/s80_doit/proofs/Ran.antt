@@ -3,16 +3,23 @@ use Rattle.std.proofs.Common.{◌≡◌, ℕ, List, Result, Ok, Err, IfOk, refl,
 use Rattle.s80_class.specs.Table.{Table}
 use Rattle.s80_code.specs.declared.code.Code.{Code}
 use Rattle.s80_dict.specs.Table.{MethodsValue}
-use Rattle.s80_object.specs.Objects.{State}
+use Rattle.s80_object.specs.Objects.{State as Objects}
 use Rattle.s80_prims.specs.declared.stop.End.{End}
 use Rattle.s80_prims.specs.declared.stop.End.TheVariants.{Answer, Stopped}
 use Rattle.s80_prims.specs.declared.stop.Outcome.{Outcome}
 use Rattle.s80_apply.specs.Entries.{Entry}
-use Rattle.s80_apply.specs.System.{SystemState}
+use Rattle.s80_apply.specs.State.{State}
+use Rattle.s80_apply.specs.System.{IsSystemOf, SystemState}
 use Rattle.s80_machine.specs.Came.{AnswersKnown, EndIsKnown, RanValue}
 use Rattle.s80_machine.specs.Run.{RunsTo}
-use Rattle.s80_print.specs.Outcome.{HasKnownAnswer}
-use Rattle.s80_doit.specs.DoIt.{IsDoItCode, IsRunOf}
+use Rattle.s80_print.specs.Outcome.{HasKnownAnswer, outcome_text}
+use Rattle.s80_doit.specs.Answer.{EvaluatesTo}
+use Rattle.s80_doit.specs.DoIt.{AreGiven, IsDoItCode, IsRunOf, is_stopped}
+
+-- runs are told as their trees evaluated
+abbrev pub Evaluations : Type 0
+Evaluations = (system : SystemState) (state : State) (text : List ℕ) (budget : ℕ) (ran : RanValue) → AreGiven system → IsSystemOf system state → IsRunOf system text budget ran
+    → EvaluatesTo state text budget (outcome_text system.table ran.outcome) (is_stopped ran.outcome.end)
 
 -- a run among tables that are the system's
 pub is_run : {E : Type 0} (system : SystemState) (t : Table) (methods : MethodsValue Entry) (code : Code) (budget : ℕ) (result : Result RanValue E)
@@ -31,6 +38,12 @@ pub run_of : (system : SystemState) (text : List ℕ) (code : Code) (budget : �
     → (ran : RanValue) × IsRunOf system text budget ran
 run_of system text code budget is (outcome, runs) = (record { outcome = outcome; budget = budget }, record { code = code; code_is = is; runs = runs; budget_is = refl })
 
-pub has_known_answer : (t : Table) (s : State) (end : End) → EndIsKnown t s end → HasKnownAnswer t s end
+pub has_known_answer : (t : Table) (s : Objects) (end : End) → EndIsKnown t s end → HasKnownAnswer t s end
 has_known_answer t s (Answer v) known = known
 has_known_answer t s (Stopped stop) known = tt
+
+-- a run's evaluation, told
+pub run_evaluates : Evaluations → {E : Type 0} (system : SystemState) (code : Code) (budget : ℕ) (result : Result RanValue E) → AreGiven system → IfOk result (λ ran. (text : List ℕ) → IsDoItCode text code → IsRunOf system text budget ran)
+    → IfOk result (λ ran. (state : State) (text : List ℕ) → IsSystemOf system state → IsDoItCode text code → EvaluatesTo state text budget (outcome_text system.table ran.outcome) (is_stopped ran.outcome.end))
+run_evaluates evaluations system code budget (Ok ran) given run = λ state text is_of is. evaluations system state text budget ran given is_of (run text is)
+run_evaluates evaluations system code budget (Err e) given run = tt

@@ -7,15 +7,15 @@ use Rattle.s80_kernel.specs.Rows.{is_kernel_class, kernel_rows}
 use Rattle.s80_tree.specs.Tree.{DoItParts}
 use Rattle.s80_syntax.specs.Text.{IsDoItOf}
 use Rattle.s80_code.specs.declared.code.Code.{Code}
-use Rattle.s80_agree.specs.Compiles.{Compiles}
+use Rattle.s80_compile.specs.Compiles.{Compiles}
 use Rattle.s80_change.specs.Check.{IsCheckOf, as_method, size_refusal}
 use Rattle.s80_change.specs.declared.source_check.SourceCheck.TheVariants as checks
 use Rattle.s80_class.specs.Classes.{Name, ClassRow, Classes, inherited_of, is_bits}
 use Rattle.s80_class.specs.Known.{IsKnown}
-use Rattle.s80_class.specs.Table.{Table, IsClass, IsNumberOf}
-use Rattle.s80_class.proofs.Most.{some_row}
+use Rattle.s80_class.specs.Table.{Table, IsClass, IsNumberOf, class_name}
+use Rattle.s80_class.proofs.lemmas.Most.{some_row}
 use Rattle.s80_dict.specs.Table.{MethodsValue}
-use Rattle.s80_prims.specs.Classes.{class_name, kind_of_class, variables_of}
+use Rattle.s80_prims.specs.Classes.{kind_of_class, variables_of}
 use Rattle.s80_prims.specs.Kept.{HasNumbers}
 use Rattle.s80_prims.specs.Known.{HasKernel}
 use Rattle.s80_method.specs.Code.{IsMethodCode}
@@ -83,14 +83,14 @@ pub record Laws : Type 0 where
 
 -- ---- the classes of the kernel
 
-kernel_row : (word : Name) → is_kernel_class word ≡ true → (row : ClassRow) × (map.get kernel_classes word ≡ Some row)
+pub kernel_row : (word : Name) → is_kernel_class word ≡ true → (row : ClassRow) × (map.get kernel_classes word ≡ Some row)
 unfolding is_kernel_class kernel_classes
 kernel_row word is = some_row kernel_classes word (built_has kernel_rows word ∙ is)
 
 -- ---- classes of a list
 
 module _ (t : Table) (changes : List Change) (of : t.classes ≡ classes_of changes) where
-  there : KernelLasts → (word : Name) → is_kernel_class word ≡ true → (row : ClassRow) × (map.get t.classes word ≡ Some row)
+  pub there : KernelLasts → (word : Name) → is_kernel_class word ≡ true → (row : ClassRow) × (map.get t.classes word ≡ Some row)
   there lasts word is = let row = kernel_row word is in (row.0, ap (λ classes. map.get classes word) of ∙ lasts changes word row.0 row.1)
 
   has_kernel : KernelLasts → HasKernel t

@@ -14,25 +14,24 @@ use Rattle.s80_scope.specs.declared.shape.Shape.{Shape}
 use Rattle.s80_scope.specs.Fit.{fit, measures, cut_measures}
 use Rattle.s80_scope.specs.Names.{AreInOrder, uses_of}
 use Rattle.s80_scope.specs.Walk.{cut}
-use Rattle.s80_scope.proofs.Apart.{method_in_order, doit_in_order}
+use Rattle.s80_scope.proofs.lemmas.Apart.{method_in_order, doit_in_order}
 use Rattle.s80_code.specs.declared.code.Code.{Code}
 use Rattle.s80_code.specs.Entries.{entries_of}
 use Rattle.s80_core.specs.Elaborate.{elaborated}
-use Rattle.s80_core.proofs.FitAll.{fits_small, core_fits}
+use Rattle.s80_core.proofs.lemmas.FitAll.{fits_small, core_fits}
 use Rattle.s80_scope.specs.declared.fit.position.Position.TheVariants.{Effect}
-use Rattle.s80_agree.specs.Compiles.{Compiles}
-use Rattle.s80_agree.specs.Sent.{AreWellSent}
-use Rattle.s80_agree.proofs.Related.{related}
-use Rattle.s80_agree.proofs.SentArms.{arms_had}
-use Rattle.s80_agree.proofs.SentCore.{core_sent}
-use Rattle.s80_agree.proofs.SentTrees.{method_sent, doit_sent}
+use Rattle.s80_compile.specs.Compiles.{Compiles}
+use Rattle.s80_compile.specs.Sent.{AreWellSent}
+use Rattle.s80_compile.proofs.Related.{related}
+use Rattle.s80_compile.proofs.SentArms.{arms_had}
+use Rattle.s80_compile.proofs.lemmas.SentCore.{core_sent}
+use Rattle.s80_compile.proofs.SentTrees.{method_sent, doit_sent}
 use Rattle.s80_verify.specs.Record.{HasDepths}
-use Rattle.s80_verify.specs.Selector.{IsSelectorOf}
+use Rattle.s80_lex.specs.Selector.{IsSelectorOf}
 use Rattle.s80_change.specs.Check.{IsCheckOf, as_method, size_refusal, too_large}
 use Rattle.s80_change.specs.declared.source_check.SourceCheck.TheVariants.{Fits}
 use Rattle.s80_class.specs.Classes.{Name, Classes, inherited_of}
-use Rattle.s80_class.specs.Table.{Table, IsNumberOf}
-use Rattle.s80_prims.specs.Classes.{class_name}
+use Rattle.s80_class.specs.Table.{Table, IsNumberOf, class_name}
 use Rattle.s80_method.specs.Code.{IsMethodCode}
 use Rattle.s80_method.specs.Shape.{shape_of}
 use Rattle.s80_method.proofs.Fitting.{tree_fits}

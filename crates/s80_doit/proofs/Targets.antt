@@ -3,10 +3,10 @@ use Rattle.std.proofs.Common.{◌≡◌, ℕ, suc, List, [], ◌∷◌, Bool, tr
 use Rattle.std.specs.Cmp.Lexicographic.{bytes_decides}
 use Rattle.s80_tree.specs.declared.name.NameAt.{NameAt}
 use Rattle.s80_tree.specs.Tree.{ExprTree, PrimaryTree, ExprTrees, MessageTrees, BodyTree, MethodParts, DoItParts, expr, name, literal, block, paren, no_exprs, exprs, no_messages, messages, no_stmts, stmts}
-use Rattle.s80_grammar.specs.Lexeme.{Lexemes, lexemes}
-use Rattle.s80_grammar.specs.Word.{Names, names_in, has_name, is_reserved}
-use Rattle.s80_grammar.specs.Grammar.{AreParameters, IsNone, IsEmpty, IsExpr, IsPrimary, IsOperand, IsChain, IsMessage, AreParts, IsCascade, IsBody, IsMethod, IsDoIt}
-use Rattle.s80_grammar.specs.Limits.{home_assigns, block_assigns, AreAssignable, IsLawfulExpr, IsLawfulPrimary, AreLawfulExprs, AreLawfulMessages, IsLawfulBody, IsLawfulMethod, IsLawfulDoIt}
+use Rattle.s80_syntax.specs.Lexeme.{Lexemes, lexemes}
+use Rattle.s80_syntax.specs.Word.{Names, names_in, has_name, is_reserved}
+use Rattle.s80_syntax.specs.Grammar.{AreParameters, IsNone, IsEmpty, IsExpr, IsPrimary, IsOperand, IsChain, IsMessage, AreParts, IsCascade, IsBody, IsMethod, IsDoIt}
+use Rattle.s80_syntax.specs.Limits.{home_assigns, block_assigns, AreAssignable, IsLawfulExpr, IsLawfulPrimary, AreLawfulExprs, AreLawfulMessages, IsLawfulBody, IsLawfulMethod, IsLawfulDoIt}
 use Rattle.s80_syntax.specs.Text.{IsMethodOf, IsDoItOf}
 
 abbrev pub AreFree : List NameAt → Type 0

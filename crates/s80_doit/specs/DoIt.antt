@@ -4,7 +4,7 @@ use Rattle.s80_base.specs.declared.names.Side.TheVariants.{Instance}
 use Rattle.s80_tree.specs.Tree.{DoItParts}
 use Rattle.s80_syntax.specs.Text.{IsDoItOf}
 use Rattle.s80_code.specs.declared.code.Code.{Code}
-use Rattle.s80_agree.specs.Compiles.{Compiles}
+use Rattle.s80_compile.specs.Compiles.{Compiles}
 use Rattle.s80_change.specs.Check.{as_method, size_refusal}
 use Rattle.s80_class.specs.Known.{IsKnown}
 use Rattle.s80_apply.specs.Codes.{AreCodes}

@@ -1,1 +1,2 @@
 pub mod DoIt
+pub mod Answer

@@ -5,13 +5,12 @@ ghost use Rattle.s80_syntax.specs.Text.{IsDoItOf};
 ghost use Rattle.s80_scope.specs.Fit.{fit, measures};
 ghost use Rattle.s80_scope.specs.Names.{AreInOrder, uses_of};
 ghost use Rattle.s80_scope.specs.declared.fit.Fit.TheVariants.{Fits as TreeFits};
-ghost use Rattle.s80_agree.specs.Sent.{AreWellSent};
+ghost use Rattle.s80_compile.specs.Sent.{AreWellSent};
 ghost use Rattle.s80_change.specs.Check.{as_method, size_refusal};
 ghost use Rattle.s80_doit.specs.DoIt.{Fits, IsDoItCode};
 
-use s80_agree::trees_are_well_sent;
 use s80_base::{OutOfMemory, Text};
-use s80_compile::compile_doit;
+use s80_compile::{compile_doit, trees_are_well_sent};
 use s80_scope::{doit_method, places_of_uses_rise};
 use s80_syntax::{DoItTree, ParseFault, no_fault_beside_a_tree, parse_doit};
 use s80_verify::Verified;

@@ -1,12 +1,16 @@
 // The runs of doIts among the classes and their methods.
-ghost use Rattle.std.specs.Prelude.{◌≡◌, ◌≤◌, ℕ, List, length, IfOk};
+ghost use Rattle.std.specs.Prelude.{◌≡◌, ◌≤◌, ℕ, Bool, List, length, IfOk};
 ghost use Rattle.s80_code.specs.declared.code.Code.{Code};
 ghost use Rattle.s80_machine.specs.Came.{AnswersKnown, RanValue};
 ghost use Rattle.s80_machine.specs.Sound.{IsSetting};
 ghost use Rattle.s80_print.specs.Outcome.{outcome_text};
 ghost use Rattle.s80_prims.specs.Known.{HasKernel};
+ghost use Rattle.s80_apply.specs.State.{State};
+ghost use Rattle.s80_apply.specs.System.{IsSystemOf};
+ghost use Rattle.s80_doit.specs.Answer.{EvaluatesTo};
 ghost use Rattle.s80_doit.specs.DoIt.{AreGiven, Fits, IsDoItCode, IsRunOf, is_stopped};
 
+use crate::answers::runs_are_evaluations;
 use crate::code::doit_code;
 use crate::suits::{doit_code_suits, method_code_suits};
 use s80_apply::{
@@ -14,7 +18,8 @@ use s80_apply::{
     kernel_classes_have_their_variables, kernel_classes_last,
 };
 use s80_base::{OutOfMemory, Text};
-use s80_machine::{Ran, a_run_ends, run};
+use s80_machine::{Ran, a_run_ends};
+use s80_meaning::run;
 use s80_method::shapes_have_as_many_variables;
 use s80_prims::End;
 use s80_print::outcome_text;
@@ -22,20 +27,24 @@ use s80_verify::Verified;
 use std::alloc::Global;
 
 /// The code of a doIt's text: this fails only when out of memory. Among these classes and methods it comes to an end under every
-/// budget.
+/// budget, and so does its tree.
 pub fn compile(alloc: Global, system: &System, text: &Text) -> Result<Verified, OutOfMemory>
     requires short { length text.now ≤ 65535 }
     requires fits { Fits text.now }
     ensures code { IfOk result (IsDoItCode text.now) }
     ensures given { AreGiven system.now }
     ensures ends { IfOk result (λ _. (budget : ℕ) → (ran : RanValue) × IsRunOf system.now text.now budget ran) }
+    ensures evaluates { IfOk result (λ _. (state : State) (budget : ℕ) → IsSystemOf system.now state
+        → (told : List ℕ) × (stopped : Bool) × EvaluatesTo state text.now budget told stopped) }
 {
     a_run_ends();
+    runs_are_evaluations();
     doits_are_given(system);
     doit_code(alloc, text)
 }
 
-/// Runs the code of a doIt among the classes and their methods, for at most so many ticks (Blue Book, part four).
+/// Runs the code of a doIt among the classes and their methods, for at most so many ticks (Blue Book, part four). What it comes to is what
+/// the doIt's tree is evaluated to.
 pub fn evaluate(
     alloc: Global,
     system: &System,
@@ -44,9 +53,12 @@ pub fn evaluate(
 ) -> Result<Ran, OutOfMemory>
     requires { (text : List ℕ) × IsDoItCode text code.now }
     ensures run { IfOk result (λ ran. (text : List ℕ) → IsDoItCode text code.now → IsRunOf system.now text budget ran) }
+    ensures evaluates { IfOk result (λ ran. (state : State) (text : List ℕ) → IsSystemOf system.now state → IsDoItCode text code.now
+        → EvaluatesTo state text budget (outcome_text system.now.table ran.outcome) (is_stopped ran.outcome.end)) }
     ensures given { AreGiven system.now }
     ensures known { IfOk result (λ ran. AnswersKnown system.now.table ran.outcome) }
 {
+    runs_are_evaluations();
     doits_are_given(system);
     run(alloc, system.classes(), system.methods(), code, budget)
 }

@@ -5,7 +5,7 @@ ghost use Rattle.s80_base.specs.declared.names.Side.TheVariants.{Instance};
 ghost use Rattle.s80_tree.specs.Tree.{DoItParts};
 ghost use Rattle.s80_syntax.specs.Text.{IsDoItOf};
 ghost use Rattle.s80_code.specs.declared.code.Code.{Code};
-ghost use Rattle.s80_agree.specs.Compiles.{Compiles};
+ghost use Rattle.s80_compile.specs.Compiles.{Compiles};
 ghost use Rattle.s80_change.specs.Check.{IsCheckOf, as_method, size_refusal};
 ghost use Rattle.s80_change.specs.declared.source_check.SourceCheck.TheVariants.{Fits};
 ghost use Rattle.s80_class.specs.Classes.{Name};

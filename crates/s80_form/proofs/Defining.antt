@@ -1,36 +1,36 @@
 -- The text of a definition is a doIt whose tree is its form.
-use Rattle.std.proofs.Common.{◌≡◌, ℕ, ◌+◌, ◌-◌, inl, inr, List, [], ◌∷◌, ◌++◌, Bool, true, false, codes, cond, not, ◌&&◌, ◌==◌, length, refl, ap, sym, ◌∙◌, subst, arith, length-append}
-use Rattle.std.specs.List.{flat_map}
-use Rattle.std.proofs.lemmas.Bool.{eqb-true, not-true, and_parts}
-use Rattle.std.proofs.lemmas.List.{take_at}
-use Rattle.s80_base.specs.Literal.{LiteralTree, symbol, str}
-use Rattle.s80_lex.specs.declared.token.TokenKind.{TokenKind}
+use Rattle.std.proofs.Common.{◌≡◌, ℕ, inr, List, [], ◌∷◌, ◌++◌, codes, not, refl, ap, sym, ◌∙◌, arith}
+use Rattle.std.proofs.lemmas.Bool.{not-true, and_parts}
+use Rattle.s80_base.specs.Literal.{symbol, str}
+use Rattle.s80_base.specs.declared.names.Side.TheVariants.{Instance}
 use Rattle.s80_lex.specs.declared.token.TokenKind.TheVariants as kind
-use Rattle.s80_lex.specs.Spelling.{quoted, doubled, keyword, NotNext}
+use Rattle.s80_lex.specs.Spelling.{quoted, NotNext}
 use Rattle.s80_lex.specs.Text.{IsLongest}
 use Rattle.s80_tree.specs.Tree.{DoItParts, ExprTrees, no_exprs, exprs}
-use Rattle.s80_grammar.specs.Lexeme.{Lexeme, Lexemes}
-use Rattle.s80_grammar.specs.Literals.{IsLiteralKind, token_literal, unquoted, between_ends}
-use Rattle.s80_grammar.specs.Grammar.{IsOperand, AreParts, IsDoIt}
-use Rattle.s80_grammar.specs.Word.{is_reserved}
+use Rattle.s80_syntax.specs.Lexeme.{Lexemes}
+use Rattle.s80_syntax.specs.Grammar.{AreParts, IsDoIt}
+use Rattle.s80_syntax.specs.Word.{is_reserved}
 use Rattle.s80_form.specs.declared.definition.Kind.{Kind}
 use Rattle.s80_form.specs.declared.definition.Kind.TheVariants.{Plain, Pointers, Bytes, Words}
 use Rattle.s80_form.specs.declared.definition.Definition.{Definition}
-use Rattle.s80_form.specs.Name.{is_identifier}
-use Rattle.s80_form.specs.Definition.{definition_text, defining_word, defining_selector, argument, sends, joined, IsLawfulDefinition, IsDefinitionOf}
-use Rattle.s80_form.specs.Read.{line, lines}
-use Rattle.s80_form.proofs.Cuts.{spread}
+use Rattle.s80_lex.specs.Selector.{is_name as is_identifier}
+use Rattle.s80_lex.proofs.lemmas.SelectorLemmas.{name_is}
+use Rattle.s80_form.specs.TreeParts.{argument, alone, all_sent, to_side}
+use Rattle.s80_form.specs.Definition.{definition_text, defining_word, defining_selector, are_arguments, joined, IsLawfulDefinition, IsDefinitionOf}
+use Rattle.s80_form.specs.Read.{lines}
+use Rattle.s80_form.proofs.lemmas.Cuts.{spread}
 use Rattle.s80_form.proofs.Splits.{identifier_of, joined_split}
 use Rattle.s80_form.proofs.Longest.{name_longest, keyword_longest, symbol_longest}
-use Rattle.s80_form.proofs.Building.{Spells, Begun, named, words_spell, start, separated, tokened, lined, ended}
-use Rattle.s80_form.proofs.Building as building
+use Rattle.s80_form.proofs.lemmas.Building.{Spells, Begun, words_spell, start, separated, tokened, lined, ended}
+use Rattle.s80_form.proofs.lemmas.Building as building
+use Rattle.s80_form.proofs.lemmas.Operands.{str_is, operand}
 
 -- the keyword that tells the kind
 kind_longest : (k : Kind) (rest : List ℕ) → NotNext 61 rest → IsLongest kind.Keyword (defining_word k) rest
-kind_longest Plain rest e = keyword_longest (codes "subclass") rest (named (codes "subclass") refl) e
-kind_longest Pointers rest e = keyword_longest (codes "variableSubclass") rest (named (codes "variableSubclass") refl) e
-kind_longest Bytes rest e = keyword_longest (codes "variableByteSubclass") rest (named (codes "variableByteSubclass") refl) e
-kind_longest Words rest e = keyword_longest (codes "variableWordSubclass") rest (named (codes "variableWordSubclass") refl) e
+kind_longest Plain rest e = keyword_longest (codes "subclass") rest (name_is (codes "subclass") refl) e
+kind_longest Pointers rest e = keyword_longest (codes "variableSubclass") rest (name_is (codes "variableSubclass") refl) e
+kind_longest Bytes rest e = keyword_longest (codes "variableByteSubclass") rest (name_is (codes "variableByteSubclass") refl) e
+kind_longest Words rest e = keyword_longest (codes "variableWordSubclass") rest (name_is (codes "variableWordSubclass") refl) e
 
 -- the words of a definition, from each line on
 abbrev keyword_string : List ℕ → List ℕ → building.Words → building.Words
@@ -53,44 +53,15 @@ words_of d =
 begun : (d : Definition) → IsLawfulDefinition d → Begun (definition_text d) (words_of d) []
 begun d h =
     let t : List ℕ = definition_text d in
-    let one = tokened t [] kind.Name d.superclass _ (λ i. cc) (name_longest d.superclass 32 _ (named d.superclass (identifier_of d.superclass h.superclass)) (record { passes = refl; colon = refl })) (start t _ (spread d)) in
+    let one = tokened t [] kind.Name d.superclass _ (λ i. cc) (name_longest d.superclass 32 _ (name_is d.superclass (identifier_of d.superclass h.superclass)) (record { passes = refl; colon = refl })) (start t _ (spread d)) in
     let two = separated t _ 32 _ refl one in
     let three = tokened t _ kind.Keyword (defining_word d.kind) _ (λ i. cc) (kind_longest d.kind _ refl) two in
     let four = separated t _ 32 _ refl three in
-    let five = tokened t _ kind.Symbol (35 ∷ d.class_name) (lines d) (λ i. cc) (symbol_longest d.class_name 10 _ (named d.class_name (identifier_of d.class_name h.class_name)) (record { passes = refl; colon = refl })) four in
-    let six = lined t _ (codes "instanceVariableNames") (joined d.inst_vars) _ (named (codes "instanceVariableNames") refl) refl five in
-    let seven = lined t _ (codes "classVariableNames") (joined d.class_vars) _ (named (codes "classVariableNames") refl) refl six in
-    let eight = lined t _ (codes "poolDictionaries") (joined d.pools) _ (named (codes "poolDictionaries") refl) refl seven in
-    lined t _ (codes "category") d.category [] (named (codes "category") refl) refl eight
-
--- a string, from its token
-unquoted_other : (b : ℕ) (bytes : List ℕ) → (b == 39) ≡ false → unquoted (b ∷ bytes) ≡ b ∷ unquoted bytes
-unquoted_other b [] e = refl
-unquoted_other b (c ∷ bytes) e = ap (λ t. cond (t && (c == 39)) (39 ∷ unquoted bytes) (b ∷ unquoted (c ∷ bytes))) e
-
-unquoted_byte : (t : Bool) (b : ℕ) (text : List ℕ) → (b == 39) ≡ t → unquoted (flat_map (doubled 39) text) ≡ text → unquoted (flat_map (doubled 39) (b ∷ text)) ≡ b ∷ text
-unquoted_byte true b text e h =
-    let quote : b ≡ 39 = eqb-true b 39 e in
-    ap (λ (x : ℕ). unquoted (flat_map (doubled 39) (x ∷ text))) quote ∙ ap (λ l. 39 ∷ l) h ∙ ap (λ (x : ℕ). x ∷ text) (sym quote)
-unquoted_byte false b text e h =
-    ap (λ l. unquoted (l ++ flat_map (doubled 39) text)) (ap (λ t. cond t (39 ∷ 39 ∷ []) (b ∷ [])) e) ∙ unquoted_other b (flat_map (doubled 39) text) e ∙ ap (λ l. b ∷ l) h
-
-unquoted_is : (text : List ℕ) → unquoted (flat_map (doubled 39) text) ≡ text
-unquoted_is [] = refl
-unquoted_is (b ∷ text) = unquoted_byte (b == 39) b text refl (unquoted_is text)
-
-between_is : (text : List ℕ) → between_ends (quoted 39 text) ≡ flat_map (doubled 39) text
-between_is text =
-    let inner : List ℕ = flat_map (doubled 39) text in
-    take_at inner (39 ∷ []) (length (quoted 39 text) - 2) (omega (arith, length-append inner (39 ∷ [])))
-
-str_is : (text : List ℕ) → str text ≡ token_literal kind.Str (quoted 39 text)
-str_is text = ap str (sym (ap unquoted (between_is text) ∙ unquoted_is text))
-
--- an argument, from its token
-operand : (v : LiteralTree) (k : TokenKind) (w : List ℕ) (l : Lexeme) (ls rest : Lexemes) → ls ≡ l ∷ rest → l.kind ≡ k → l.bytes ≡ w → IsLiteralKind k → v ≡ token_literal k w → IsOperand (argument v) 1 ls rest
-operand v k w l ls rest e i b lit is =
-    (rest, refl, tt, inl (l, e, subst IsLiteralKind (sym i) lit, is ∙ ap (token_literal k) (sym b) ∙ ap (λ j. token_literal j l.bytes) (sym i)), refl)
+    let five = tokened t _ kind.Symbol (35 ∷ d.class_name) (lines d) (λ i. cc) (symbol_longest d.class_name 10 _ (name_is d.class_name (identifier_of d.class_name h.class_name)) (record { passes = refl; colon = refl })) four in
+    let six = lined t _ (codes "instanceVariableNames") (joined d.inst_vars) _ (name_is (codes "instanceVariableNames") refl) refl five in
+    let seven = lined t _ (codes "classVariableNames") (joined d.class_vars) _ (name_is (codes "classVariableNames") refl) refl six in
+    let eight = lined t _ (codes "poolDictionaries") (joined d.pools) _ (name_is (codes "poolDictionaries") refl) refl seven in
+    lined t _ (codes "category") d.category [] (name_is (codes "category") refl) refl eight
 
 -- a further keyword, with its string
 part : (es : ExprTrees) (word selector more string : List ℕ) (ls : Lexemes) (ws : building.Words) → selector ≡ word ++ more → (h : Spells ls ((kind.Keyword, word) ∷ (kind.Str, quoted 39 string) ∷ ws)) → AreParts es more h.5.1 [] → AreParts (exprs (argument (str string)) es) selector ls []
@@ -98,8 +69,7 @@ part es word selector more string ls ws e h rest =
     (h.0, h.1, h.5.1, more, (h.2, h.3), e ∙ ap (λ l. l ++ more) (sym h.4), operand (str string) kind.Str (quoted 39 string) h.5.0 h.1 h.5.1 h.5.2 h.5.3 h.5.4 tt (str_is string), rest)
 
 abbrev tree_of : Definition → ℕ → DoItParts
-tree_of d at = sends (record { name = d.superclass; at = at }) (defining_selector d.kind)
-    (symbol d.class_name ∷ str (joined d.inst_vars) ∷ str (joined d.class_vars) ∷ str (joined d.pools) ∷ str d.category ∷ [])
+tree_of d at = alone (all_sent (record { name = d.superclass; at = at }, to_side (Instance, (defining_selector d.kind, are_arguments (d.class_name, joined d.inst_vars, joined d.class_vars, joined d.pools, d.category)))))
 
 is_doit : (d : Definition) (ls : Lexemes) → (s : Spells ls (words_of d)) → IsDoIt (tree_of d s.0.at) ls
 is_doit d ls s =
@@ -134,10 +104,10 @@ text_defines d lawful =
         inst_vars = joined d.inst_vars;
         class_vars = joined d.class_vars;
         pools = joined d.pools;
-        tree_is = refl;
-        receiver = not-true (is_reserved d.superclass) (and_parts (is_identifier d.superclass) (not (is_reserved d.superclass)) lawful.superclass).1;
+        sending = record { tree_is = refl; receiver = not-true (is_reserved d.superclass) (and_parts (is_identifier d.superclass) (not (is_reserved d.superclass)) lawful.superclass).1 };
         inst_vars_are = sym (joined_split d.inst_vars lawful.inst_vars);
         class_vars_are = sym (joined_split d.class_vars lawful.class_vars);
         pools_are = sym (joined_split d.pools lawful.pools);
+        brief = lawful.brief;
       };
     }

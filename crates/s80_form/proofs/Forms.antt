@@ -1,18 +1,24 @@
 -- What is found of a definition, and what is not.
 use Rattle.std.proofs.Common.{◌≡◌, ℕ, ◌-◌, List, [], ◌∷◌, ◌++◌, Bool, true, false, Option, Some, None, codes, take, drop, length, refl, ap, sym, ◌∙◌, subst, arith, length-append, take-append-drop, eqb, cond}
+use Rattle.std.specs.Prelude.{◌↔◌, IsTrue}
 use Rattle.std.specs.List.{slice_split}
 use Rattle.std.specs.List as slice
 use Rattle.std.specs.Cmp.Lexicographic.{pointwise, same_text}
-use Rattle.s80_lex.proofs.Fronts.{split_same}
+use Rattle.std.proofs.lemmas.Bool.{false≢true}
+use Rattle.s80_lex.proofs.lemmas.Fronts.{split_same}
 use Rattle.s80_tree.specs.declared.name.NameAt.{NameAt}
-use Rattle.s80_tree.specs.Tree.{ExprTree, ExprTrees, MessageTree, DoItParts}
-use Rattle.s80_grammar.specs.Word.{is_reserved}
-use Rattle.s80_chunk.specs.Chunks.{is_separator}
+use Rattle.s80_tree.specs.Tree.{ExprTrees, MessageTree, DoItParts}
+use Rattle.s80_base.specs.Byte.{is_separator}
+use Rattle.s80_base.specs.declared.names.Side.{Side}
 use Rattle.s80_form.specs.declared.definition.Kind.{Kind}
 use Rattle.s80_form.specs.declared.definition.Definition.{Definition}
 use Rattle.s80_form.specs.declared.form.Form.{Form}
-use Rattle.s80_form.specs.Definition.{pieces, onto_first, split_names, defining_word, defining_selector, IsFormOf, IsNoForm}
-use Rattle.s80_form.specs.Form.{Finds, alone, sent, are_arguments, texts_of, ShowsForm}
+use Rattle.s80_form.specs.Name.{IsBrief, AreBrief}
+use Rattle.s80_form.specs.TreeParts.{Finds, IsSending}
+use Rattle.s80_form.specs.Definition.{pieces, onto_first, split_names, defining_word, defining_selector, are_arguments, IsBriefDefinition, IsFormOf, IsNoForm}
+use Rattle.s80_form.specs.Form.{texts_of, ShowsForm}
+use Rattle.s80_form.proofs.lemmas.OneForm.{parts_same}
+use Rattle.s80_form.proofs.lemmas.Sendings.{sending_same}
 
 -- the kind that a selector tells, by its front
 pub kind_from : (r : Option Kind) (selector tail word : List ℕ) → pointwise eqb (drop (length selector - length tail) selector) tail ≡ true → word ≡ take (length selector - length tail) selector
@@ -36,33 +42,46 @@ kind_from r selector tail word e w t h = by_kind r h
     by_kind None none = λ k i. none k (front k i)
 
 -- where a tree is no form
-pub no_expression : (tree : DoItParts) (r : Option Form) → ((e : ExprTree) → tree ≡ alone e → ⊥) → r ≡ None → ShowsForm tree r
-no_expression tree r none e = subst (ShowsForm tree) (sym e) (λ d h. none _ h.tree_is)
+pub no_sending : (tree : DoItParts) → ((p : NameAt × Side × MessageTree) → IsSending tree p → ⊥) → IsNoForm tree
+no_sending tree none = λ d h. none _ h.sending
 
-pub no_message : (tree : DoItParts) (e : ExprTree) (r : Option Form) → tree ≡ alone e → ((p : NameAt × MessageTree) → e ≡ sent p → ⊥) → r ≡ None → ShowsForm tree r
-no_message tree e r is none i = subst (ShowsForm tree) (sym i) (λ d h.
-    let s = ap (λ (t : DoItParts). t.body) (sym is ∙ h.tree_is) in
-    none (record { name = d.superclass; at = h.at }, (defining_selector d.kind, are_arguments (d.class_name, h.inst_vars, h.class_vars, h.pools, d.category))) (cc))
+pub no_arguments : (tree : DoItParts) (n : NameAt) (s : Side) (m : MessageTree) (selector : List ℕ) (es : ExprTrees) → IsSending tree (n, s, m) → m ≡ (selector, es) → ((t : List ℕ × List ℕ × List ℕ × List ℕ × List ℕ) → es ≡ are_arguments t → ⊥) → IsNoForm tree
+no_arguments tree n s m selector es is open_m none = λ d h.
+    none (d.class_name, h.inst_vars, h.class_vars, h.pools, d.category)
+    (sym (ap (λ (x : MessageTree). x.1) open_m) ∙ ap (λ (p : NameAt × Side × MessageTree). p.2.1) (sending_same tree (n, s, m) _ is h.sending))
 
-pub no_arguments : (tree : DoItParts) (e : ExprTree) (n : NameAt) (m : MessageTree) (selector : List ℕ) (es : ExprTrees) (r : Option Form) → tree ≡ alone e → e ≡ sent (n, m) → m ≡ (selector, es) → ((t : List ℕ × List ℕ × List ℕ × List ℕ × List ℕ) → es ≡ are_arguments t → ⊥) → r ≡ None → ShowsForm tree r
-no_arguments tree e n m selector es r is sends open_m none i = subst (ShowsForm tree) (sym i) (λ d h.
-    let s = ap (λ (t : DoItParts). t.body) (ap alone (sym sends) ∙ sym is ∙ h.tree_is) in
-    none (d.class_name, h.inst_vars, h.class_vars, h.pools, d.category) (cc))
+pub none_shown : (tree : DoItParts) (r : Option Form) → r ≡ None → IsNoForm tree → ShowsForm tree r
+none_shown tree r e none = subst (ShowsForm tree) (sym e) none
 
 -- the definition of a form
 pub form_of : (tree : DoItParts) (f : Form) (d : Definition) → ShowsForm tree (Some f) → d.superclass ≡ f.receiver.now.name → d.kind ≡ f.kind → d.class_name ≡ f.arguments.class_name.now → d.category ≡ f.arguments.category.now
-    → d.inst_vars ≡ split_names f.arguments.inst_vars.now → d.class_vars ≡ split_names f.arguments.class_vars.now → d.pools ≡ split_names f.arguments.pools.now → IsFormOf tree d
-form_of tree f d s superclass kind class_name category inst_vars class_vars pools = record {
+    → d.inst_vars ≡ split_names f.arguments.inst_vars.now → d.class_vars ≡ split_names f.arguments.class_vars.now → d.pools ≡ split_names f.arguments.pools.now → IsBriefDefinition d → IsFormOf tree d
+form_of tree f d s superclass kind class_name category inst_vars class_vars pools brief = record {
   at = f.receiver.now.at;
   inst_vars = f.arguments.inst_vars.now;
   class_vars = f.arguments.class_vars.now;
   pools = f.arguments.pools.now;
-  tree_is = rw (superclass, kind, class_name, category) s.0;
-  receiver = ap is_reserved superclass ∙ s.1;
+  sending = rw (superclass, kind, class_name, category) s;
   inst_vars_are = inst_vars;
   class_vars_are = class_vars;
   pools_are = pools;
+  brief = brief;
 }
+
+-- where that isn't brief, the tree is the form of none: each definition whose form it is has the same names and category
+pub not_brief : (tree : DoItParts) (d : Definition) (f : Form) (b : Bool) → (IsTrue b ↔ IsBriefDefinition d) → b ≡ false → ShowsForm tree (Some f) → d.superclass ≡ f.receiver.now.name → d.class_name ≡ f.arguments.class_name.now → d.category ≡ f.arguments.category.now
+    → d.inst_vars ≡ split_names f.arguments.inst_vars.now → d.class_vars ≡ split_names f.arguments.class_vars.now → d.pools ≡ split_names f.arguments.pools.now → IsNoForm tree
+not_brief tree d f b is long s superclass class_name category inst_vars class_vars pools = λ e h.
+    let same = parts_same tree f.receiver.now (record { name = e.superclass; at = h.at }) f.kind e.kind (texts_of f.arguments) (e.class_name, h.inst_vars, h.class_vars, h.pools, e.category) s h.sending in
+    let brief : IsBriefDefinition d = record {
+      superclass = subst IsBrief (sym (superclass ∙ same.superclass_is)) h.brief.superclass;
+      class_name = subst IsBrief (sym (class_name ∙ same.class_name)) h.brief.class_name;
+      inst_vars = subst AreBrief (sym (inst_vars ∙ ap split_names same.inst_vars ∙ sym h.inst_vars_are)) h.brief.inst_vars;
+      class_vars = subst AreBrief (sym (class_vars ∙ ap split_names same.class_vars ∙ sym h.class_vars_are)) h.brief.class_vars;
+      pools = subst AreBrief (sym (pools ∙ ap split_names same.pools ∙ sym h.pools_are)) h.brief.pools;
+      category = subst IsBrief (sym (category ∙ same.category)) h.brief.category;
+    } in
+    false≢true (sym long ∙ is.1 brief)
 
 -- the pieces of a string, in the words of std
 onto_same : (b : ℕ) (parts : List (List ℕ)) → slice.onto_first b parts ≡ onto_first b parts

@@ -1,9 +1,8 @@
+pub mod lemmas
 pub mod Splits
 pub mod Spelled
 pub mod Trees
 pub mod Forms
-pub mod Cuts
 pub mod Reading
 pub mod Longest
-pub mod Building
 pub mod Defining

@@ -8,13 +8,13 @@ use Rattle.s80_lex.specs.declared.token.TokenKind.TheVariants as kind
 use Rattle.s80_lex.specs.Spelling.{IsName, IsQuoted, keyword, quoted, begins_with, NotNext}
 use Rattle.s80_lex.specs.Text.{IsLongest}
 use Rattle.s80_lex.specs.Front.{first_class, Takes, ends_keyword}
-use Rattle.s80_lex.proofs.Fronts.{most_from}
+use Rattle.s80_lex.proofs.lemmas.Fronts.{most_from}
 use Rattle.s80_lex.proofs.Keywords.{no_keywords}
-use Rattle.s80_lex.proofs.Quotes.{one_quoted}
-use Rattle.s80_lex.proofs.Runs.{run_ends}
-use Rattle.s80_lex.proofs.Selectors.{name_selects}
-use Rattle.s80_lex.proofs.Signs.{symbol_takes}
-use Rattle.s80_lex.proofs.Taken.{name_takes, keyword_takes, string_takes}
+use Rattle.s80_lex.proofs.lemmas.Quotes.{one_quoted}
+use Rattle.s80_lex.proofs.lemmas.Runs.{run_ends}
+use Rattle.s80_lex.proofs.lemmas.Selectors.{name_selects}
+use Rattle.s80_lex.proofs.lemmas.Signs.{symbol_takes}
+use Rattle.s80_lex.proofs.lemmas.Taken.{name_takes, keyword_takes, string_takes}
 use Rattle.s80_lex.proofs.Words.{name_first, name_passes, name_most, no_keyword, keyword_run, keyword_append}
 
 -- what was taken, as a word and what follows it

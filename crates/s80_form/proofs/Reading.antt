@@ -5,19 +5,27 @@ use Rattle.std.proofs.lemmas.Bool.{ne_eqb}
 use Rattle.std.proofs.lemmas.List.{append-nil, take_all, drop_at, drop-drop}
 use Rattle.std.proofs.lemmas.List.Elements.{All-push}
 use Rattle.std.proofs.lemmas.List.Concat.{flat_map-append}
-use Rattle.s80_lex.specs.Spelling.{doubled, begins_with, NotNext}
-use Rattle.s80_lex.proofs.Quotes.{quoted_same, quoted_ends}
-use Rattle.s80_lex.proofs.Fronts.{split_same}
+use Rattle.s80_lex.specs.Spelling.{doubled, unended, quoted, begins_with, NotNext}
+use Rattle.s80_lex.proofs.lemmas.Quotes.{quoted_same, quoted_ends}
+use Rattle.s80_lex.proofs.lemmas.Fronts.{split_same}
 use Rattle.s80_form.specs.declared.definition.Kind.{Kind}
 use Rattle.s80_form.specs.declared.definition.Definition.{Definition}
 use Rattle.s80_form.specs.declared.read.Head.{Head}
 use Rattle.s80_form.specs.Definition.{definition_text, defining_word, split_names, joined, IsLawfulDefinition}
-use Rattle.s80_form.specs.Name.{is_name, IsName, AreNames}
-use Rattle.s80_form.specs.Form.{Finds}
-use Rattle.s80_form.specs.Read.{word_len, line, lines, FindsString, FindsLine, IsHead, FindsHead}
-use Rattle.s80_form.proofs.Cuts.{spread, name_inner, kind_inner, word_cut, fields_same, kinds_same}
+use Rattle.s80_form.specs.Name.{is_name, IsName, AreNames, IsBrief, AreBrief}
+use Rattle.s80_form.specs.TextParts.{word_len, FindsString}
+use Rattle.s80_form.specs.TreeParts.{Finds}
+use Rattle.s80_form.specs.Read.{lines, FindsLine, IsHead}
+use Rattle.s80_form.proofs.lemmas.Cuts.{spread, name_inner, kind_inner, word_cut, fields_same}
 use Rattle.s80_form.proofs.Spelled.{take_one}
 use Rattle.s80_form.proofs.Splits.{joined_split}
+
+-- a quoted text behind its first quote
+pub behind_quote : (text rest : List ℕ) → quoted 39 text ++ rest ≡ 39 ∷ (flat_map (doubled 39) text ++ 39 ∷ rest)
+behind_quote text rest = append_assoc (unended 39 text) (39 ∷ []) rest
+
+from_quote : (bytes text rest : List ℕ) → 39 ∷ bytes ≡ quoted 39 text ++ rest → bytes ≡ flat_map (doubled 39) text ++ 39 ∷ rest
+from_quote bytes text rest e = ap (drop 1) (e ∙ behind_quote text rest)
 
 -- what was read of a string, and what is left
 pub read_two : (bytes text rest after : List ℕ) → bytes ≡ flat_map (doubled 39) text ++ rest → rest ≡ 39 ∷ 39 ∷ after → bytes ≡ flat_map (doubled 39) (text ++ 39 ∷ []) ++ after
@@ -33,7 +41,7 @@ read_one bytes text rest b after e r apart =
 
 pub read_end : (bytes text rest after : List ℕ) → bytes ≡ flat_map (doubled 39) text ++ rest → rest ≡ 39 ∷ after → NotNext 39 after → FindsString bytes text after
 read_end bytes text rest after e r n = λ t q k h.
-    let s : flat_map (doubled 39) text ++ 39 ∷ after ≡ flat_map (doubled 39) t ++ 39 ∷ q = sym (ap (λ l. flat_map (doubled 39) text ++ l) r) ∙ sym e ∙ h in
+    let s : flat_map (doubled 39) text ++ 39 ∷ after ≡ flat_map (doubled 39) t ++ 39 ∷ q = sym (ap (λ l. flat_map (doubled 39) text ++ l) r) ∙ sym e ∙ from_quote bytes t q h in
     let same : text ≡ t = quoted_same 39 text t after q n k s in
     let left = (split_same (flat_map (doubled 39) text) (39 ∷ after) (flat_map (doubled 39) t) (39 ∷ q) (ap (λ l. length (flat_map (doubled 39) l)) same) s).1 in
     (same, (cc))
@@ -52,7 +60,7 @@ found_same text spelled e d found i j s t =
 
 pub read_all : (bytes text rest : List ℕ) → bytes ≡ flat_map (doubled 39) text ++ rest → length rest ≤ 0 → FindsString bytes text rest
 read_all bytes text (b ∷ rest) e le = absurd (omega arith)
-read_all bytes text [] e le = λ t q k h. absurd (quoted_ends 39 t text q k (sym h ∙ e))
+read_all bytes text [] e le = λ t q k h. absurd (quoted_ends 39 t text q k (sym (from_quote bytes t q h) ∙ e))
 
 -- the string of a line stands behind its keyword
 pub line_found : (word bytes one two found left : List ℕ) → one ≡ drop (length word) bytes → two ≡ drop 4 one → FindsString two found left → FindsLine word bytes found left
@@ -62,7 +70,7 @@ line_found word bytes one two found left a b s = λ t q k h.
     b ∙ ap (drop 4) a ∙ drop-drop 4 (length word) bytes ∙ ap (drop (length word + 4)) h
     ∙ ap (drop (length word + 4)) (sym (append_assoc (10 ∷ 9 ∷ word) (32 ∷ 39 ∷ []) inner))
     ∙ drop_at ((10 ∷ 9 ∷ word) ++ 32 ∷ 39 ∷ []) inner (length word + 4) (omega (arith, length-append (10 ∷ 9 ∷ word) (32 ∷ 39 ∷ []))) in
-    s t q k behind
+    s t q k (ap (λ l. 39 ∷ l) behind ∙ sym (behind_quote t q))
 
 -- names, as far as they were seen
 pub names_more : (names : List (List ℕ)) (i : ℕ) (name : List ℕ) → AreNames (take i names) → slice_get names i ≡ Some name → is_name name ≡ true → AreNames (take (i + 1) names)
@@ -70,6 +78,12 @@ names_more names i name h e n = subst AreNames (sym (take_one names i name e)) (
 
 pub names_all : (names : List (List ℕ)) (i : ℕ) → length names ≤ i → AreNames (take i names) → AreNames names
 names_all names i le h = subst AreNames (take_all i names le) h
+
+pub brief_more : (names : List (List ℕ)) (i : ℕ) (name : List ℕ) → AreBrief (take i names) → slice_get names i ≡ Some name → IsBrief name → AreBrief (take (i + 1) names)
+brief_more names i name h e b = subst AreBrief (sym (take_one names i name e)) (All-push IsBrief (take i names) name h b)
+
+pub brief_all : (names : List (List ℕ)) (i : ℕ) → length names ≤ i → AreBrief (take i names) → AreBrief names
+brief_all names i le h = subst AreBrief (take_all i names le) h
 
 -- the first line, word by word
 pub record HeadIs (d : Definition) (superclass keyword class_name rest : List ℕ) : Type 0 where

@@ -1,6 +1,7 @@
--- Trees with one statement, one message, and literals.
-use Rattle.std.proofs.Common.{◌≡◌, ℕ, List, [], ◌∷◌, ◌++◌, Bool, true, false, ◌≤◌, length, Some, refl, ap, sym, ◌∙◌, arith}
+-- Trees with one statement, their messages, and literals.
+use Rattle.std.proofs.Common.{◌≡◌, ℕ, List, [], ◌∷◌, false, ◌≤◌, length, Some, IsTrue, nat_eq, codes, refl, ap, sym, ◌∙◌, arith}
 use Rattle.std.specs.List.{slice_get}
+use Rattle.std.proofs.lemmas.Bool.Decides.{nat_tests}
 use Rattle.s80_base.specs.Literal.{LiteralTree, literal_of}
 use Rattle.s80_base.specs.declared.literal.Literal.{Literal}
 use Rattle.s80_tree.specs.Name.{names_of}
@@ -10,8 +11,8 @@ use Rattle.s80_tree.specs.declared.expr.Primary.TheVariants as primary
 use Rattle.s80_tree.specs.declared.expr.Primary.TheOpen as layer
 use Rattle.s80_tree.specs.declared.name.NameAt.{NameAt}
 use Rattle.s80_tree.specs.declared.method.DoItTree.{DoItTree}
-use Rattle.s80_form.specs.Definition.{argument}
-use Rattle.s80_form.specs.Form.{alone, sent}
+use Rattle.s80_base.specs.declared.names.Side.TheVariants.{Class}
+use Rattle.s80_form.specs.TreeParts.{argument, alone, all_sent, class_message, to_side}
 use Rattle.s80_tree.specs.declared.expr.Expr.{Expr, out-Expr, fold_out-Expr}
 use Rattle.s80_tree.specs.declared.expr.Message.{Message, out-Message, fold_out-Message}
 use Rattle.s80_tree.specs.declared.expr.Stmt.{Stmt, out-Stmt, fold_out-Stmt}
@@ -67,15 +68,30 @@ messages_none : (ms : MessageTrees) → length (messages_list ms) ≤ 0 → ms �
 messages_none no_messages le = refl
 messages_none (messages s es ms) le = absurd (omega arith)
 
-messages_one : (ms : MessageTrees) (m : MessageTree) → length (messages_list ms) ≡ 1 → slice_get (messages_list ms) 0 ≡ Some m → ms ≡ messages m.0 m.1 no_messages
+pub messages_one : (ms : MessageTrees) (m : MessageTree) → length (messages_list ms) ≡ 1 → slice_get (messages_list ms) 0 ≡ Some m → ms ≡ messages m.0 m.1 no_messages
 messages_one no_messages m n e = absurd (omega arith)
 messages_one (messages s es no_messages) m n e = let same : (s, es) ≡ m = cc in ap (λ (x : MessageTree). messages x.0 x.1 no_messages) same
 messages_one (messages s es (messages t fs ms)) m n e = absurd (omega arith)
+
+messages_two : (ms : MessageTrees) (m o : MessageTree) → length (messages_list ms) ≡ 2 → slice_get (messages_list ms) 0 ≡ Some m → slice_get (messages_list ms) 1 ≡ Some o → ms ≡ messages m.0 m.1 (messages o.0 o.1 no_messages)
+messages_two no_messages m o n e f = absurd (omega arith)
+messages_two (messages s es ms) m o n e f =
+    let same : (s, es) ≡ m = cc in
+    ap (λ (x : MessageTree). messages x.0 x.1 ms) same ∙ ap (messages m.0 m.1) (messages_one ms o (omega arith) f)
 
 body_one : (b : BodyTree) (s : StmtTree) → length (body_list b) ≡ 1 → slice_get (body_list b) 0 ≡ Some s → b ≡ stmts s.0 s.1 no_stmts
 body_one no_stmts s n e = absurd (omega arith)
 body_one (stmts r x no_stmts) s n e = let same : (r, x) ≡ s = cc in ap (λ (y : StmtTree). stmts y.0 y.1 no_stmts) same
 body_one (stmts r x (stmts q y b)) s n e = absurd (omega arith)
+
+exprs_none : (es : ExprTrees) → length (exprs_list es) ≡ 0 → es ≡ no_exprs
+exprs_none no_exprs n = refl
+exprs_none (exprs e es) n = absurd (omega arith)
+
+exprs_one : (es : ExprTrees) (e : ExprTree) → length (exprs_list es) ≡ 1 → slice_get (exprs_list es) 0 ≡ Some e → es ≡ exprs e no_exprs
+exprs_one no_exprs e n i = absurd (omega arith)
+exprs_one (exprs x no_exprs) e n i = let same : x ≡ e = cc in ap (λ y. exprs y no_exprs) same
+exprs_one (exprs x (exprs y es)) e n i = absurd (omega arith)
 
 pub exprs_five : (es : ExprTrees) (a b c d e v w x y z : ExprTree) → length (exprs_list es) ≡ 5
     → slice_get (exprs_list es) 0 ≡ Some a → slice_get (exprs_list es) 1 ≡ Some b → slice_get (exprs_list es) 2 ≡ Some c → slice_get (exprs_list es) 3 ≡ Some d → slice_get (exprs_list es) 4 ≡ Some e
@@ -88,7 +104,7 @@ exprs_five (exprs _ (exprs _ (exprs _ (exprs _ no_exprs)))) a b c d e v w x y z 
 exprs_five (exprs q (exprs r (exprs s (exprs t (exprs u no_exprs))))) a b c d e v w x y z n f g h i j k l m o p = cc
 exprs_five (exprs _ (exprs _ (exprs _ (exprs _ (exprs _ (exprs _ es)))))) a b c d e v w x y z n f g h i j k l m o p = absurd (omega arith)
 
--- the expression of a doIt, and the message and the literal that an expression is
+-- the expression of a doIt, and the messages and the literal that an expression is
 pub expression_alone : (tree : DoItTree) (s : Stmt) → length (names_of tree.temporaries) ≤ 0 → length (body_list (body_of tree.body)) ≡ 1 → slice_get (body_list (body_of tree.body)) 0 ≡ Some (stmt_of s) → (out-Stmt s).returns ≡ false → doit_of tree ≡ alone (expr_of (out-Stmt s).expr)
 expression_alone tree s none one at stays =
     let t : names_of tree.temporaries ≡ [] = names_none (names_of tree.temporaries) none in
@@ -97,20 +113,45 @@ expression_alone tree s none one at stays =
     ap (λ (ns : List NameAt). record { temporaries = ns; body = body_of tree.body }) t
     ∙ ap (λ (x : BodyTree). record { temporaries = []; body = x }) (b ∙ ap (λ (y : StmtTree). stmts y.0 y.1 no_stmts) o ∙ ap (λ r. stmts r (expr_of (out-Stmt s).expr) no_stmts) stays)
 
-pub message_sent : (e : Expr) (n : NameAt) (m : MessageTree) → length (names_of (out-Expr e).targets) ≤ 0 → length (messages_list (messages_of (out-Expr e).messages)) ≡ 1 → slice_get (messages_list (messages_of (out-Expr e).messages)) 0 ≡ Some m → length (messages_list (messages_of (out-Expr e).cascades)) ≤ 0 → (out-Expr e).receiver ≡ primary.Name n → expr_of e ≡ sent (n, m)
-message_sent e n m none one at last is =
+pub messages_sent : (e : Expr) (n : NameAt) → length (names_of (out-Expr e).targets) ≤ 0 → length (messages_list (messages_of (out-Expr e).cascades)) ≤ 0 → (out-Expr e).receiver ≡ primary.Name n → expr_of e ≡ all_sent (n, messages_of (out-Expr e).messages)
+messages_sent e n none last is =
     let t : names_of (out-Expr e).targets ≡ [] = names_none (names_of (out-Expr e).targets) none in
     let p : primary_of (out-Expr e).receiver ≡ name n = ap primary_of is ∙ primary_name n in
-    let ms : messages_of (out-Expr e).messages ≡ messages m.0 m.1 no_messages = messages_one (messages_of (out-Expr e).messages) m one at in
     let cs : messages_of (out-Expr e).cascades ≡ no_messages = messages_none (messages_of (out-Expr e).cascades) last in
     let o = expr_open e in
     cc
 
-pub no_sent : (e : Expr) (y : NameAt × MessageTree) → ((x : NameAt) → (out-Expr e).receiver ≡ primary.Name x → ⊥) → expr_of e ≡ sent y → ⊥
-no_sent e y apart is =
+pub not_sent : (e : Expr) (y : NameAt × MessageTrees) → ((x : NameAt) → (out-Expr e).receiver ≡ primary.Name x → ⊥) → expr_of e ≡ all_sent y → ⊥
+not_sent e y apart is =
     let o = expr_open e in
     let p : primary_of (out-Expr e).receiver ≡ name y.0 = cc in
     no_name (out-Expr e).receiver y.0 apart p
+
+-- a message that asks for the class, and messages to a side
+pub is_class : (m : Message) (n : ℕ) → (out-Message m).selector ≡ codes "class" → n ≡ length (exprs_list (exprs_of (out-Message m).arguments))
+    → (IsTrue (nat_eq n 0) → message_of m ≡ class_message) × (message_of m ≡ class_message → IsTrue (nat_eq n 0))
+is_class m n selector count = (to, back)
+  where
+    to : IsTrue (nat_eq n 0) → message_of m ≡ class_message
+    to t =
+        let z : n ≡ 0 = grind (arith, nat_tests) in
+        message_open m ∙ ap (λ (s : List ℕ). (s, exprs_of (out-Message m).arguments)) selector ∙ ap (λ (es : ExprTrees). (codes "class", es)) (exprs_none (exprs_of (out-Message m).arguments) (omega (arith, z, count)))
+
+    back : message_of m ≡ class_message → IsTrue (nat_eq n 0)
+    back i =
+        let none : exprs_of (out-Message m).arguments ≡ no_exprs = ap (λ (x : MessageTree). x.1) (sym (message_open m) ∙ i) in
+        let z : n ≡ 0 = count ∙ ap (λ es. length (exprs_list es)) none in
+        ap (λ k. nat_eq k 0) z
+
+pub behind_class : (ms : MessageTrees) (c m : MessageTree) → length (messages_list ms) ≡ 2 → slice_get (messages_list ms) 0 ≡ Some c → slice_get (messages_list ms) 1 ≡ Some m → c ≡ class_message → ms ≡ to_side (Class, m)
+behind_class ms c m n at next e = messages_two ms c m n at next ∙ ap (λ (x : MessageTree). messages x.0 x.1 (messages m.0 m.1 no_messages)) e
+
+-- the argument of a message
+pub one_argument : (m : Message) (e : ExprTree) (selector : List ℕ) → (out-Message m).selector ≡ selector → length (exprs_list (exprs_of (out-Message m).arguments)) ≡ 1 → slice_get (exprs_list (exprs_of (out-Message m).arguments)) 0 ≡ Some e
+    → message_of m ≡ (selector, exprs e no_exprs)
+one_argument m e selector is one at =
+    message_open m ∙ ap (λ (s : List ℕ). (s, exprs_of (out-Message m).arguments)) is
+    ∙ ap (λ (es : ExprTrees). (selector, es)) (exprs_one (exprs_of (out-Message m).arguments) e one at)
 
 pub literal_alone : (e : Expr) (v : Literal) → length (names_of (out-Expr e).targets) ≤ 0 → length (messages_list (messages_of (out-Expr e).messages)) ≤ 0 → length (messages_list (messages_of (out-Expr e).cascades)) ≤ 0 → (out-Expr e).receiver ≡ primary.Literal v → expr_of e ≡ argument (literal_of v)
 literal_alone e v none one last is =

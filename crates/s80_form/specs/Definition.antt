@@ -1,17 +1,17 @@
 -- Definitions of classes: their texts, and the trees that are such.
 use Rattle.std.specs.Prelude.{◌≡◌, ℕ, List, [], ◌∷◌, ◌++◌, Bool, true, false, not, codes, filter, map, if◌then◌else◌}
 use Rattle.std.specs.List.{flat_map}
-use Rattle.s80_base.specs.Literal.{LiteralTree, symbol, str}
-use Rattle.s80_chunk.specs.Chunks.{is_separator}
+use Rattle.s80_base.specs.Literal.{symbol, str}
+use Rattle.s80_base.specs.declared.names.Side.TheVariants.{Instance}
+use Rattle.s80_base.specs.Byte.{is_separator}
 use Rattle.s80_lex.specs.Spelling.{quoted}
-use Rattle.s80_tree.specs.declared.name.NameAt.{NameAt}
-use Rattle.s80_tree.specs.Tree.{ExprTree, ExprTrees, DoItParts, expr, name, literal, exprs_from, messages, no_messages, stmts, no_stmts}
-use Rattle.s80_grammar.specs.Word.{is_reserved}
+use Rattle.s80_tree.specs.Tree.{ExprTrees, DoItParts, exprs_from}
 use Rattle.s80_syntax.specs.Text.{IsDoItOf}
 use Rattle.s80_form.specs.declared.definition.Kind.{Kind}
 use Rattle.s80_form.specs.declared.definition.Kind.TheVariants.{Plain, Pointers, Bytes, Words}
 use Rattle.s80_form.specs.declared.definition.Definition.{Definition}
-use Rattle.s80_form.specs.Name.{IsName, AreNames}
+use Rattle.s80_form.specs.Name.{IsName, AreNames, IsBrief, AreBrief}
+use Rattle.s80_form.specs.TreeParts.{argument, IsSending}
 
 -- ---- lists of names
 
@@ -62,43 +62,45 @@ definition_text d =
     ++ next_line (codes "poolDictionaries:") (joined d.pools)
     ++ next_line (codes "category:") d.category
 
--- its names are identifiers that aren't reserved
+-- each of its names and its category has fewer than 2^32 bytes
+pub record IsBriefDefinition (d : Definition) : Type 0 where
+  pub superclass : IsBrief d.superclass
+  pub class_name : IsBrief d.class_name
+  pub inst_vars : AreBrief d.inst_vars
+  pub class_vars : AreBrief d.class_vars
+  pub pools : AreBrief d.pools
+  pub category : IsBrief d.category
+
+-- its names are identifiers that aren't reserved, and it is brief
 pub record IsLawfulDefinition (d : Definition) : Type 0 where
   pub superclass : IsName d.superclass
   pub class_name : IsName d.class_name
   pub inst_vars : AreNames d.inst_vars
   pub class_vars : AreNames d.class_vars
   pub pools : AreNames d.pools
+  pub brief : IsBriefDefinition d
 
 -- ---- the tree
 
 abbrev pub defining_selector : Kind → List ℕ
 defining_selector kind = defining_word kind ++ codes "instanceVariableNames:classVariableNames:poolDictionaries:category:"
 
--- an argument that is a literal, and nothing else
-abbrev pub argument : LiteralTree → ExprTree
-argument value = expr [] (literal value) no_messages no_messages
+-- the texts of a symbol and of four strings, as arguments
+abbrev pub are_arguments : List ℕ × List ℕ × List ℕ × List ℕ × List ℕ → ExprTrees
+are_arguments t = exprs_from (map argument (symbol t.0 ∷ str t.1 ∷ str t.2 ∷ str t.3 ∷ str t.4 ∷ []))
 
--- one statement that sends this message to this name, and nothing else
-abbrev pub sends : NameAt → List ℕ → List LiteralTree → DoItParts
-sends receiver selector arguments = record {
-  temporaries = [];
-  body = stmts false (expr [] (name receiver) (messages selector (exprs_from (map argument arguments)) no_messages) no_messages) no_stmts;
-}
-
--- The tree is the form of this definition: a receiver that is no reserved word is sent the message that defines a class, with a symbol
--- and four strings.
+-- The tree is the form of this definition: its superclass is sent the message that defines a class, with a symbol and four strings, and
+-- nothing else. A text that is read has fewer than 2^32 bytes, and so has each part of its tree.
 pub record IsFormOf (tree : DoItParts) (d : Definition) : Type 0 where
   pub at : ℕ
   pub inst_vars : List ℕ
   pub class_vars : List ℕ
   pub pools : List ℕ
-  pub tree_is : tree ≡ sends (record { name = d.superclass; at = at }) (defining_selector d.kind)
-      (symbol d.class_name ∷ str inst_vars ∷ str class_vars ∷ str pools ∷ str d.category ∷ [])
-  pub receiver : is_reserved d.superclass ≡ false
+  pub sending : IsSending tree (record { name = d.superclass; at = at }, Instance, (defining_selector d.kind, are_arguments (d.class_name, inst_vars, class_vars, pools, d.category)))
   pub inst_vars_are : d.inst_vars ≡ split_names inst_vars
   pub class_vars_are : d.class_vars ≡ split_names class_vars
   pub pools_are : d.pools ≡ split_names pools
+  pub brief : IsBriefDefinition d
 
 -- the tree is the form of no definition
 abbrev pub IsNoForm : DoItParts → Type 0

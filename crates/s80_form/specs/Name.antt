@@ -1,14 +1,10 @@
 -- Names of classes and variables.
-use Rattle.std.specs.Prelude.{◌≡◌, ℕ, List, [], ◌∷◌, Bool, true, false, not, ◌&&◌, ◌||◌, codes}
-use Rattle.std.specs.Char.{is_ascii_alphabetic, is_ascii_alphanumeric, is_ascii_uppercase}
-use Rattle.std.specs.List.{All, list_all}
+use Rattle.std.specs.Prelude.{◌≡◌, ◌<◌, ◌^◌, ℕ, List, [], ◌∷◌, Bool, true, false, not, ◌&&◌, ◌||◌, codes, length}
+use Rattle.std.specs.Char.{is_ascii_uppercase}
+use Rattle.std.specs.List.{All}
 use Rattle.std.specs.Str.{bytes_eq}
-use Rattle.s80_grammar.specs.Word.{is_reserved}
-
--- a letter, then letters and digits
-abbrev pub is_identifier : List ℕ → Bool
-is_identifier [] = false
-is_identifier (b ∷ bytes) = is_ascii_alphabetic b && list_all is_ascii_alphanumeric bytes
+use Rattle.s80_lex.specs.Selector.{is_name as is_identifier}
+use Rattle.s80_syntax.specs.Word.{is_reserved}
 
 -- an identifier that is no reserved word
 abbrev pub is_name : List ℕ → Bool
@@ -27,3 +23,10 @@ IsName word = is_name word ≡ true
 
 abbrev pub AreNames : List (List ℕ) → Type 0
 AreNames words = All IsName words
+
+-- a name or a text has fewer than 2^32 bytes
+abbrev pub IsBrief : List ℕ → Type 0
+IsBrief text = length text < 2 ^ 32
+
+abbrev pub AreBrief : List (List ℕ) → Type 0
+AreBrief texts = All IsBrief texts

@@ -1,18 +1,10 @@
 -- How the parts of a definition's text are found.
-use Rattle.std.specs.Prelude.{◌≡◌, ℕ, List, [], ◌∷◌, ◌++◌, Bool, not, Option, Some, None, codes}
-use Rattle.std.specs.List.{prefix_len, flat_map}
-use Rattle.s80_chunk.specs.Chunks.{is_separator}
+use Rattle.std.specs.Prelude.{◌≡◌, ℕ, List, [], ◌∷◌, ◌++◌, Option, Some, None, codes}
+use Rattle.std.specs.List.{flat_map}
 use Rattle.s80_lex.specs.Spelling.{doubled, NotNext}
 use Rattle.s80_form.specs.declared.definition.Definition.{Definition}
 use Rattle.s80_form.specs.declared.read.Head.{Head}
 use Rattle.s80_form.specs.Definition.{definition_text, joined, IsLawfulDefinition}
-
--- how many bytes stand before the first separator
-abbrev pub is_inner : ℕ → Bool
-is_inner b = not (is_separator b)
-
-abbrev pub word_len : List ℕ → ℕ
-word_len bytes = prefix_len is_inner bytes
 
 -- a line with a keyword and a string, and what follows it
 abbrev pub line : List ℕ → List ℕ → List ℕ → List ℕ
@@ -25,11 +17,6 @@ lines d =
     (line (codes "classVariableNames:") (joined d.class_vars)
     (line (codes "poolDictionaries:") (joined d.pools)
     (line (codes "category:") d.category [])))
-
--- the string that a quote ends, with each quote in it doubled, and what follows the quote
-abbrev pub FindsString : List ℕ → List ℕ → List ℕ → Type 0
-FindsString bytes found left =
-    (text rest : List ℕ) → NotNext 39 rest → bytes ≡ flat_map (doubled 39) text ++ 39 ∷ rest → (found ≡ text) × (left ≡ rest)
 
 -- the string of a line, and what follows the line
 abbrev pub FindsLine : List ℕ → List ℕ → List ℕ → List ℕ → Type 0

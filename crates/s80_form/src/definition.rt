@@ -1,9 +1,10 @@
 // Definitions of classes, and their texts.
-ghost use Rattle.std.specs.Prelude.{◌≡◌, ◌++◌, ℕ, List, IfOk, OnOk, OnErr};
-ghost use Rattle.s80_lex.specs.Spelling.{quoted};
-ghost use Rattle.s80_form.specs.Definition.{definition_text, first_line, defining_word, next_line, joined};
+ghost use Rattle.std.specs.Prelude.{◌≡◌, ◌↔◌, ◌++◌, IsTrue, IfOk, OnOk};
+ghost use Rattle.s80_form.specs.Definition.{definition_text, first_line, defining_word, next_line, joined, IsBriefDefinition};
 
+use crate::name::{are_brief, is_brief};
 use crate::names::joined;
+use crate::text_parts::add_quoted;
 use s80_base::{Names, OutOfMemory, Text};
 use std::alloc::Global;
 
@@ -80,18 +81,14 @@ fn add_line(text: &mut Text, word: &[u8], string: &[u8]) -> Result<(), OutOfMemo
     add_quoted(text, string)
 }
 
-/// Adds a string as a source has it: between quotes, and with each quote in it doubled. When out of memory, the text may have a part of it.
-pub fn add_quoted(text: &mut Text, string: &[u8]) -> Result<(), OutOfMemory>
-    ensures ok { OnOk result (text.new ≡ text.old ++ quoted 39 string.now) }
-    ensures err { OnErr result ((more : List ℕ) × (text.new ≡ text.old ++ more)) }
+/// Whether each name of a definition and its category is brief.
+pub(crate) fn is_brief_definition(definition: &Definition) -> bool
+    ensures { IsTrue result ↔ IsBriefDefinition definition.now }
 {
-    text.append(b"'")?;
-    for byte in string {
-        if *byte == b'\'' {
-            text.append(b"''")?;
-        } else {
-            text.append(&[*byte])?;
-        }
-    }
-    text.append(b"'")
+    is_brief(&definition.superclass)
+        && is_brief(&definition.class_name)
+        && are_brief(&definition.inst_vars)
+        && are_brief(&definition.class_vars)
+        && are_brief(&definition.pools)
+        && is_brief(&definition.category)
 }

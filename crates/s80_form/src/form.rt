@@ -1,16 +1,17 @@
 // Trees that are definitions.
 ghost use Rattle.std.specs.Prelude.{◌≡◌, List, ℕ, IfOk};
-ghost use Rattle.s80_base.specs.Literal.{literal_of, symbol, str};
-ghost use Rattle.s80_tree.specs.Tree.{doit_of, expr_of, exprs_of, message_of, DoItParts};
+ghost use Rattle.s80_tree.specs.Tree.{doit_of, exprs_of, DoItParts};
 ghost use Rattle.s80_form.specs.declared.definition.Definition.{Definition};
-ghost use Rattle.s80_form.specs.Definition.{definition_text, defining_word, defining_selector, argument, split_names, joined, IsLawfulDefinition, IsFormOf, IsDefinitionOf};
+ghost use Rattle.s80_form.specs.Definition.{definition_text, defining_word, defining_selector, are_arguments, split_names, joined, IsLawfulDefinition, IsFormOf, IsDefinitionOf};
 ghost use Rattle.s80_form.specs.Name.{AreNames};
-ghost use Rattle.s80_form.specs.Form.{IsRecognised, Recognises, Finds, alone, sent, are_arguments, texts_of, ShowsForm};
+ghost use Rattle.s80_form.specs.Form.{IsRecognised, Recognises, texts_of, ShowsForm};
+ghost use Rattle.s80_form.specs.TreeParts.{Finds};
 
-use crate::definition::{Definition, Kind};
+use crate::definition::{Definition, Kind, is_brief_definition};
 use crate::names::split_names;
-use s80_base::{Literal, OutOfMemory, Text};
-use s80_syntax::{DoItTree, Expr, Exprs, Message, NameAt, Primary, is_reserved};
+use crate::tree_parts::{only_sending, string, symbol};
+use s80_base::{OutOfMemory, Side, Text};
+use s80_syntax::{DoItTree, Exprs, NameAt};
 use std::alloc::Global;
 
 /// What a tree shows of its definition.
@@ -58,7 +59,7 @@ fn recognise_definition(alloc: Global, tree: &DoItTree) -> Result<Option<Definit
         return Ok(None);
     };
     let arguments = form.arguments;
-    Ok(Some(Definition {
+    let definition = Definition {
         class_name: arguments.class_name.copy(alloc)?,
         superclass: form.receiver.name.copy(alloc)?,
         kind: form.kind,
@@ -66,48 +67,26 @@ fn recognise_definition(alloc: Global, tree: &DoItTree) -> Result<Option<Definit
         class_vars: split_names(alloc, arguments.class_vars.bytes())?,
         pools: split_names(alloc, arguments.pools.bytes())?,
         category: arguments.category.copy(alloc)?,
-    }))
+    };
+    // A text that was read is brief, and so is each part of its tree.
+    if !is_brief_definition(&definition) {
+        return Ok(None);
+    }
+    Ok(Some(definition))
 }
 
 fn only_form(tree: &DoItTree) -> Option<Form<'_>>
     ensures { ShowsForm (doit_of tree.now) result }
 {
-    let (receiver, message) = only_message(only_expression(tree)?)?;
-    if is_reserved(receiver.name.bytes()) {
+    let sending = only_sending(tree)?;
+    if sending.side == Side::Class {
         return None;
     }
     Some(Form {
-        receiver,
-        kind: kind_of(message.selector.bytes())?,
-        arguments: five_arguments(&message.arguments)?,
+        receiver: sending.receiver,
+        kind: kind_of(sending.message.selector.bytes())?,
+        arguments: five_arguments(&sending.message.arguments)?,
     })
-}
-
-/// The expression of a doIt that has no temporaries, and no other statement, and returns nothing.
-fn only_expression(tree: &DoItTree) -> Option<&Expr>
-    ensures { Finds (λ e. expr_of e.now) (λ e. doit_of tree.now ≡ alone e) result }
-{
-    if tree.temporaries.count() > 0 || tree.body.count() != 1 {
-        return None;
-    }
-    let stmt = tree.body.at(0);
-    if stmt.returns {
-        return None;
-    }
-    Some(&stmt.expr)
-}
-
-/// The name and the message of an expression that sends it one message, and does nothing else.
-fn only_message(expr: &Expr) -> Option<(&NameAt, &Message)>
-    ensures { Finds (λ p. (p.0.now, message_of p.1.now)) (λ p. expr_of expr.now ≡ sent p) result }
-{
-    if expr.targets.count() > 0 || expr.messages.count() != 1 || expr.cascades.count() > 0 {
-        return None;
-    }
-    match &expr.receiver {
-        Primary::Name(name) => Some((name, expr.messages.at(0))),
-        _ => None,
-    }
 }
 
 /// The kind that the selector of a definition tells.
@@ -150,37 +129,6 @@ fn five_arguments(exprs: &Exprs) -> Option<Arguments<'_>>
         pools: string(exprs.at(3))?,
         category: string(exprs.at(4))?,
     })
-}
-
-fn symbol(expr: &Expr) -> Option<&Text>
-    ensures { Finds (λ text. text.now) (λ text. expr_of expr.now ≡ argument (symbol text)) result }
-{
-    match literal(expr)? {
-        Literal::Symbol(text) => Some(text),
-        _ => None,
-    }
-}
-
-fn string(expr: &Expr) -> Option<&Text>
-    ensures { Finds (λ text. text.now) (λ text. expr_of expr.now ≡ argument (str text)) result }
-{
-    match literal(expr)? {
-        Literal::Str(text) => Some(text),
-        _ => None,
-    }
-}
-
-/// The literal that an expression is, where it is nothing else.
-fn literal(expr: &Expr) -> Option<&Literal>
-    ensures { Finds (λ value. literal_of value.now) (λ value. expr_of expr.now ≡ argument value) result }
-{
-    if expr.targets.count() > 0 || expr.messages.count() > 0 || expr.cascades.count() > 0 {
-        return None;
-    }
-    match &expr.receiver {
-        Primary::Literal(value) => Some(value),
-        _ => None,
-    }
 }
 
 /// A tree is the form of at most one definition.

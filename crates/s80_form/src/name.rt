@@ -1,31 +1,19 @@
 // Names of classes and variables.
-ghost use Rattle.std.specs.Prelude.{◌≡◌};
-ghost use Rattle.std.specs.Char.{is_ascii_alphanumeric};
-ghost use Rattle.std.specs.List.{list_all};
-ghost use Rattle.s80_form.specs.Name.{is_identifier, is_name, begins_with_capital, is_class_name};
+ghost use Rattle.std.specs.Prelude.{◌≡◌, ◌↔◌, IsTrue};
+ghost use Rattle.s80_form.specs.Name.{is_name, begins_with_capital, is_class_name, IsBrief, AreBrief};
 
+use s80_base::{Names, Text};
+use s80_lex::is_name as is_identifier;
 use s80_syntax::is_reserved;
+
+/// Names and texts are brief that have fewer bytes than this.
+const BRIEF_LIMIT: usize = 1 << 32;
 
 /// Whether a word is an identifier that isn't reserved, as names of variables are.
 pub fn is_name(word: &[u8]) -> bool
     ensures { result ≡ is_name word.now }
 {
     is_identifier(word) && !is_reserved(word)
-}
-
-fn is_identifier(word: &[u8]) -> bool
-    ensures { result ≡ is_identifier word.now }
-{
-    match word {
-        [] => false,
-        [first, rest @ ..] => first.is_ascii_alphabetic() && are_alphanumeric(rest),
-    }
-}
-
-fn are_alphanumeric(bytes: &[u8]) -> bool
-    ensures { result ≡ list_all is_ascii_alphanumeric bytes.now }
-{
-    bytes.iter().all(|byte| byte.is_ascii_alphanumeric())
 }
 
 /// Whether a class can be given this name: it is a name that begins with a capital letter, and isn't `Smalltalk` or `Transcript`.
@@ -44,4 +32,23 @@ fn begins_with_capital(word: &[u8]) -> bool
         [] => false,
         [first, ..] => first.is_ascii_uppercase(),
     }
+}
+
+/// Whether a name or a text is brief.
+pub fn is_brief(text: &Text) -> bool
+    ensures { IsTrue result ↔ IsBrief text.now }
+{
+    text.bytes().len() < BRIEF_LIMIT
+}
+
+/// Whether each of these names is brief.
+pub(crate) fn are_brief(names: &Names) -> bool
+    ensures { IsTrue result ↔ AreBrief names.now }
+{
+    for i in 0..names.count() {
+        if !is_brief(names.at(i)) {
+            return false;
+        }
+    }
+    true
 }

@@ -1,9 +1,8 @@
 // Lists of names in a string.
 ghost use Rattle.std.specs.Prelude.{◌≡◌, IfOk};
-ghost use Rattle.s80_chunk.specs.Chunks.{is_separator};
 ghost use Rattle.s80_form.specs.Definition.{split_names, joined};
 
-use s80_base::{Names, OutOfMemory, Text};
+use s80_base::{Names, OutOfMemory, Text, is_separator};
 use std::alloc::Global;
 
 /// Names with one space between them.
@@ -31,11 +30,4 @@ pub fn split_names(alloc: Global, string: &[u8]) -> Result<Names, OutOfMemory>
         }
     }
     Ok(names)
-}
-
-/// Whether a byte is a space, a tab, a line feed, a form feed or a carriage return.
-pub(crate) fn is_separator(byte: u8) -> bool
-    ensures { result ≡ is_separator byte }
-{
-    matches!(byte, b' ' | b'\t' | b'\n' | b'\x0c' | b'\r')
 }

@@ -1,15 +1,15 @@
 // The reading of a definition's text.
-ghost use Rattle.std.specs.Prelude.{◌≡◌, ◌↔◌, IsTrue, IfOk, take, drop};
-ghost use Rattle.s80_lex.specs.Spelling.{begins_with};
+ghost use Rattle.std.specs.Prelude.{◌↔◌, IsTrue, IfOk};
 ghost use Rattle.s80_form.specs.Name.{AreNames};
 ghost use Rattle.s80_form.specs.Definition.{IsLawfulDefinition};
 ghost use Rattle.s80_form.specs.Form.{IsReadAs};
-ghost use Rattle.s80_form.specs.Read.{word_len, FindsString, FindsLine, FindsHead, FindsParts};
+ghost use Rattle.s80_form.specs.Read.{FindsLine, FindsHead, FindsParts};
 
-use crate::definition::{Definition, Kind, definition_text};
+use crate::definition::{Definition, Kind, definition_text, is_brief_definition};
 use crate::form::kind_named;
 use crate::name::is_name;
-use crate::names::{is_separator, split_names};
+use crate::names::split_names;
+use crate::text_parts::{after, string, word};
 use s80_base::{Names, OutOfMemory, Text};
 use std::alloc::Global;
 
@@ -48,6 +48,7 @@ fn is_lawful(definition: &Definition) -> bool
         && are_names(&definition.inst_vars)
         && are_names(&definition.class_vars)
         && are_names(&definition.pools)
+        && is_brief_definition(definition)
 }
 
 fn are_names(names: &Names) -> bool
@@ -105,56 +106,4 @@ fn line<'t>(alloc: Global, word: &[u8], bytes: &'t [u8]) -> Result<(Text, &'t [u
 {
     // Beside the keyword a line feed, a tab, a space and a quote stand before the string.
     string(alloc, after(after(bytes, word.len()), 4))
-}
-
-/// The string that ends at the first quote that isn't doubled, and what follows that quote.
-fn string(alloc: Global, bytes: &[u8]) -> Result<(Text, &[u8]), OutOfMemory>
-    ensures { IfOk result (λ p. FindsString bytes.now p.0 p.1.now) }
-{
-    let mut text = Text::empty(alloc);
-    let mut rest = bytes;
-    loop {
-        match rest {
-            [b'\'', tail @ ..] => {
-                if !begins_with_quote(tail) {
-                    return Ok((text, tail));
-                }
-                text.append(b"'")?;
-                rest = after(tail, 1);
-            }
-            [byte, tail @ ..] => {
-                text.append(&[*byte])?;
-                rest = tail;
-            }
-            [] => return Ok((text, rest)),
-        }
-    }
-}
-
-fn begins_with_quote(bytes: &[u8]) -> bool
-    ensures { result ≡ begins_with 39 bytes.now }
-{
-    bytes.first() == Some(&b'\'')
-}
-
-/// What stands before the first separator, and what stands from there on.
-fn word(bytes: &[u8]) -> (&[u8], &[u8])
-    ensures word { result.0.now ≡ take (word_len bytes.now) bytes.now }
-    ensures rest { result.1.now ≡ drop (word_len bytes.now) bytes.now }
-{
-    let length = bytes
-        .iter()
-        .take_while(|byte| !is_separator(**byte))
-        .count();
-    bytes.split_at(length)
-}
-
-/// What follows so many bytes.
-fn after(bytes: &[u8], count: usize) -> &[u8]
-    ensures { result.now ≡ drop count bytes.now }
-{
-    if count > bytes.len() {
-        return &[];
-    }
-    &bytes[count..]
 }

@@ -1,7 +1,8 @@
 // Why an item is refused.
-ghost use Rattle.std.specs.Prelude.{◌≡◌};
+ghost use Rattle.std.specs.Prelude.{◌≡◌, IfOk};
 
 use s80_base::{OutOfMemory, Side, Text};
+use std::alloc::Global;
 
 /// What is wrong with the syntax of a text.
 #[derive(Clone, Copy, Debug, PartialEq, Eq)]
@@ -107,6 +108,29 @@ impl Refusal {
             Refusal::LogFull(_) => 12,
             Refusal::NoSection(_) => 13,
         }
+    }
+
+    /// The same refusal in memory of its own.
+    pub fn copy(&self, alloc: Global) -> Result<Refusal, OutOfMemory>
+        ensures { IfOk result (λ copy. copy ≡ self.now) }
+    {
+        Ok(match self {
+            Refusal::Unended => Refusal::Unended,
+            Refusal::Syntax(kind, place) => Refusal::Syntax(*kind, *place),
+            Refusal::TooLarge(fit, count) => Refusal::TooLarge(*fit, *count),
+            Refusal::UnknownClass(name) => Refusal::UnknownClass(name.copy(alloc)?),
+            Refusal::KernelClass(name) => Refusal::KernelClass(name.copy(alloc)?),
+            Refusal::HasSubclasses(name) => Refusal::HasSubclasses(name.copy(alloc)?),
+            Refusal::Cycle(name) => Refusal::Cycle(name.copy(alloc)?),
+            Refusal::Duplicate(name) => Refusal::Duplicate(name.copy(alloc)?),
+            Refusal::BadName(name) => Refusal::BadName(name.copy(alloc)?),
+            Refusal::NoSelector(name, side, selector) => {
+                Refusal::NoSelector(name.copy(alloc)?, *side, selector.copy(alloc)?)
+            }
+            Refusal::TooMany(kind, count) => Refusal::TooMany(*kind, *count),
+            Refusal::LogFull(length) => Refusal::LogFull(*length),
+            Refusal::NoSection(head) => Refusal::NoSection(head.copy(alloc)?),
+        })
     }
 }
 

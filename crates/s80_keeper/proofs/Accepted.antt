@@ -8,7 +8,7 @@ use Rattle.s80_change.specs.Block.{block, blocks, log_limit}
 use Rattle.s80_apply.specs.State.{State}
 use Rattle.s80_apply.specs.Accept.{accept}
 use Rattle.s80_apply.specs.List.{state_of, state_after, IsAccepted, too_full, refused_or, refusal_to, added, add}
-use Rattle.s80_apply.proofs.Lists.{is_after}
+use Rattle.s80_apply.proofs.lemmas.Lists.{is_after}
 
 -- ---- room
 
@@ -45,9 +45,9 @@ unrefusing : (answer : Result State Refusal) (end size : ℕ) → IsAccepted ans
 unrefusing (Ok state) end size accepted within = has_room end size within
 unrefusing (Err refusal) end size accepted within = absurd accepted
 
-pub no_refusal : (changes : List Change) (change : Change) (refusal : Refusal) → IsAccepted (accept change (length (blocks changes)) (state_of changes)) → length (blocks changes) + length (block change) ≤ log_limit → add changes change ≡ Err refusal → ⊥
+pub no_refusal : (changes : List Change) (change : Change) (refusal : Refusal) → IsAccepted (accept change (state_of changes)) → length (blocks changes) + length (block change) ≤ log_limit → add changes change ≡ Err refusal → ⊥
 no_refusal changes change refusal accepted within e =
-    let none = unrefusing (accept change (length (blocks changes)) (state_of changes)) (length (blocks changes)) (length (block change)) accepted within in
+    let none = unrefusing (accept change (state_of changes)) (length (blocks changes)) (length (block change)) accepted within in
     let ok = ap (λ r. added r (changes ++ change ∷ [])) none in
     let both : Ok (changes ++ change ∷ []) ≡ Err refusal = sym ok ∙ e in
     cc
@@ -56,20 +56,20 @@ no_refusal changes change refusal accepted within e =
 
 module _ (before : State) (at : ℕ) (change : Change) where
   -- why it is refused
-  pub refuses_so : (refusal : Refusal) → accept change at before ≡ Err refusal → refusal_to before at change ≡ Some refusal
+  pub refuses_so : (refusal : Refusal) → accept change before ≡ Err refusal → refusal_to before at change ≡ Some refusal
   refuses_so refusal is = ap (λ r. refused_or r (too_full at (length (block change)))) is
 
   -- it is accepted, but the log is full
-  pub refuses_full : (after : State) → accept change at before ≡ Ok after → log_limit < at + length (block change) → refusal_to before at change ≡ Some (LogFull at)
+  pub refuses_full : (after : State) → accept change before ≡ Ok after → log_limit < at + length (block change) → refusal_to before at change ≡ Some (LogFull at)
   refuses_full after is over = ap (λ r. refused_or r (too_full at (length (block change)))) is ∙ full_is at (length (block change)) over
 
   -- it is accepted, and there is room for it
-  pub refuses_none : (after : State) → accept change at before ≡ Ok after → at + length (block change) ≤ log_limit → refusal_to before at change ≡ None
+  pub refuses_none : (after : State) → accept change before ≡ Ok after → at + length (block change) ≤ log_limit → refusal_to before at change ≡ None
   refuses_none after is within = ap (λ r. refused_or r (too_full at (length (block change)))) is ∙ has_room at (length (block change)) within
 
   -- what it makes
-  pub makes_so : (after : State) → accept change at before ≡ Ok after → after ≡ state_after change at before
-  makes_so after is = is_after (accept change at before) before after is
+  pub makes_so : (after : State) → accept change before ≡ Ok after → after ≡ state_after change before
+  makes_so after is = is_after (accept change before) before after is
 
 -- a list refuses what its state refuses
 pub refuses : (changes : List Change) (change : Change) (end : ℕ) (refusal : Refusal) → end ≡ length (blocks changes) → refusal_to (state_of changes) end change ≡ Some refusal → add changes change ≡ Err refusal

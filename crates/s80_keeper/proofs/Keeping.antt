@@ -1,5 +1,5 @@
 -- One commit: what the log says of it, by the mark, as the keeper says it.
-use Rattle.std.proofs.Common.{◌≡◌, ◌⊎◌, inl, inr, ⊎_elim, ℕ, Bool, List, [], ◌∷◌, ◌++◌, length, Ok, refl, sym, ap, ◌∙◌, subst, length-append}
+use Rattle.std.proofs.Common.{◌≡◌, ◌⊎◌, inl, inr, ⊎_elim, ℕ, Bool, List, [], ◌∷◌, ◌++◌, length, Ok, sym, ap, ◌∙◌, subst, length-append}
 use Rattle.s80_change.specs.declared.change.Change.{Change}
 use Rattle.s80_disk.specs.declared.disk.FileId.{FileId}
 use Rattle.s80_disk.specs.Image.{Image}
@@ -7,15 +7,16 @@ use Rattle.s80_mark.specs.declared.mark.MarkState.{MarkState}
 use Rattle.s80_change.specs.Block.{block, blocks}
 use Rattle.s80_apply.specs.declared.step.Step.{Step}
 use Rattle.s80_apply.specs.Accept.{accept}
-use Rattle.s80_apply.specs.System.{SystemState, IsSystemOf, IsInstalled}
+use Rattle.s80_apply.specs.Placed.{accept_placed, placed_of}
+use Rattle.s80_apply.specs.System.{SystemState, HasPlaces, IsSystemOf, IsInstalled}
 use Rattle.s80_apply.specs.List.{IsBuilt, state_of}
-use Rattle.s80_apply.proofs.Lists.{built_more, state_is_more, is_accepted, is_after}
+use Rattle.s80_apply.proofs.lemmas.Lists.{built_more, places_are_more, state_is_more, is_accepted, is_after}
 use Rattle.s80_log.specs.Log.{LogEnd}
 use Rattle.s80_log.specs.Standing.{StandsFor as StandsByMark}
 use Rattle.s80_log.specs.Commit.{LeavesBeside, StandForEither, next_mark}
 use Rattle.s80_keeper.specs.Standing.{NamesNoImage, FilesStandFor, LeavesEither}
 use Rattle.s80_keeper.specs.Keeper.{KeeperState, Keeps}
-use Rattle.s80_keeper.specs.Answers.{PreparedChange, IsFor, AfterKeeping, longer, one_more}
+use Rattle.s80_keeper.specs.Answers.{PreparedChange, IsFor, PlacesFor, AfterKeeping, longer, one_more}
 use Rattle.s80_keeper.proofs.Counting.{counts_more}
 
 -- neither of two marks names an image
@@ -30,17 +31,22 @@ leaves_either before told_before file mark next changes all none also_none built
 module _ (changes : List Change) (system : SystemState) (prepared : PreparedChange) (ready : IsFor (state_of changes) system prepared) where
   pub built_kept : IsBuilt changes → IsBuilt (changes ++ prepared.change ∷ [])
   built_kept built =
-      let place = length (blocks changes) in
-      let made = ready.makes place in
-      built_more changes prepared.change (state_of changes) place refl refl built (is_accepted (accept prepared.change place (state_of changes)) made.0 made.1)
+      let made = ready.makes in
+      built_more changes prepared.change built (is_accepted (accept prepared.change (state_of changes)) made.0 made.1)
 
   -- the system once its step is installed at the end of their log
-  installed_kept : (end : ℕ) (now : SystemState) → end ≡ length (blocks changes) → IsInstalled system prepared.step end now → IsSystemOf now (state_of (changes ++ prepared.change ∷ []))
-  installed_kept end now here installed =
-      let before = state_of changes in
-      let made = ready.makes end in
-      let after = is_after (accept prepared.change end before) before made.0 made.1 in
-      subst (IsSystemOf now) (state_is_more changes prepared.change before end refl here made.0 after) (made.2 now installed)
+  installed_kept : (end : ℕ) (now : SystemState) → IsInstalled system prepared.step end now → IsSystemOf now (state_of (changes ++ prepared.change ∷ []))
+  installed_kept end now installed =
+      let made = ready.makes in
+      let after = is_after (accept prepared.change (state_of changes)) (state_of changes) made.0 made.1 in
+      subst (IsSystemOf now) (state_is_more changes prepared.change made.0 after) (made.2 end now installed)
+
+  -- with the places of its sources
+  places_kept : PlacesFor (placed_of changes) system prepared → (end : ℕ) (now : SystemState) → end ≡ length (blocks changes) → IsInstalled system prepared.step end now → HasPlaces now (placed_of (changes ++ prepared.change ∷ []))
+  places_kept places end now here installed =
+      let made = places end in
+      let after = is_after (accept_placed prepared.change end (placed_of changes)) (placed_of changes) made.0 made.1 in
+      subst (HasPlaces now) (places_are_more changes prepared.change end here made.0 after) (made.2 now installed)
 
 -- what is installed behind the code's own log is so behind the keeper's
 pub installed_at : (inside before : KeeperState) (step prepared : Step) (at : ℕ) (now : SystemState) → inside ≡ before → step ≡ prepared → at ≡ inside.log.end → IsInstalled inside.system step at now → IsInstalled before.system prepared before.log.end now
@@ -64,8 +70,8 @@ after_kept inside before log mark system count size change same size_is log_is m
     λ i. record { log = log_now i; mark = mark_now i; system = system; count = count_now i; fault = (same i).fault }
 
 -- the keeper after one change more is kept
-pub keeps_more : (tells : Bool) (reads : Image) (may_leave : Image → Type 0) (new_tells : Bool) (new_reads : Image) (new_leaves : Image → Type 0) (keeper now : KeeperState) (place : ℕ) (prepared : PreparedChange) (changes : List Change) → Keeps tells reads may_leave keeper changes → IsFor (state_of changes) keeper.system prepared → AfterKeeping (Ok place) prepared keeper now → StandsByMark new_tells new_reads new_leaves now.mark (changes ++ prepared.change ∷ []) → Keeps new_tells new_reads new_leaves now (changes ++ prepared.change ∷ [])
-keeps_more tells reads may_leave new_tells new_reads new_leaves keeper now place prepared changes keeps ready after stands =
+pub keeps_more : (tells : Bool) (reads : Image) (may_leave : Image → Type 0) (new_tells : Bool) (new_reads : Image) (new_leaves : Image → Type 0) (keeper now : KeeperState) (place : ℕ) (prepared : PreparedChange) (changes : List Change) → Keeps tells reads may_leave keeper changes → IsFor (state_of changes) keeper.system prepared → PlacesFor (placed_of changes) keeper.system prepared → AfterKeeping (Ok place) prepared keeper now → StandsByMark new_tells new_reads new_leaves now.mark (changes ++ prepared.change ∷ []) → Keeps new_tells new_reads new_leaves now (changes ++ prepared.change ∷ [])
+keeps_more tells reads may_leave new_tells new_reads new_leaves keeper now place prepared changes keeps ready places after stands =
     let made = after.1 in
     record {
       stands = stands;
@@ -73,7 +79,8 @@ keeps_more tells reads may_leave new_tells new_reads new_leaves keeper now place
       named = ap (λ (k : KeeperState). k.mark.log) made ∙ sym (ap (λ (k : KeeperState). k.log.number) made);
       end = ap (λ (k : KeeperState). k.mark.log_length) made ∙ sym (ap (λ (k : KeeperState). k.log.end) made);
       built = built_kept changes keeper.system prepared ready keeps.built;
-      system = installed_kept changes keeper.system prepared ready keeper.log.end now.system (sym keeps.end ∙ keeps.stands.files.whole) after.0;
+      system = installed_kept changes keeper.system prepared ready keeper.log.end now.system after.0;
+      places = places_kept changes keeper.system prepared ready places keeper.log.end now.system (sym keeps.end ∙ keeps.stands.files.whole) after.0;
       count = ap (λ (k : KeeperState). k.count) made ∙ counts_more changes keeper.count keeps.stands.files.list keeps.count ∙ sym (length-append changes (prepared.change ∷ []));
       faultless = ap (λ (k : KeeperState). k.fault) made ∙ keeps.faultless;
     }

@@ -1,12 +1,12 @@
+pub mod lemmas
 mod Counting
 mod Accepted
 mod Keeping
 mod Readings
 pub mod OneList
-pub mod Damages
 mod Replayed
+mod Unless
 mod Resumed
-pub mod Standing
 mod Starts
 mod Sourced
 mod Preparing

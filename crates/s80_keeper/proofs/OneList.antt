@@ -2,12 +2,12 @@
 use Rattle.std.proofs.Common.{◌≡◌, inl, inr, ℕ, zero, suc, ◌<◌, Bool, true, false, List, [], ◌∷◌, ◌++◌, length, take, Some, refl, sym, ap, ◌∙◌, arith, append-nil, length-append, if◌then◌else◌}
 use Rattle.std.proofs.lemmas.Grind.{flat_map-append}
 use Rattle.s80_change.specs.declared.change.Change.{Change}
-use Rattle.s80_change.specs.declared.frame.Frame.{Frame}
-use Rattle.s80_change.specs.declared.frame.Frame.TheVariants.{Plain, Section}
-use Rattle.s80_change.specs.Block.{framed, frame_of, block, blocks, IsLawful}
+use Rattle.s80_change.specs.declared.framing.Framing.{Framing}
+use Rattle.s80_change.specs.declared.framing.Framing.TheVariants.{Plain, Section}
+use Rattle.s80_change.specs.Block.{framed, framing_of, block, blocks, IsLawful}
 use Rattle.std.specs.List.{All}
 use Rattle.std.proofs.lemmas.List.Elements.{All-head, All-tail}
-use Rattle.s80_change.proofs.BlockLaws.{block_unique}
+use Rattle.s80_change.proofs.lemmas.BlockLaws.{block_unique}
 use Rattle.s80_disk.specs.declared.disk.FileId.TheVariants.{Mark, Log0, Log1}
 use Rattle.s80_disk.specs.Image.{Image}
 use Rattle.s80_mark.specs.declared.mark.MarkState.{MarkState}
@@ -17,13 +17,13 @@ use Rattle.s80_log.specs.Log.{log_file}
 use Rattle.s80_log.specs.Standing.{FilesStandFor as StandByMark, marked_part}
 use Rattle.s80_keeper.specs.Standing.{FilesStandFor}
 
--- a frame isn't empty
-framed_length : (frame : Frame) → 0 < length (framed frame)
+-- a framing isn't empty
+framed_length : (framing : Framing) → 0 < length (framed framing)
 framed_length (Plain text) = simp length-append (omega arith)
 framed_length (Section head source) = omega arith
 
 pub block_length : (change : Change) → 0 < length (block change)
-block_length change = framed_length (frame_of change)
+block_length change = framed_length (framing_of change)
 
 -- nor is a block
 some_block : (change : Change) (after : List ℕ) → [] ≡ block change ++ after → ⊥

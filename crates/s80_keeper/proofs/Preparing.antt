@@ -15,11 +15,11 @@ module _ (state : State) (end : ℕ) (change : Change) (now : SystemState) where
   -- the state refuses it, or there is no memory
   pub prepares_none : (why : Refused) → PreparesStep state change now (Err why) → Prepares state end change now (Err why)
   prepares_none refused.Memory is = tt
-  prepares_none (refused.Refusal refusal) is = refuses_so state end change refusal (is end)
+  prepares_none (refused.Refusal refusal) is = refuses_so state end change refusal is
 
   -- the log is full
   pub prepares_full : (step : Step) → PreparesStep state change now (Ok step) → log_limit < end + length (block change) → Prepares state end change now (Err (refused.Refusal (LogFull end)))
-  prepares_full step is over = let made = is end in refuses_full state end change made.0 made.1 over
+  prepares_full step is over = refuses_full state end change is.0 is.1 over
 
   -- there is room
   pub prepares_some : (step : Step) → PreparesStep state change now (Ok step) → IsReady now step → end + length (block change) ≤ log_limit → Prepares state end change now (Ok (record { change = change; step = step }))

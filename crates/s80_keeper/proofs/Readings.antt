@@ -6,10 +6,10 @@ use Rattle.std.proofs.lemmas.List.Elements.{All-head, All-tail}
 use Rattle.s80_change.specs.declared.change.Change.{Change}
 use Rattle.s80_form.specs.declared.refusal.Refusal.{Refusal}
 use Rattle.s80_change.specs.Block.{block, blocks, IsLawful, IsList}
-use Rattle.s80_change.proofs.BlockLaws.{block_unique}
+use Rattle.s80_change.proofs.lemmas.BlockLaws.{block_unique}
 use Rattle.s80_apply.specs.List.{IsBuilt, add}
 use Rattle.s80_change.specs.Blocks.{BeginsWithNone}
-use Rattle.s80_apply.proofs.Lists.{accepted_here}
+use Rattle.s80_apply.proofs.lemmas.Lists.{accepted_here}
 use Rattle.s80_keeper.proofs.Accepted.{no_refusal}
 
 -- the one reading goes further than the other, by more changes

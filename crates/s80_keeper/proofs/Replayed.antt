@@ -9,10 +9,11 @@ use Rattle.s80_change.specs.declared.change.Change.TheVariants.{Define, Method, 
 use Rattle.s80_change.specs.Block.{block, blocks, log_limit, IsLawful, IsList}
 use Rattle.s80_disk.specs.Image.{Image}
 use Rattle.s80_apply.specs.State.{State, kernel_state}
+use Rattle.s80_apply.specs.Placed.{PlacedState, accept_placed, placed_after, placed_kernel_state, placed_of}
 use Rattle.s80_apply.specs.Accept.{accept}
-use Rattle.s80_apply.specs.System.{SystemState, IsChecked, IsSystemOf}
+use Rattle.s80_apply.specs.System.{SystemState, HasPlaces, IsChecked, IsSystemOf}
 use Rattle.s80_apply.specs.List.{IsBuilt, state_of, state_after, refusal_to}
-use Rattle.s80_apply.proofs.Lists.{blocks_more, built_more, state_is_more}
+use Rattle.s80_apply.proofs.lemmas.Lists.{blocks_more, built_more, is_after, places_are_more, state_is_more}
 use Rattle.s80_log.specs.Log.{LogEnd, log_file, held_in}
 use Rattle.s80_change.specs.Blocks.{BeginsWith, BeginsWithNone}
 use Rattle.s80_log.specs.Faults.{IfBad}
@@ -32,9 +33,13 @@ lawful_checked (Method m) lawful = (lawful.check, lawful.short)
 lawful_checked (DoIt text) lawful = tt
 
 -- a change is accepted that makes this state, and this is a system of it
-pub accepted_so : (before after : State) (at : ℕ) (change : Change) (now : SystemState) → accept change at before ≡ Ok after → at + length (block change) ≤ log_limit → IsSystemOf now after → (refusal_to before at change ≡ None) × IsSystemOf now (state_after change at before)
+pub accepted_so : (before after : State) (at : ℕ) (change : Change) (now : SystemState) → accept change before ≡ Ok after → at + length (block change) ≤ log_limit → IsSystemOf now after → (refusal_to before at change ≡ None) × IsSystemOf now (state_after change before)
 accepted_so before after at change now is within made =
     (refuses_none before at change after is within, subst (IsSystemOf now) (makes_so before at change after is) made)
+
+-- and so it has the places of its sources
+pub placed_so : (before after : PlacedState) (at : ℕ) (change : Change) (now : SystemState) → accept_placed change at before ≡ Ok after → HasPlaces now after → HasPlaces now (placed_after change at before)
+placed_so before after at change now is made = subst (HasPlaces now) (is_after (accept_placed change at before) before after is) made
 
 -- a call that fails on no disk
 pub no_disk : {T : Type 0} (P : Failed → Type 0) (result : Result T StartFault) → IfStartDisk result (λ failed. ⊥) → IfStartDisk result P
@@ -51,11 +56,12 @@ pub record ReplayedTo (bytes : List ℕ) (place count : ℕ) (system : SystemSta
   pub read : bytes ≡ blocks changes ++ drop place bytes
   pub here : place ≡ length (blocks changes)
   pub made : IsSystemOf system (state_of changes)
+  pub placed : HasPlaces system (placed_of changes)
   pub counted : count ≡ length changes
 
-pub replayed_none : (bytes : List ℕ) (system : SystemState) → IsSystemOf system kernel_state → ReplayedTo bytes 0 0 system
-replayed_none bytes system kernel =
-    record { changes = []; list = record { lawful = All-nil IsLawful; within = omega arith }; built = tt; read = refl; here = refl; made = kernel; counted = refl }
+pub replayed_none : (bytes : List ℕ) (system : SystemState) → IsSystemOf system kernel_state → HasPlaces system placed_kernel_state → ReplayedTo bytes 0 0 system
+replayed_none bytes system kernel placed =
+    record { changes = []; list = record { lawful = All-nil IsLawful; within = omega arith }; built = tt; read = refl; here = refl; made = kernel; placed = placed; counted = refl }
 
 module _ (bytes : List ℕ) (place count : ℕ) (system : SystemState) (so_far : ReplayedTo bytes place count system) where
   -- what stands behind a block
@@ -64,21 +70,23 @@ module _ (bytes : List ℕ) (place count : ℕ) (system : SystemState) (so_far :
     read_more = so_far.read ∙ ap (λ l. blocks so_far.changes ++ l) begins.begins ∙ sym (append_assoc (blocks so_far.changes) (block change) begins.after)
 
     -- one block more, whose change isn't refused
-    pub replayed_more : {T : Type 0} (done : T) (next : ℕ) (now : SystemState) → next ≡ place + length (block change) → ((state : State) → IsSystemOf system state → Accepts state now place change (Ok done)) → ReplayedTo bytes next (count + 1) now
-    replayed_more done next now is accepts =
+    pub replayed_more : {T : Type 0} (done : T) (next : ℕ) (now : SystemState) → next ≡ place + length (block change) → ((state : State) → IsSystemOf system state → Accepts state now place change (Ok done))
+        → ((placed : PlacedState) → HasPlaces system placed → HasPlaces now (placed_after change place placed)) → ReplayedTo bytes next (count + 1) now
+    replayed_more done next now is accepts places =
         let before = state_of so_far.changes in
         let accepted = accepts before so_far.made in
         let more = blocks_more so_far.changes change in
-        let both = unrefused (accept change place before) place (length (block change)) accepted.0 in
+        let both = unrefused (accept change before) place (length (block change)) accepted.0 in
         let here : next ≡ length (blocks so_far.changes ++ block change) = rw (length-append (blocks so_far.changes) (block change)) (omega (arith, so_far.here, is)) in
         let after : drop next bytes ≡ begins.after = ap (λ n. drop n bytes) here ∙ ap (drop (length (blocks so_far.changes ++ block change))) read_more ∙ drop-append_seam (blocks so_far.changes ++ block change) begins.after in
         record {
           changes = so_far.changes ++ change ∷ [];
           list = record { lawful = All-push IsLawful so_far.changes change so_far.list.lawful begins.lawful; within = omega (arith, both.1, is, here, ap length more) };
-          built = built_more so_far.changes change before place refl so_far.here so_far.built both.0;
+          built = built_more so_far.changes change so_far.built both.0;
           read = read_more ∙ ap (λ l. l ++ begins.after) (sym more) ∙ ap (λ l. blocks (so_far.changes ++ change ∷ []) ++ l) (sym after);
           here = here ∙ sym (ap length more);
-          made = subst (IsSystemOf now) (state_is_more so_far.changes change before place refl so_far.here (state_after change place before) refl) accepted.1;
+          made = subst (IsSystemOf now) (state_is_more so_far.changes change (state_after change before) refl) accepted.1;
+          placed = subst (HasPlaces now) (places_are_more so_far.changes change place so_far.here (placed_after change place (placed_of so_far.changes)) refl) (places (placed_of so_far.changes) so_far.placed);
           counted = simp length-append (omega (arith, so_far.counted));
         }
 
@@ -124,6 +132,7 @@ module _ (bytes : List ℕ) (place count : ℕ) (system : SystemState) (so_far :
     so_far.read ∙ ap (λ l. blocks so_far.changes ++ l) (drop_of_length-le bytes past) ∙ append-nil (blocks so_far.changes),
     so_far.made,
     so_far.counted,
+    so_far.placed,
   )
 
 -- how long the part is that counts

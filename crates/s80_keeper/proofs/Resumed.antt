@@ -11,7 +11,8 @@ use Rattle.s80_mark.specs.declared.read.MarkFault.{MarkFault}
 use Rattle.s80_mark.specs.declared.read.MarkFault.TheVariants as mark_faults
 use Rattle.s80_mark.specs.Mark.{format_two}
 use Rattle.s80_mark.specs.Found.{IsAnswer}
-use Rattle.s80_apply.specs.System.{SystemState, IsSystemOf}
+use Rattle.s80_apply.specs.System.{SystemState, HasPlaces, IsSystemOf}
+use Rattle.s80_apply.specs.Placed.{placed_of}
 use Rattle.s80_apply.specs.List.{IsBuilt, state_of}
 use Rattle.s80_log.specs.Log.{LogEnd, held_in}
 use Rattle.s80_log.specs.Standing.{marked_part, StandsFor as StandsByMark}
@@ -23,7 +24,7 @@ use Rattle.s80_keeper.specs.Standing.{NamesNoImage, ReadsFor}
 use Rattle.s80_keeper.specs.Start.{HasMark, IsStart, Started, log_length, fault_of_mark}
 use Rattle.s80_keeper.specs.Reading.{IsFound, IsCountChecked, AreReplayed}
 use Rattle.s80_keeper.proofs.OneList.{one_mark, one_standing, some_log}
-use Rattle.s80_keeper.proofs.Damages.{no_list}
+use Rattle.s80_keeper.proofs.lemmas.Damages.{no_list}
 use Rattle.s80_keeper.proofs.Replayed.{held_length}
 
 -- why no mark is found
@@ -60,6 +61,7 @@ module _ (files : Image) (mark : MarkState) (has : HasMark files mark) (no_image
     record {
       log = ap (held_in files) same_log ∙ is.3;
       system = subst (λ system. IsSystemOf system (state_of is.0)) (sym same_system) is.4;
+      places = subst (λ system. HasPlaces system (placed_of is.0)) (sym same_system) is.6;
       count = same ∙ is.5;
     },
   )
@@ -163,6 +165,7 @@ module _ (tells : Bool) (reads : Image) (before now : Image → Type 0) (mark : 
         end = refl;
         built = stands_by.2;
         system = subst (λ list. IsSystemOf keeper.system (state_of list)) same is.2.system;
+        places = subst (λ list. HasPlaces keeper.system (placed_of list)) same is.2.places;
         count = is.2.count ∙ ap length same;
         faultless = refl;
       }

@@ -9,7 +9,8 @@ use Rattle.s80_class.specs.Table.{IsNumberOf}
 use Rattle.s80_dict.specs.Table.{methods_at}
 use Rattle.s80_disk.specs.Image.{Image}
 use Rattle.s80_apply.specs.State.{MethodRow}
-use Rattle.s80_apply.specs.Entries.{Entry, row_in}
+use Rattle.s80_apply.specs.Placed.{PlacedRow, placed_of}
+use Rattle.s80_apply.specs.Entries.{Entry, row_in, state_row}
 use Rattle.s80_apply.specs.List.{state_of}
 use Rattle.s80_apply.specs.Source.{AllStand, StandsAt, text_for}
 use Rattle.s80_log.specs.Log.{held_in}
@@ -56,17 +57,21 @@ module _ (files : Image) (keeper : KeeperState) (changes : List Change) (knows :
   abbrev entry_there : Option Entry
   entry_there = map.get (methods_at keeper.system.methods class side) selector
 
-  row_is : option_map row_in entry_there ≡ row_there
+  row_is : option_map state_row entry_there ≡ row_there
   row_is = (knows.system.methods class name side named).each selector
+
+  place_is : option_map row_in entry_there ≡ map.get ((placed_of changes).methods name side) selector
+  place_is = (knows.places.methods class name side named).each selector
 
   pub no_source : entry_there ≡ None → IsThis (option_map (λ row. row.source) row_there) (Ok None)
   no_source none =
-      let no_row : None ≡ row_there = ap (λ (e : Option Entry). option_map row_in e) (sym none) ∙ row_is in
+      let no_row : None ≡ row_there = ap (λ (e : Option Entry). option_map state_row e) (sym none) ∙ row_is in
       ap (λ (found : Option MethodRow). option_map (λ row. row.source) found) no_row
 
-  pub source_is : AllStand (blocks changes) (state_of changes) → (entry : Entry) → entry_there ≡ Some entry → (result : Result (List ℕ) BlockFault) → ((row : MethodRow) → StandsAt (held_in files keeper.log) row → row_in entry ≡ row → IsSource row.source result) → IsThis (option_map (λ row. row.source) row_there) (answered result)
+  pub source_is : AllStand (blocks changes) (placed_of changes) → (entry : Entry) → entry_there ≡ Some entry → (result : Result (List ℕ) BlockFault) → ((row : PlacedRow) → StandsAt (held_in files keeper.log) row → row_in entry ≡ row → IsSource row.source result) → IsThis (option_map (λ row. row.source) row_there) (answered result)
   source_is all entry there result reads =
-      let row : MethodRow = row_in entry in
-      let own : row_there ≡ Some row = sym row_is ∙ ap (λ (e : Option Entry). option_map row_in e) there in
-      let stands = subst (λ log. StandsAt log row) (sym knows.log) (all name side selector row own) in
+      let row : PlacedRow = row_in entry in
+      let own : row_there ≡ Some (state_row entry) = sym row_is ∙ ap (λ (e : Option Entry). option_map state_row e) there in
+      let place : map.get ((placed_of changes).methods name side) selector ≡ Some row = sym place_is ∙ ap (λ (e : Option Entry). option_map row_in e) there in
+      let stands = subst (λ log. StandsAt log row) (sym knows.log) (all name side selector row place) in
       subst (λ found. IsThis (option_map (λ row. row.source) found) (answered result)) (sym own) (this_so row.source result (reads row stands refl))

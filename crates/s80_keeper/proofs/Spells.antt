@@ -1,7 +1,7 @@
 -- The one text that bytes spell.
 use Rattle.std.proofs.Common.{◌≡◌, ◌≢◌, ℕ, ◌<◌, ◌≤◌, List, [], ◌∷◌, ◌++◌, length, get_or, sym, ap, ◌∙◌, arith, append-nil}
 use Rattle.s80_chunk.specs.Chunks.{mark, spell}
-use Rattle.s80_chunk.proofs.Spelling.{chunk_unique, not_ended}
+use Rattle.s80_chunk.proofs.lemmas.Spelling.{chunk_unique, not_ended}
 
 -- bytes spell one text at most
 pub one_text : (text other : List ℕ) → spell text ≡ spell other → text ≡ other

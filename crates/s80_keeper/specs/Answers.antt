@@ -8,8 +8,9 @@ use Rattle.s80_change.specs.Block.{block, log_limit}
 use Rattle.s80_disk.specs.Image.{Image}
 use Rattle.s80_apply.specs.declared.step.Step.{Step}
 use Rattle.s80_apply.specs.State.{State}
+use Rattle.s80_apply.specs.Placed.{PlacedState}
 use Rattle.s80_apply.specs.List.{refusal_to}
-use Rattle.s80_apply.specs.System.{SystemState, IsReady, IsInstalled, Makes}
+use Rattle.s80_apply.specs.System.{SystemState, IsReady, IsInstalled, Makes, MakesPlaces}
 use Rattle.s80_log.specs.Log.{LogEnd}
 use Rattle.s80_log.specs.Commit.{next_mark}
 use Rattle.s80_keeper.specs.declared.keep.KeepFault.{KeepFault}
@@ -25,7 +26,11 @@ pub record PreparedChange : Type 0 where
 -- it was prepared in this state: the step makes of the system what accepting the change makes of the state
 pub record IsFor (state : State) (system : SystemState) (prepared : PreparedChange) : Type 0 where
   pub ready : IsReady system prepared.step
-  pub makes : (at : ℕ) → Makes system prepared.step prepared.change state at
+  pub makes : Makes system prepared.step prepared.change state
+
+-- and where sources stand so: the step makes of their places what the change's block does
+abbrev pub PlacesFor : PlacedState → SystemState → PreparedChange → Type 0
+PlacesFor placed system prepared = MakesPlaces system prepared.step prepared.change placed
 
 -- what preparing a change answers, in this state and with a log of this length
 abbrev pub Prepares : State → ℕ → Change → SystemState → Result PreparedChange Refused → Type 0
@@ -72,3 +77,12 @@ IfKeepDisk (Err (faults.Closed failed)) P = ⊤
 IfKeepDisk (Err (faults.Full count)) P = ⊤
 IfKeepDisk (Err faults.Memory) P = ⊤
 IfKeepDisk (Err (faults.Damaged damage)) P = ⊤
+
+-- this holds, but where a call on the disk failed
+abbrev pub UnlessKeepDisk : {T : Type 0} → Result T KeepFault → Type 0 → Type 0
+UnlessKeepDisk (Ok value) P = P
+UnlessKeepDisk (Err (faults.Disk failed)) P = ⊤
+UnlessKeepDisk (Err (faults.Closed failed)) P = P
+UnlessKeepDisk (Err (faults.Full count)) P = P
+UnlessKeepDisk (Err faults.Memory) P = P
+UnlessKeepDisk (Err (faults.Damaged damage)) P = P

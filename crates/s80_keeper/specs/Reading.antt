@@ -11,7 +11,8 @@ use Rattle.s80_mark.specs.declared.read.Found.TheVariants.{Fresh, Mark as Marked
 use Rattle.s80_mark.specs.Mark.{format_two}
 use Rattle.s80_mark.specs.Found.{AreLogsEmpty}
 use Rattle.s80_apply.specs.State.{State}
-use Rattle.s80_apply.specs.System.{SystemState, IsSystemOf}
+use Rattle.s80_apply.specs.System.{SystemState, HasPlaces, IsSystemOf}
+use Rattle.s80_apply.specs.Placed.{placed_of}
 use Rattle.s80_apply.specs.List.{IsBuilt, state_of, state_after, refusal_to, add}
 use Rattle.s80_log.specs.Log.{LogEnd, log_file}
 use Rattle.s80_change.specs.Blocks.{BeginsWithNone}
@@ -44,10 +45,11 @@ IsCountChecked mark count (Err (faults.Damaged _)) = ⊥
 IsCountChecked mark count (Err faults.Memory) = ⊥
 IsCountChecked mark count (Err (faults.Disk failed)) = ⊥
 
--- the list whose blocks bytes are, by its length and the state that it makes, or what is wrong with them
+-- the list whose blocks bytes are, by its length and the state that it makes, with the places of its sources; or what is wrong with them
 abbrev pub AreReplayed : List ℕ → Result (SystemState × ℕ) StartFault → Type 0
 AreReplayed bytes (Ok found) =
     (changes : List Change) × IsList changes × IsBuilt changes × (bytes ≡ blocks changes) × IsSystemOf found.0 (state_of changes) × (found.1 ≡ length changes)
+    × HasPlaces found.0 (placed_of changes)
 AreReplayed bytes (Err (faults.Damaged (BadBlock place))) =
     (changes : List Change) × (rest : List ℕ) × IsList changes × IsBuilt changes × (bytes ≡ blocks changes ++ rest) × (place ≡ length (blocks changes)) × (place ≢ length bytes) × BeginsWithNone rest
 AreReplayed bytes (Err (faults.Damaged (Replay place number))) =
@@ -59,7 +61,7 @@ AreReplayed bytes (Err (faults.Disk failed)) = ⊤
 
 -- after the change of a block that begins at this place was to be accepted in this state
 abbrev pub Accepts : {T : Type 0} → State → SystemState → ℕ → Change → Result T StartFault → Type 0
-Accepts before now at change (Ok done) = (refusal_to before at change ≡ None) × IsSystemOf now (state_after change at before)
+Accepts before now at change (Ok done) = (refusal_to before at change ≡ None) × IsSystemOf now (state_after change before)
 Accepts before now at change (Err (faults.Damaged (Replay place number))) = (refusal : Refusal) × (refusal_to before at change ≡ Some refusal) × (place ≡ at) × (number ≡ refusal_number refusal)
 Accepts before now at change (Err (faults.Damaged _)) = ⊥
 Accepts before now at change (Err faults.Memory) = ⊤

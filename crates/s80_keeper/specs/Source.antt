@@ -34,9 +34,10 @@ IsReadBy files keeper entry (Err (faults.Disk failed)) = ⊤
 IsReadBy files keeper entry (Err (faults.Closed failed)) = ⊤
 IsReadBy files keeper entry (Err (faults.Full count)) = ⊥
 
--- a damage is told at the place of the method's source
+-- a damage is told at the place of the method's source, and that the log is full never
 abbrev pub IsPlaced : Option Entry → Result (Option (List ℕ)) KeepFault → Type 0
 IsPlaced entry (Err (faults.Damaged damage)) = (own : Entry) × (entry ≡ Some own) × (damage ≡ BadBlock own.position)
+IsPlaced entry (Err (faults.Full count)) = ⊥
 IsPlaced entry _ = ⊤
 
 -- the keeper after a source was to be read

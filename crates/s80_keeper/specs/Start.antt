@@ -83,6 +83,13 @@ IfStartDisk (Err (faults.Disk failed)) P = P failed
 IfStartDisk (Err faults.Memory) P = ⊤
 IfStartDisk (Err (faults.Damaged damage)) P = ⊤
 
+-- this holds, but where a call on the disk failed
+abbrev pub UnlessStartDisk : {T : Type 0} → Result T StartFault → Type 0 → Type 0
+UnlessStartDisk (Ok value) P = P
+UnlessStartDisk (Err (faults.Disk failed)) P = ⊤
+UnlessStartDisk (Err faults.Memory) P = P
+UnlessStartDisk (Err (faults.Damaged damage)) P = P
+
 -- what the faults of the calls below are for a start
 abbrev pub fault_of_mark : MarkFault → StartFault
 fault_of_mark (mark_faults.Disk failed) = faults.Disk failed

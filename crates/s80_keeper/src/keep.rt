@@ -8,11 +8,12 @@ ghost use Rattle.s80_disk.specs.declared.disk.FileId.{FileId};
 ghost use Rattle.s80_disk.specs.declared.disk.FileId.TheVariants.{Mark};
 ghost use Rattle.s80_disk.specs.Moments.{Beside, LeavesOnly};
 ghost use Rattle.s80_apply.specs.List.{state_of};
+ghost use Rattle.s80_apply.specs.Placed.{placed_of};
 ghost use Rattle.s80_apply.specs.System.{IsReady};
 ghost use Rattle.s80_log.specs.Log.{log_file};
 ghost use Rattle.s80_keeper.specs.Keeper.{Keeps};
 ghost use Rattle.s80_keeper.specs.Standing.{LeavesEither};
-ghost use Rattle.s80_keeper.specs.Answers.{AfterKeeping, IsFor, Kept, IfKeepDisk};
+ghost use Rattle.s80_keeper.specs.Answers.{AfterKeeping, IsFor, Kept, IfKeepDisk, PlacesFor, UnlessKeepDisk};
 
 use crate::keeper::{Keeper, Prepared};
 use crate::start::Damage;
@@ -50,10 +51,12 @@ impl Keeper {
         // the change; after Ok the disk stands for that.
         ensures any_moment { (changes : List Change)
             → Keeps (D.tells disk.old) (D.reads disk.old) (D.may_leave disk.old) self.old changes → IsLawful prepared.change → IsFor (state_of changes) self.old.system prepared
+            → PlacesFor (placed_of changes) self.old.system prepared
             → LeavesOnly D.moment D.left_since disk.old disk.new
             (LeavesEither (D.beside disk.old).told changes (changes ++ prepared.change ∷ [])) }
         ensures kept { (changes : List Change)
             → Keeps (D.tells disk.old) (D.reads disk.old) (D.may_leave disk.old) self.old changes → IsLawful prepared.change → IsFor (state_of changes) self.old.system prepared
+            → PlacesFor (placed_of changes) self.old.system prepared
             → Kept result (D.tells disk.new) (D.reads disk.new) (D.may_leave disk.new) self.new changes prepared.change }
 
         // After a fault of the disk each call answers it, and none is made.
@@ -69,6 +72,7 @@ impl Keeper {
         ensures beside { D.beside disk.new ≡ D.beside disk.old }
         ensures later { D.disk_faults disk.old ≤ D.disk_faults disk.new }
         ensures cause { IfKeepDisk result (λ failed. Rose (D.disk_faults disk.old) (D.disk_faults disk.new)) }
+        ensures faults_stay { UnlessKeepDisk result (D.disk_faults disk.new ≡ D.disk_faults disk.old) }
         ensures named { IfKeepDisk result (λ failed. (failed.call ≡ Read) ⊎ (failed.call ≡ Write) ⊎ (failed.call ≡ Sync)) }
     {
         let (block, step) = prepared.parts();

@@ -2,8 +2,9 @@
 ghost use Rattle.std.specs.Prelude.{◌≡◌, ◌≤◌, length, IfOk};
 ghost use Rattle.s80_change.specs.Block.{block as block_of};
 ghost use Rattle.s80_apply.specs.State.{State};
-ghost use Rattle.s80_apply.specs.System.{IsChecked, IsReady, IsSystemOf, offset_of};
-ghost use Rattle.s80_keeper.specs.Answers.{Prepares};
+ghost use Rattle.s80_apply.specs.Placed.{PlacedState};
+ghost use Rattle.s80_apply.specs.System.{HasPlaces, IsChecked, IsReady, IsSystemOf, offset_of};
+ghost use Rattle.s80_keeper.specs.Answers.{PlacesFor, Prepares};
 
 use s80_apply::{Step, System};
 use s80_base::{Failed, Text};
@@ -78,9 +79,11 @@ impl Keeper {
     pub fn prepare(&mut self, alloc: Global, change: Change) -> Result<Prepared, Refused>
         requires { IsChecked change }
         ensures answer { (state : State) → IsSystemOf self.old.system state → Prepares state self.old.log.end change self.new.system result }
+        ensures places { (placed : PlacedState) → HasPlaces self.old.system placed → IfOk result (PlacesFor placed self.new.system) }
         ensures ready { IfOk result (λ prepared. IsReady self.new.system prepared.step) }
         ensures same { self.new ≡ record self.old { system = self.new.system } }
         ensures system { (state : State) → IsSystemOf self.old.system state → IsSystemOf self.new.system state }
+        ensures same_places { (placed : PlacedState) → HasPlaces self.old.system placed → HasPlaces self.new.system placed }
         ensures names { self.new.system.table.names ≡ self.old.system.table.names }
     {
         let step = self.system.prepare(alloc, &change)?;

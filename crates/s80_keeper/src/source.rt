@@ -8,11 +8,11 @@ ghost use Rattle.s80_change.specs.declared.change.Change.{Change};
 ghost use Rattle.s80_class.specs.Classes.{Name};
 ghost use Rattle.s80_class.specs.Table.{IsNumberOf};
 ghost use Rattle.s80_dict.specs.Table.{methods_at};
+ghost use Rattle.s80_disk.specs.Untouched.{IsUntouched};
 ghost use Rattle.s80_apply.specs.List.{state_of};
-ghost use Rattle.s80_keeper.specs.Answers.{IfKeepDisk};
+ghost use Rattle.s80_keeper.specs.Answers.{IfKeepDisk, UnlessKeepDisk};
 ghost use Rattle.s80_keeper.specs.Keeper.{Knows};
 ghost use Rattle.s80_keeper.specs.Source.{IsPlaced, IsReadBy, IsThis, after_reading};
-ghost use Rattle.s80_keeper.specs.Untouched.{IsUntouched};
 
 use crate::keep::KeepFault;
 use crate::keeper::Keeper;
@@ -51,6 +51,7 @@ impl Keeper {
 
         ensures untouched { IsUntouched D.tells D.reads D.may_leave D.moment D.left_since D.beside D.disk_faults disk.old disk.new }
         ensures cause { IfKeepDisk result (λ failed. Rose (D.disk_faults disk.old) (D.disk_faults disk.new)) }
+        ensures faults_stay { UnlessKeepDisk result (D.disk_faults disk.new ≡ D.disk_faults disk.old) }
         ensures named { IfKeepDisk result (λ failed. failed.call ≡ Read) }
     {
         sources_stand();

@@ -1,12 +1,10 @@
 // The sources of methods, read again.
-ghost use Rattle.std.specs.Prelude.{◌≡◌, ◌+◌, ◌≤◌, nat_le, ℕ, List, IfErr, IsTrue};
+ghost use Rattle.std.specs.Prelude.{◌≡◌, ◌+◌, nat_le, IfErr, IsTrue};
 ghost use Rattle.s80_base.specs.Causes.{Rose};
 ghost use Rattle.s80_base.specs.declared.outside.Call.TheVariants.{Read};
-ghost use Rattle.s80_disk.specs.declared.disk.FileId.{FileId};
-ghost use Rattle.s80_disk.specs.Moments.{Beside, LeavesOnly};
-ghost use Rattle.s80_mark.specs.Stays.{StillLeft};
+ghost use Rattle.s80_disk.specs.Untouched.{IsUntouched};
 ghost use Rattle.s80_kernel.specs.Text.{kernel_text};
-ghost use Rattle.s80_apply.specs.State.{MethodRow};
+ghost use Rattle.s80_apply.specs.Placed.{PlacedRow};
 ghost use Rattle.s80_apply.specs.Source.{StandsAt, text_for};
 ghost use Rattle.s80_apply.specs.Entries.{row_in};
 ghost use Rattle.s80_log.specs.Log.{held_in};
@@ -31,20 +29,14 @@ pub fn read_source<D: Disk, C>(
 ) -> Result<Text, BlockFault>
     ensures answer { IsTrue (D.tells disk.old)
         → IsRead (text_for entry.now.from_kernel (held_in (D.reads disk.old) log.now)) entry.now.position entry.now.length result }
-    ensures stands { IsTrue (D.tells disk.old) → (row : MethodRow)
+    ensures stands { IsTrue (D.tells disk.old) → (row : PlacedRow)
         → StandsAt (held_in (D.reads disk.old) log.now) row → row_in entry.now ≡ row → IsThis row.source result }
     ensures bad { IfErr result (λ fault. IfBad fault (λ place. place ≡ entry.now.position)) }
 
     ensures kernel { IsTrue entry.now.from_kernel → IsRead kernel_text entry.now.position entry.now.length result }
     ensures uncalled { IsTrue entry.now.from_kernel → disk.new ≡ disk.old }
 
-    ensures tells { D.tells disk.new ≡ D.tells disk.old }
-    ensures same { (file : FileId) → D.reads disk.new file ≡ D.reads disk.old file }
-    ensures crash { (c : FileId → List ℕ) → D.may_leave disk.new c → D.may_leave disk.old c }
-    ensures any_moment { LeavesOnly D.moment D.left_since disk.old disk.new
-        (StillLeft (D.may_leave disk.old) (D.beside disk.old).told) }
-    ensures beside { D.beside disk.new ≡ D.beside disk.old }
-    ensures later { D.disk_faults disk.old ≤ D.disk_faults disk.new }
+    ensures untouched { IsUntouched D.tells D.reads D.may_leave D.moment D.left_since D.beside D.disk_faults disk.old disk.new }
     ensures cause { IfErr result
         (λ fault. IfBlockDisk fault (λ failed. Rose (D.disk_faults disk.old) (D.disk_faults disk.new))) }
     ensures faults_stay { UnlessBlockDisk result (D.disk_faults disk.new ≡ D.disk_faults disk.old) }
@@ -84,13 +76,7 @@ fn log_source<D: Disk>(
 ) -> Result<Text, BlockFault>
     ensures answer { IsTrue (D.tells disk.old) → IsRead (held_in (D.reads disk.old) log.now) position size result }
     ensures bad { IfErr result (λ fault. IfBad fault (λ place. place ≡ position)) }
-    ensures tells { D.tells disk.new ≡ D.tells disk.old }
-    ensures same { (file : FileId) → D.reads disk.new file ≡ D.reads disk.old file }
-    ensures crash { (c : FileId → List ℕ) → D.may_leave disk.new c → D.may_leave disk.old c }
-    ensures any_moment { LeavesOnly D.moment D.left_since disk.old disk.new
-        (StillLeft (D.may_leave disk.old) (D.beside disk.old).told) }
-    ensures beside { D.beside disk.new ≡ D.beside disk.old }
-    ensures later { D.disk_faults disk.old ≤ D.disk_faults disk.new }
+    ensures untouched { IsUntouched D.tells D.reads D.may_leave D.moment D.left_since D.beside D.disk_faults disk.old disk.new }
     ensures cause { IfErr result
         (λ fault. IfBlockDisk fault (λ failed. Rose (D.disk_faults disk.old) (D.disk_faults disk.new))) }
     ensures faults_stay { UnlessBlockDisk result (D.disk_faults disk.new ≡ D.disk_faults disk.old) }

@@ -9,14 +9,15 @@ ghost use Rattle.s80_disk.specs.declared.disk.FileId.{FileId};
 ghost use Rattle.s80_disk.specs.declared.disk.FileId.TheVariants.{Mark};
 ghost use Rattle.s80_disk.specs.Image.{Only};
 ghost use Rattle.s80_disk.specs.Moments.{Beside, LeavesOnly};
+ghost use Rattle.s80_disk.specs.Untouched.{IsUntouched};
 ghost use Rattle.s80_mark.specs.Found.{IsLawfulFound, longer_log};
 ghost use Rattle.s80_apply.specs.State.{State};
-ghost use Rattle.s80_apply.specs.System.{IsChecked, IsSystemOf};
+ghost use Rattle.s80_apply.specs.Placed.{PlacedState, placed_after};
+ghost use Rattle.s80_apply.specs.System.{HasPlaces, IsChecked, IsSystemOf};
 ghost use Rattle.s80_log.specs.Log.{log_file, held_in};
 ghost use Rattle.s80_keeper.specs.Standing.{NamesNoImage, ReadsFor, StandsFor, LeavesFor};
-ghost use Rattle.s80_keeper.specs.Start.{HasMark, IsStart, Started, StartLeaves, IfStartDisk};
+ghost use Rattle.s80_keeper.specs.Start.{HasMark, IsStart, Started, StartLeaves, IfStartDisk, UnlessStartDisk};
 ghost use Rattle.s80_keeper.specs.Reading.{IsFound, IsLengthChecked, IsCountChecked, AreReplayed, Accepts};
-ghost use Rattle.s80_keeper.specs.Untouched.{IsUntouched};
 
 use crate::keeper::Keeper;
 use s80_apply::{System, boot};
@@ -134,6 +135,7 @@ impl Keeper {
         ensures beside { D.beside disk.new ≡ D.beside disk.old }
         ensures later { D.disk_faults disk.old ≤ D.disk_faults disk.new }
         ensures cause { IfStartDisk result (λ failed. Rose (D.disk_faults disk.old) (D.disk_faults disk.new)) }
+        ensures faults_stay { UnlessStartDisk result (D.disk_faults disk.new ≡ D.disk_faults disk.old) }
         ensures named { IfStartDisk result (λ failed.
             (failed.call ≡ Length) ⊎ (failed.call ≡ Read) ⊎ (failed.call ≡ Write) ⊎ (failed.call ≡ Sync)) }
     {
@@ -173,6 +175,7 @@ impl Keeper {
         ensures image { IfOk result (λ keeper. NamesNoImage mark) }
         ensures untouched { IsUntouched D.tells D.reads D.may_leave D.moment D.left_since D.beside D.disk_faults disk.old disk.new }
         ensures cause { IfStartDisk result (λ failed. Rose (D.disk_faults disk.old) (D.disk_faults disk.new)) }
+        ensures faults_stay { UnlessStartDisk result (D.disk_faults disk.new ≡ D.disk_faults disk.old) }
         ensures named { IfStartDisk result (λ failed. (failed.call ≡ Length) ⊎ (failed.call ≡ Read)) }
     {
         if mark.image != NO_IMAGE {
@@ -193,6 +196,7 @@ fn find_mark<D: Disk>(disk: &mut D) -> Result<Found, StartFault>
     ensures durable { IfOk result (λ _. Only Mark (D.reads disk.old Mark) (D.may_leave disk.new)) }
     ensures untouched { IsUntouched D.tells D.reads D.may_leave D.moment D.left_since D.beside D.disk_faults disk.old disk.new }
     ensures cause { IfStartDisk result (λ failed. Rose (D.disk_faults disk.old) (D.disk_faults disk.new)) }
+    ensures faults_stay { UnlessStartDisk result (D.disk_faults disk.new ≡ D.disk_faults disk.old) }
     ensures named { IfStartDisk result (λ failed. (failed.call ≡ Length) ⊎ (failed.call ≡ Read) ⊎ (failed.call ≡ Sync)) }
 {
     disk.sync(FileId::Mark)?;
@@ -204,6 +208,7 @@ fn check_length<D: Disk>(disk: &mut D, log: &Log) -> Result<(), StartFault>
     ensures answer { IsTrue (D.tells disk.old) → IsLengthChecked (D.reads disk.old) log.now result }
     ensures untouched { IsUntouched D.tells D.reads D.may_leave D.moment D.left_since D.beside D.disk_faults disk.old disk.new }
     ensures cause { IfStartDisk result (λ failed. Rose (D.disk_faults disk.old) (D.disk_faults disk.new)) }
+    ensures faults_stay { UnlessStartDisk result (D.disk_faults disk.new ≡ D.disk_faults disk.old) }
     ensures named { IfStartDisk result (λ failed. failed.call ≡ Length) }
 {
     let found = disk.length(log.file())?;
@@ -229,6 +234,7 @@ fn replay<D: Disk>(alloc: Global, disk: &mut D, log: &Log) -> Result<(System, u6
         → AreReplayed (held_in (D.reads disk.old) log.now) result }
     ensures untouched { IsUntouched D.tells D.reads D.may_leave D.moment D.left_since D.beside D.disk_faults disk.old disk.new }
     ensures cause { IfStartDisk result (λ failed. Rose (D.disk_faults disk.old) (D.disk_faults disk.new)) }
+    ensures faults_stay { UnlessStartDisk result (D.disk_faults disk.new ≡ D.disk_faults disk.old) }
     ensures named { IfStartDisk result (λ failed. failed.call ≡ Read) }
 {
     let mut system = boot(alloc)?;
@@ -254,6 +260,7 @@ fn accept_owned(
     requires next { next ≡ at + length (block change) }
     requires checked { IsChecked change }
     ensures answer { (state : State) → IsSystemOf system.old state → Accepts state system.new at change result }
+    ensures places { (placed : PlacedState) → HasPlaces system.old placed → IfOk result (λ _. HasPlaces system.new (placed_after change at placed)) }
     ensures offline { IfStartDisk result (λ failed. ⊥) }
 {
     accept(alloc, system, &change, at, next)
@@ -270,6 +277,7 @@ fn accept(
     requires next { next ≡ at + length (block change.now) }
     requires checked { IsChecked change.now }
     ensures answer { (state : State) → IsSystemOf system.old state → Accepts state system.new at change.now result }
+    ensures places { (placed : PlacedState) → HasPlaces system.old placed → IfOk result (λ _. HasPlaces system.new (placed_after change.now at placed)) }
     ensures offline { IfStartDisk result (λ failed. ⊥) }
 {
     match system.prepare(alloc, change) {

@@ -11,8 +11,9 @@ use Rattle.std.proofs.lemmas.List.Elements.{All-cons, All-nil, All-head, All-tai
 use Rattle.std.proofs.lemmas.List.Kept.{AllPairs-cons}
 use Rattle.std.proofs.lemmas.List.Sums.{AllPass-from_list_all}
 use Rattle.std.proofs.lemmas.Slice.Eq.{bytes_eq-Decides}
+use Rattle.s80_base.specs.Byte.{is_separator}
 use Rattle.s80_kernel.specs.declared.methods.KernelMethod.{KernelMethod}
-use Rattle.s80_kernel.specs.Methods.{IsBegun, IsPlainSource, KernelMethodRow, MethodPlace, StandsIn, held_place, holds_method, is_method, is_separator, kernel_methods, key_of, place_of}
+use Rattle.s80_kernel.specs.Methods.{IsBegun, IsPlainSource, KernelMethodRow, MethodPlace, StandsIn, held_place, holds_method, is_method, kernel_methods, key_of, place_of}
 use Rattle.s80_kernel.specs.Text.{kernel_text}
 use Rattle.s80_kernel.proofs.MethodTests.{all_stand, apart, is_begun, is_other, is_plain, stands}
 

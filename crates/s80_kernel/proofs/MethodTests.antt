@@ -2,9 +2,10 @@
 use Rattle.std.proofs.Common.{◌≡◌, ℕ, ◌+◌, Bool, true, false, not, ◌&&◌, ◌==◌, nat_le, List, [], ◌∷◌, length, map, slice_range, refl}
 use Rattle.std.specs.List.{list_all, flat_map}
 use Rattle.std.specs.Str.{bytes_eq}
+use Rattle.s80_base.specs.Byte.{is_separator}
 use Rattle.s80_kernel.specs.Rows.{is_kernel_class}
 use Rattle.s80_kernel.specs.Text.{kernel_text, sections}
-use Rattle.s80_kernel.specs.Methods.{KernelMethodRow, all_filed_in, filed_in, is_method, is_separator, kernel_methods}
+use Rattle.s80_kernel.specs.Methods.{KernelMethodRow, all_filed_in, filed_in, is_method, kernel_methods}
 
 abbrev pub stands : List ℕ → KernelMethodRow → Bool
 stands text row =

@@ -1,8 +1,9 @@
 -- The methods of the kernel, each with its selector and the place of its source in the text.
-use Rattle.std.specs.Prelude.{◌≡◌, ◌≢◌, ℕ, ◌+◌, ◌≤◌, ◌==◌, ◌||◌, ◌&&◌, Bool, false, Option, List, [], ◌∷◌, ◌++◌, codes, length, map, find, slice_range}
+use Rattle.std.specs.Prelude.{◌≡◌, ◌≢◌, ℕ, ◌+◌, ◌≤◌, ◌&&◌, Bool, false, Option, List, [], ◌∷◌, ◌++◌, codes, length, map, find, slice_range}
 use Rattle.std.specs.List.{All}
 use Rattle.std.specs.Str.{bytes_eq}
 use Rattle.std.specs.Bool.{beq}
+use Rattle.s80_base.specs.Byte.{is_separator}
 use Rattle.s80_kernel.specs.declared.methods.KernelMethod.{KernelMethod}
 use Rattle.s80_kernel.specs.Text.{Section, sections, spec_of, section_text}
 
@@ -98,10 +99,6 @@ held_place m = record { class = m.class_name.now; on_class_side = m.on_class_sid
 pub record StandsIn (text : List ℕ) (row : KernelMethodRow) : Type 0 where
   pub ends : row.position + length row.source ≤ length text
   pub same : slice_range text row.position (row.position + length row.source) ≡ row.source
-
--- space, tab, line feed, form feed and carriage return
-abbrev pub is_separator : ℕ → Bool
-is_separator b = b == 32 || b == 9 || b == 10 || b == 12 || b == 13
 
 -- There is a first byte, and it is no separator.
 abbrev pub IsBegun : List ℕ → Type 0

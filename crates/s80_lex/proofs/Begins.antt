@@ -8,7 +8,7 @@ use Rattle.s80_lex.specs.Spelling.{IsToken, IsNumber, IsRun, IsOperator}
 use Rattle.std.specs.Char.{is_ascii_digit}
 use Rattle.s80_lex.specs.Front.{first_class}
 use Rattle.s80_lex.proofs.Classes.{digit_class}
-use Rattle.s80_lex.proofs.Selectors.{binary_first}
+use Rattle.s80_lex.proofs.lemmas.Selectors.{binary_first}
 use Rattle.s80_lex.proofs.Words.{name_first, keyword_shows}
 
 -- the kinds that a class begins

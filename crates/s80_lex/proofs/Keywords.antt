@@ -7,7 +7,7 @@ use Rattle.s80_lex.specs.declared.class.Class.TheVariants.{Letter}
 use Rattle.s80_lex.specs.Spelling.{IsName, IsKeyword, AreKeywords, keyword, NotNext}
 use Rattle.s80_lex.specs.Front.{first_class, IsMost, Lacks}
 use Rattle.s80_lex.proofs.Classes.{letter_differs}
-use Rattle.s80_lex.proofs.Fronts.{split_same}
+use Rattle.s80_lex.proofs.lemmas.Fronts.{split_same}
 use Rattle.s80_lex.proofs.Stages.{take_both}
 use Rattle.s80_lex.proofs.Words.{name_first, keyword_run, keyword_length}
 
@@ -26,19 +26,27 @@ some_push (n ∷ names) name e = cc
 
 pub one_keyword : (word rest : List ℕ) → IsKeyword word rest → AreKeywords word rest
 one_keyword word rest k = record {
-  names = k.name ∷ [];
-  some = some_push [] k.name;
-  named = (k.named, tt);
-  spelled = k.spelled ∙ sym (append-nil (keyword k.name));
+  count = 1;
+  joined = record {
+    names = k.name ∷ [];
+    some = some_push [] k.name;
+    named = (k.named, tt);
+    spelled = k.spelled ∙ sym (append-nil (keyword k.name));
+    counted = refl;
+  };
   ended = k.ended;
 }
 
 pub more_keywords : (words word rest : List ℕ) → AreKeywords words (word ++ rest) → IsKeyword word rest → AreKeywords (words ++ word) rest
 more_keywords words word rest h k = record {
-  names = h.names ++ k.name ∷ [];
-  some = some_push h.names k.name;
-  named = named_push h.names k.name h.named k.named;
-  spelled = ap (λ w. w ++ word) h.spelled ∙ ap (λ w. flat_map keyword h.names ++ w) k.spelled ∙ sym (joined_push h.names k.name);
+  count = length (h.joined.names ++ k.name ∷ []);
+  joined = record {
+    names = h.joined.names ++ k.name ∷ [];
+    some = some_push h.joined.names k.name;
+    named = named_push h.joined.names k.name h.joined.named k.named;
+    spelled = ap (λ w. w ++ word) h.joined.spelled ∙ ap (λ w. flat_map keyword h.joined.names ++ w) k.spelled ∙ sym (joined_push h.joined.names k.name);
+    counted = refl;
+  };
   ended = k.ended;
 }
 
@@ -68,10 +76,11 @@ keywords_most n text fits h none = record {
   fits = fits;
   here = h;
   longest = λ w r t k.
-      let s : flat_map keyword k.names ++ r ≡ flat_map keyword h.names ++ drop n text =
-      ap (λ l. l ++ r) (sym k.spelled) ∙ t ∙ sym (take-append-drop n text) ∙ ap (λ l. l ++ drop n text) h.spelled in
-      let short : length (flat_map keyword k.names) ≤ length (flat_map keyword h.names) = joined_longest k.names h.names r (drop n text) k.named h.named k.ended none s in
-      omega (arith, ap length k.spelled, ap length h.spelled, length-take-le n text fits);
+      let s : flat_map keyword k.joined.names ++ r ≡ flat_map keyword h.joined.names ++ drop n text =
+      ap (λ l. l ++ r) (sym k.joined.spelled) ∙ t ∙ sym (take-append-drop n text) ∙ ap (λ l. l ++ drop n text) h.joined.spelled in
+      let short : length (flat_map keyword k.joined.names) ≤ length (flat_map keyword h.joined.names) =
+      joined_longest k.joined.names h.joined.names r (drop n text) k.joined.named h.joined.named k.ended none s in
+      omega (arith, ap length k.joined.spelled, ap length h.joined.spelled, length-take-le n text fits);
 }
 
 -- joined keywords begin with a keyword
@@ -82,7 +91,7 @@ first_keyword (n ∷ names) word rest text some h s e t none =
     (record { name = n; named = h.0; spelled = refl; ended = not_next names rest h.1 e })
 
 pub no_keywords : (text : List ℕ) → Lacks IsKeyword text → Lacks AreKeywords text
-no_keywords text none w r t k = first_keyword k.names w r text k.some k.named k.spelled k.ended t none
+no_keywords text none w r t k = first_keyword k.joined.names w r text k.joined.some k.joined.named k.joined.spelled k.ended t none
 
 -- and with a letter
 pub keywords_first : (names : List (List ℕ)) (word rest : List ℕ) → names ≢ [] → AllByRecursion IsName names → word ≡ flat_map keyword names → first_class (word ++ rest) ≡ Letter

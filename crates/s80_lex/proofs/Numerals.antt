@@ -10,7 +10,7 @@ use Rattle.s80_lex.specs.declared.digits.Digits.{Digits}
 use Rattle.s80_lex.specs.declared.digits.Digits.TheVariants.{Decimal, Capital}
 use Rattle.s80_lex.specs.Spelling.{IsRun, Passes, IsFraction, IsPower, IsExponent, IsScaled, IsInRadix, IsNumber, is_digit_or_capital}
 use Rattle.s80_lex.specs.Front.{IsMost, passes, run_len, after_mark, with_mark, or_else, fraction_len, power_len, exponent_len, scaled_len, in_radix_len, number_len}
-use Rattle.s80_lex.proofs.Runs.{run_passes, run_longest, run_ends}
+use Rattle.s80_lex.proofs.lemmas.Runs.{run_passes, run_longest, run_ends}
 use Rattle.s80_lex.proofs.Stages.{Stage, Seq, seq}
 
 -- The longest front of a form that has at least one byte, if there is one.

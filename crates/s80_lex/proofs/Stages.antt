@@ -2,7 +2,7 @@
 use Rattle.std.proofs.Common.{◌≡◌, ℕ, ◌+◌, ◌≤◌, ◌<◌, ◌⊎◌, inl, inr, List, [], ◌∷◌, ◌++◌, take, drop, length, refl, ap, sym, ◌∙◌, arith, append_assoc, length-append, take-append-drop, length-drop, length-take-le}
 use Rattle.std.proofs.Math.Seq.{take-append-add}
 use Rattle.std.proofs.lemmas.Bool.{cases_lt}
-use Rattle.s80_lex.proofs.Fronts.{split_same}
+use Rattle.s80_lex.proofs.lemmas.Fronts.{split_same}
 
 -- The longest front of a form. What follows a shorter one begins nothing that may stand behind the form.
 pub record Stage (P : List ℕ → Type 0) (Blocks : ℕ → Type 0) (n : ℕ) (text : List ℕ) : Type 0 where

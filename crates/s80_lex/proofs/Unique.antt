@@ -17,11 +17,11 @@ use Rattle.s80_lex.specs.Number.{IsLawfulNumber}
 use Rattle.s80_lex.specs.Text.{IsLongest, IsPart, AreParts, AreTokens, IsUnended, IsBadNumber, IsStuck, IsFaultAt, IsFirstFault, text_of, tokens_of}
 use Rattle.s80_lex.specs.Front.{first_class}
 use Rattle.s80_lex.proofs.Begins.{Begins, token_begins, number_first}
-use Rattle.s80_lex.proofs.Fronts.{split_same}
-use Rattle.s80_lex.proofs.Quotes.{one_quoted, unended_or_quoted}
-use Rattle.s80_lex.proofs.Runs.{run_longest}
-use Rattle.s80_lex.proofs.Signs.{no_selector, symbol_left}
-use Rattle.s80_lex.proofs.Standing.{BeginsPart, part_begins, part_some}
+use Rattle.s80_lex.proofs.lemmas.Fronts.{split_same}
+use Rattle.s80_lex.proofs.lemmas.Quotes.{one_quoted, unended_or_quoted}
+use Rattle.s80_lex.proofs.lemmas.Runs.{run_longest}
+use Rattle.s80_lex.proofs.lemmas.Signs.{no_selector, symbol_left}
+use Rattle.s80_lex.proofs.lemmas.Standing.{BeginsPart, part_begins, part_some}
 use Rattle.s80_lex.proofs.Words.{name_passes, keyword_shows}
 
 -- one word is of one kind

@@ -9,8 +9,8 @@ use Rattle.s80_lex.specs.declared.class.Class.TheVariants.{Letter}
 use Rattle.s80_lex.specs.Spelling.{Passes, IsName, IsKeyword, keyword, begins_with, NotNext}
 use Rattle.s80_lex.specs.Front.{first_class, ends_keyword, IsMost, Lacks}
 use Rattle.s80_lex.proofs.Classes.{letter}
-use Rattle.s80_lex.proofs.Fronts.{at_rest, most_from, most_unique}
-use Rattle.s80_lex.proofs.Runs.{run_passes, run_longest, run_ends}
+use Rattle.s80_lex.proofs.lemmas.Fronts.{at_rest, most_from, most_unique}
+use Rattle.s80_lex.proofs.lemmas.Runs.{run_passes, run_longest, run_ends}
 
 pub name_passes : (w : List ℕ) → IsName w → Passes is_ascii_alphanumeric w
 name_passes [] h = absurd h

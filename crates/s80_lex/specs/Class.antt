@@ -1,7 +1,8 @@
 -- The classes of bytes.
 use Rattle.std.specs.Prelude.{ℕ, Bool, ◌==◌, codes, if◌then◌else◌}
 use Rattle.std.specs.List.{list_any}
-use Rattle.std.specs.Char.{is_ascii_alphabetic, is_ascii_digit, is_ascii_whitespace}
+use Rattle.std.specs.Char.{is_ascii_alphabetic, is_ascii_digit}
+use Rattle.s80_base.specs.Byte.{is_separator}
 use Rattle.s80_lex.specs.declared.class.Class.{Class}
 use Rattle.s80_lex.specs.declared.class.Class.TheVariants.{Letter, Digit, Special, Minus, Quote, DoubleQuote, Dollar, Hash, Underscore, Colon, Mark, Separator, Other}
 use Rattle.s80_lex.specs.declared.token.TokenKind.TheVariants as kind
@@ -31,11 +32,11 @@ sign_of b =
     (if b == 95 then Underscore else
     (if b == 58 then Colon else mark_of b)))))
 
--- a separator is a space, a tab, a line feed, a form feed or a carriage return
+-- the class of a byte
 abbrev pub class_of : ℕ → Class
 class_of b =
     if is_ascii_alphabetic b then Letter else
     (if is_ascii_digit b then Digit else
-    (if is_ascii_whitespace b then Separator else
+    (if is_separator b then Separator else
     (if is_special b then Special else
     (if b == 45 then Minus else sign_of b))))

@@ -1,5 +1,5 @@
 -- How tokens are spelled.
-use Rattle.std.specs.Prelude.{◌≡◌, ◌≢◌, ℕ, Bool, true, false, ◌==◌, ◌||◌, ◌⊎◌, List, [], ◌∷◌, ◌++◌, codes, if◌then◌else◌}
+use Rattle.std.specs.Prelude.{◌≡◌, ◌≢◌, ℕ, Bool, true, false, ◌==◌, ◌||◌, ◌⊎◌, List, [], ◌∷◌, ◌++◌, length, codes, if◌then◌else◌}
 use Rattle.std.specs.List.{AllByRecursion, flat_map}
 use Rattle.std.specs.Char.{is_ascii_alphanumeric, is_ascii_digit, is_ascii_uppercase}
 use Rattle.s80_lex.specs.declared.class.Class.{Class}
@@ -41,12 +41,18 @@ pub record IsKeyword (word rest : List ℕ) : Type 0 where
   pub spelled : word ≡ keyword name
   pub ended : NotNext 61 rest
 
--- one or more directly joined keywords
-pub record AreKeywords (word rest : List ℕ) : Type 0 where
+-- so many directly joined keywords, at least one
+pub record IsKeywordSelector (n : ℕ) (word : List ℕ) : Type 0 where
   pub names : List (List ℕ)
   pub some : names ≢ []
   pub named : AllByRecursion IsName names
   pub spelled : word ≡ flat_map keyword names
+  pub counted : n ≡ length names
+
+-- joined keywords: a colon that an equals sign (61) follows is no part of them
+pub record AreKeywords (word rest : List ℕ) : Type 0 where
+  pub count : ℕ
+  pub joined : IsKeywordSelector count word
   pub ended : NotNext 61 rest
 
 abbrev pub IsOperator : Class → Type 0

@@ -1,8 +1,9 @@
 // What a byte begins.
 ghost use Rattle.std.specs.Prelude.{◌≡◌};
-ghost use Rattle.s80_lex.specs.Class.{class_of};
+ghost use Rattle.s80_lex.specs.Class.{class_of, is_special};
 
 use crate::token::TokenKind;
+use s80_base::is_separator;
 
 /// The classes of bytes: what a byte begins, and what it may go on.
 #[derive(Clone, Copy)]
@@ -24,6 +25,29 @@ pub(crate) enum Class {
     Other,
 }
 
+/// What a binary selector is made of, but for the minus.
+pub(crate) fn is_special(byte: u8) -> bool
+    ensures { result ≡ is_special byte }
+{
+    matches!(
+        byte,
+        b'+' | b'/'
+            | b'\\'
+            | b'*'
+            | b'~'
+            | b'<'
+            | b'>'
+            | b'='
+            | b'@'
+            | b'%'
+            | b'|'
+            | b'&'
+            | b'?'
+            | b','
+            | b'!'
+    )
+}
+
 /// The class of a byte.
 pub(crate) fn classify(byte: u8) -> Class
     ensures { result ≡ class_of byte }
@@ -31,22 +55,8 @@ pub(crate) fn classify(byte: u8) -> Class
     match byte {
         b'A'..=b'Z' | b'a'..=b'z' => Class::Letter,
         b'0'..=b'9' => Class::Digit,
-        b' ' | b'\t' | b'\n' | b'\x0c' | b'\r' => Class::Separator,
-        b'+'
-        | b'/'
-        | b'\\'
-        | b'*'
-        | b'~'
-        | b'<'
-        | b'>'
-        | b'='
-        | b'@'
-        | b'%'
-        | b'|'
-        | b'&'
-        | b'?'
-        | b','
-        | b'!' => Class::Special,
+        _ if is_separator(byte) => Class::Separator,
+        _ if is_special(byte) => Class::Special,
         b'-' => Class::Minus,
         b'\'' => Class::Quote,
         b'"' => Class::DoubleQuote,

@@ -4,7 +4,7 @@ ghost use Rattle.s80_lex.specs.declared.class.Class.TheVariants.{Letter, Hash};
 ghost use Rattle.s80_lex.specs.Front.{first_class, ends_keyword, Finds, FindsKind, IsMost, Takes};
 ghost use Rattle.s80_lex.specs.Spelling.{AreKeywords, IsBinary, IsKeyword, IsName, IsOperator, IsSelector};
 
-use crate::class::{Class, classify};
+use crate::class::Class;
 use crate::run::{alphanumeric_len, begins_with, first_class};
 use crate::token::TokenKind;
 

@@ -5,7 +5,7 @@ use Rattle.s80_disk.specs.declared.disk.FileId.{FileId}
 use Rattle.s80_disk.specs.declared.disk.FileId.TheVariants.{Mark}
 use Rattle.s80_disk.specs.Image.{Image, Only}
 use Rattle.s80_disk.specs.Moments.{Beside, Elapses, LeavesOnly}
-use Rattle.s80_disk.proofs.Run.{started, goes_on, joined}
+use Rattle.s80_disk.proofs.lemmas.Run.{started, goes_on, joined}
 use Rattle.s80_mark.specs.declared.mark.MarkState.{MarkState}
 use Rattle.s80_mark.specs.Mark.{valid_mark}
 use Rattle.s80_mark.specs.Commit.{CanCommit, HasEither}

@@ -1,24 +1,24 @@
 -- Files stand for one list.
 use Rattle.std.proofs.Common.{◌≡◌, ◌<◌, ℕ, List, [], ◌∷◌, ◌++◌, length, Some, refl, sym, ap, ◌∙◌, arith, length-append}
 use Rattle.s80_change.specs.declared.change.Change.{Change}
-use Rattle.s80_change.specs.declared.frame.Frame.{Frame}
-use Rattle.s80_change.specs.declared.frame.Frame.TheVariants.{Plain, Section}
-use Rattle.s80_change.specs.Block.{framed, frame_of, block, blocks, IsLawful}
+use Rattle.s80_change.specs.declared.framing.Framing.{Framing}
+use Rattle.s80_change.specs.declared.framing.Framing.TheVariants.{Plain, Section}
+use Rattle.s80_change.specs.Block.{framed, framing_of, block, blocks, IsLawful}
 use Rattle.std.specs.List.{All}
 use Rattle.std.proofs.lemmas.List.Elements.{All-head, All-tail}
-use Rattle.s80_change.proofs.BlockLaws.{block_unique}
+use Rattle.s80_change.proofs.lemmas.BlockLaws.{block_unique}
 use Rattle.s80_disk.specs.Image.{Image}
 use Rattle.s80_mark.specs.declared.mark.MarkState.{MarkState}
 use Rattle.s80_log.specs.Standing.{marked_part, FilesStandFor}
 
--- a frame isn't empty
-framed_length : (frame : Frame) → 0 < length (framed frame)
+-- a framing isn't empty
+framed_length : (framing : Framing) → 0 < length (framed framing)
 framed_length (Plain text) = simp length-append (omega arith)
 framed_length (Section head source) = omega arith
 
 -- nor is a block
 pub some_block : (change : Change) (after : List ℕ) → [] ≡ block change ++ after → ⊥
-some_block change after e = omega (arith, ap length e ∙ length-append (block change) after, framed_length (frame_of change))
+some_block change after e = omega (arith, ap length e ∙ length-append (block change) after, framed_length (framing_of change))
 
 pub one_list : (changes other : List Change) → All IsLawful changes → All IsLawful other → blocks changes ≡ blocks other → changes ≡ other
 one_list [] [] one two e = refl

@@ -23,7 +23,7 @@ use std::marker::Model;
 use thiserror::Error;
 
 /// The greatest length of a log, in bytes.
-pub const LOG_LIMIT: u64 = 1 << 30;
+pub const LOG_LIMIT: u64 = 1 << 36;
 
 /// Why a block isn't appended.
 #[derive(Clone, Copy, Debug, PartialEq, Eq, Error)]

@@ -1,11 +1,9 @@
 // The reading of a block.
-ghost use Rattle.std.specs.Prelude.{◌≡◌, ◌+◌, ◌-◌, ◌<◌, ◌≤◌, ℕ, min, List, IsTrue, length, take, drop, IfOk, IfErr};
+ghost use Rattle.std.specs.Prelude.{◌≡◌, ◌+◌, ◌≤◌, IsTrue, length, take, drop, IfOk, IfErr};
 ghost use Rattle.s80_base.specs.Causes.{Rose};
 ghost use Rattle.s80_base.specs.declared.outside.Call.TheVariants.{Read};
 ghost use Rattle.s80_change.specs.Block.{block, IsLawful};
-ghost use Rattle.s80_disk.specs.declared.disk.FileId.{FileId};
-ghost use Rattle.s80_disk.specs.Moments.{Beside, LeavesOnly};
-ghost use Rattle.s80_mark.specs.Stays.{StillLeft};
+ghost use Rattle.s80_disk.specs.Untouched.{IsUntouched};
 ghost use Rattle.s80_log.specs.Log.{held_in};
 ghost use Rattle.s80_change.specs.Blocks.{BeginsWith, BeginsWithNone};
 ghost use Rattle.s80_log.specs.Faults.{IfBlockDisk, UnlessBlockDisk, IfBad};
@@ -79,13 +77,7 @@ impl Log {
             → IfErr result (λ fault. IfBad fault (λ place. BeginsWithNone (drop at (held_in (D.reads disk.old) self.now)))) }
         ensures bad { IfErr result (λ fault. IfBad fault (λ place. place ≡ at)) }
 
-        ensures tells { D.tells disk.new ≡ D.tells disk.old }
-        ensures same { (file : FileId) → D.reads disk.new file ≡ D.reads disk.old file }
-        ensures crash { (c : FileId → List ℕ) → D.may_leave disk.new c → D.may_leave disk.old c }
-        ensures any_moment { LeavesOnly D.moment D.left_since disk.old disk.new
-            (StillLeft (D.may_leave disk.old) (D.beside disk.old).told) }
-        ensures beside { D.beside disk.new ≡ D.beside disk.old }
-        ensures later { D.disk_faults disk.old ≤ D.disk_faults disk.new }
+        ensures untouched { IsUntouched D.tells D.reads D.may_leave D.moment D.left_since D.beside D.disk_faults disk.old disk.new }
         ensures cause { IfErr result
             (λ fault. IfBlockDisk fault (λ failed. Rose (D.disk_faults disk.old) (D.disk_faults disk.new))) }
         ensures faults_stay { UnlessBlockDisk result (D.disk_faults disk.new ≡ D.disk_faults disk.old) }
@@ -121,13 +113,7 @@ fn read_piece<D: Disk>(
         → IfOk result (λ piece. piece.items ≡ take size (drop at (D.reads disk.old file))) }
     ensures bound { IfOk result (λ piece. length piece.items ≤ size) }
     ensures good { IfErr result (λ fault. IfBad fault (λ place. ⊥)) }
-    ensures tells { D.tells disk.new ≡ D.tells disk.old }
-    ensures same { (other : FileId) → D.reads disk.new other ≡ D.reads disk.old other }
-    ensures crash { (c : FileId → List ℕ) → D.may_leave disk.new c → D.may_leave disk.old c }
-    ensures any_moment { LeavesOnly D.moment D.left_since disk.old disk.new
-        (StillLeft (D.may_leave disk.old) (D.beside disk.old).told) }
-    ensures beside { D.beside disk.new ≡ D.beside disk.old }
-    ensures later { D.disk_faults disk.old ≤ D.disk_faults disk.new }
+    ensures untouched { IsUntouched D.tells D.reads D.may_leave D.moment D.left_since D.beside D.disk_faults disk.old disk.new }
     ensures cause { IfErr result
         (λ fault. IfBlockDisk fault (λ failed. Rose (D.disk_faults disk.old) (D.disk_faults disk.new))) }
     ensures faults_stay { UnlessBlockDisk result (D.disk_faults disk.new ≡ D.disk_faults disk.old) }

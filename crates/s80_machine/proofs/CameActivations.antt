@@ -12,12 +12,13 @@ use Rattle.s80_prims.specs.declared.stop.Stop.TheVariants.{BlockActive}
 use Rattle.s80_machine.specs.declared.halt.Halt.{Halt}
 use Rattle.s80_machine.specs.declared.machine.Machine.{Machine}
 use Rattle.s80_machine.specs.declared.methods.Activated.{Activated}
-use Rattle.s80_machine.specs.World.{World, Context, Frame, Key, block, home, is_active, number_in, own, with_objects}
-use Rattle.s80_machine.specs.Turn.{State, Turn, Block, Goes, deeper, given, holds_block, pushed_all, stops}
+use Rattle.s80_machine.specs.World.{World, Activation, Key, block, home, number_in, own, with_objects}
+use Rattle.s80_machine.specs.Turn.{Context, is_active, State, Turn, Goes, deeper, given, holds_block, pushed_all, stops}
+use Rattle.s80_machine.specs.Shared.{Block}
 use Rattle.s80_machine.specs.Step.{at_home, block_started, code_for, started, with_room}
 use Rattle.s80_machine.specs.Seen.{Given, IsActivated, Method}
 use Rattle.s80_machine.specs.Came.{Came, IsGiven, IsMade, ShowsWorld}
-use Rattle.s80_machine.proofs.SoundLists.{all_got}
+use Rattle.s80_machine.proofs.lemmas.SoundLists.{all_got}
 use Rattle.s80_machine.proofs.CameParts.{made_on, made_world, not_made, when_false, when_true}
 
 some_same : {A : Type 0} {x y : A} → Some x ≡ Some y → x ≡ y
@@ -72,8 +73,8 @@ module _ (on : Given) (s : State) (key : Key) (code : Code) (r : Value) (tempora
   abbrev start : Turn
   start = started on.table on.methods on.code on.budget key code r temporaries s.contexts s.world
 
-  abbrev begun : ℕ → Frame → List Value → World → Turn
-  begun n frame stack w = Goes (record { contexts = record { method = n; receiver = r; frame = frame; place = 0; stack = stack } ∷ s.contexts; world = w })
+  abbrev begun : ℕ → Activation → List Value → World → Turn
+  begun n activation stack w = Goes (record { contexts = record { method = n; receiver = r; activation = activation; place = 0; stack = stack } ∷ s.contexts; world = w })
 
   abbrev alone : ℕ → Turn
   alone n = begun n (own temporaries) [] s.world
@@ -138,12 +139,12 @@ module _ (on : Given) (b : Block) (arguments : List Value) (below : List Context
   not_active is new result came = when_false on (is_active b.object below) (stops BlockActive w) (deeper below w (in_its_home on b arguments below w)) new result is came
 
   pub block_begun : (h method : ℕ) (r : Value) → b.home ≡ Object h → option_and_then home_parts_of (body_at w.objects b.home) ≡ Some (method, r) → (new : Machine) (result : Result (Unit {0}) Halt)
-      → Came on (Goes (record { contexts = record { method = method; receiver = r; frame = block b.object h; place = b.start; stack = reverse arguments } ∷ below; world = w })) new result
+      → Came on (Goes (record { contexts = record { method = method; receiver = r; activation = block b.object h; place = b.start; stack = reverse arguments } ∷ below; world = w })) new result
       → Came on (in_its_home on b arguments below w) new result
   block_begun h method r is parts new result came =
       subst (λ v. Came on (at_home on.table on.methods on.code on.budget b arguments below w v) new result) (sym is)
       (subst (λ (o : Option (ℕ × Value)). Came on (given o (block_started on.table on.methods on.code on.budget b arguments below w h)) new result)
       (sym (ap (λ v. option_and_then home_parts_of (body_at w.objects v)) (sym is) ∙ parts))
       (subst
-      (λ (stack : List Value). Came on (Goes (record { contexts = record { method = method; receiver = r; frame = block b.object h; place = b.start; stack = stack } ∷ below; world = w })) new result)
+      (λ (stack : List Value). Came on (Goes (record { contexts = record { method = method; receiver = r; activation = block b.object h; place = b.start; stack = stack } ∷ below; world = w })) new result)
       (onto arguments []) came))

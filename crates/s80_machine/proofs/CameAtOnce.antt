@@ -5,8 +5,8 @@ use Rattle.s80_object.specs.Objects.{State as Objects}
 use Rattle.s80_object.specs.declared.value.Value.{Value}
 use Rattle.s80_object.specs.declared.value.Value.TheVariants.{Small}
 use Rattle.s80_prims.specs.Arithmetic.{arithmetic}
-use Rattle.s80_machine.specs.Turn.{at_once, integer_primitives, is_value, of_integers}
-use Rattle.s80_machine.proofs.SoundLists.{same_number}
+use Rattle.s80_machine.specs.Shared.{at_once, integer_primitives, is_value, of_integers}
+use Rattle.s80_machine.proofs.lemmas.SoundLists.{same_number}
 
 pub no_integers : (n : ℕ) → get_or integer_primitives n 0 ≡ 0 → (r a : Value) → None ≡ of_integers n r a
 no_integers n none (Small r) (Small a) = sym (ap (λ k. arithmetic k r a) none)

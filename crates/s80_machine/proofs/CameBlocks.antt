@@ -7,8 +7,8 @@ use Rattle.s80_object.specs.declared.value.Value.TheVariants.{Object, Small}
 use Rattle.s80_machine.specs.declared.halt.Halt.{Halt}
 use Rattle.s80_machine.specs.declared.halt.Halt.TheVariants as halt
 use Rattle.s80_machine.specs.declared.machine.Machine.{Machine}
-use Rattle.s80_machine.specs.World.{World, Context, home_in, waiting}
-use Rattle.s80_machine.specs.Turn.{Turn, Stuck, given, goes_on}
+use Rattle.s80_machine.specs.World.{World, home_in}
+use Rattle.s80_machine.specs.Turn.{Context, waiting, Turn, Stuck, given, goes_on}
 use Rattle.s80_machine.specs.Step.{block_made, copy_turn, with_room}
 use Rattle.s80_machine.specs.Sound.{HasCount}
 use Rattle.s80_machine.specs.Seen.{Does, DoesOne, Given, popped, popped_from, with_stack}
@@ -80,14 +80,14 @@ module _ (on : Given) (c : Context) (next : ℕ) (rest : List Context) (w : Worl
         let stuck : turns c.stack ≡ Stuck = ap turns off.was ∙ no_number v off.below off.stack none (λ n counts. few n (subst (HasCount n) (sym off.was) counts)) in
         subst (λ (turn : Turn). Came on turn new (Err halt.Stuck)) (sym stuck) tt
 
-    pub home_left : (active : Context) (h : Option ℕ) → Some active ≡ slice_get last 0 → h ≡ home_in active.frame → home_in c.frame ≡ h
+    pub home_left : (active : Context) (h : Option ℕ) → Some active ≡ slice_get last 0 → h ≡ home_in active.activation → home_in c.activation ≡ h
     home_left active h top home =
-        sym (home ∙ ap (λ (c : Context). home_in c.frame) (some_context active (waiting c next off.stack) (top ∙ ap (λ cs. slice_get cs 0) off.is)))
+        sym (home ∙ ap (λ (c : Context). home_in c.activation) (some_context active (waiting c next off.stack) (top ∙ ap (λ cs. slice_get cs 0) off.is)))
 
     -- a block of this home is made and pushed
-    pub block_pushed : (count h start : ℕ) → Some count ≡ number_to 255 v → home_in c.frame ≡ Some h → start ≡ next + 2 → (new : Machine) (result : Result (Unit {0}) Halt)
+    pub block_pushed : (count h start : ℕ) → Some count ≡ number_to 255 v → home_in c.activation ≡ Some h → start ≡ next + 2 → (new : Machine) (result : Result (Unit {0}) Halt)
         → Came on (with_room w (block (Object h) start count) (goes_on c next (Object (length w.objects.bodies) ∷ off.stack) rest)) new result → Came on (turns c.stack) new result
     block_pushed count h start some home is new result came =
-        let turn : turns c.stack ≡ given (home_in c.frame) (makes count off.stack) = ap turns (off.was ∙ ap (λ v. v ∷ off.below ∷ off.stack) (small_is v count some)) in
+        let turn : turns c.stack ≡ given (home_in c.activation) (makes count off.stack) = ap turns (off.was ∙ ap (λ v. v ∷ off.below ∷ off.stack) (small_is v count some)) in
         subst (λ (turn : Turn). Came on turn new result) (sym (turn ∙ ap (λ h. given h (makes count off.stack)) home))
         (subst (λ n. Came on (with_room w (block (Object h) n count) (goes_on c next (Object (length w.objects.bodies) ∷ off.stack) rest)) new result) is came)

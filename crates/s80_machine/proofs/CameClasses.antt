@@ -11,7 +11,8 @@ use Rattle.s80_kernel.specs.Rows as rows
 use Rattle.s80_class.specs.Classes.{Name}
 use Rattle.s80_class.specs.Table.{Table, IsClass}
 use Rattle.s80_code.specs.declared.code.Code.{Code}
-use Rattle.s80_code.proofs.TableLemmas.{value}
+use Rattle.s80_code.specs.Special.{special_arguments, special_selectors}
+use Rattle.s80_code.proofs.lemmas.TableLemmas.{value}
 use Rattle.s80_dict.specs.Table.{MethodsValue, methods_at}
 use Rattle.s80_dict.specs.declared.dict.MethodEntry.{MethodEntry}
 use Rattle.s80_object.specs.Body.{BodyTree, pointers, bytes, words, home as home_body, block as block_body}
@@ -20,21 +21,18 @@ use Rattle.s80_object.specs.declared.value.Value.{Value}
 use Rattle.s80_object.specs.declared.value.Value.TheVariants.{Small, Character, Nil, True, False, Symbol, Number, ClassRef, Object, Context as ContextValue, Transcript, Smalltalk}
 use Rattle.s80_prims.specs.Classes.{body_class, class_of, kernel_class, number_class}
 use Rattle.s80_prims.specs.Known.{AreKnown, BodyIsKnown, IsKnown}
-use Rattle.s80_verify.specs.Effect.{special_arguments}
-use Rattle.s80_verify.specs.Selector.{IsSelectorOf, is_name}
-use Rattle.s80_verify.proofs.SelectorLemmas.{is_name_when, name_is as is_a_name, some_names}
-use Rattle.s80_machine.specs.declared.lookup.Found.{Found as FoundCode}
+use Rattle.s80_lex.specs.Selector.{IsSelectorOf, is_name}
+use Rattle.s80_lex.proofs.lemmas.SelectorLemmas.{is_name_when, name_is as is_a_name, some_names}
 use Rattle.s80_machine.specs.declared.methods.Activated.{Activated}
 use Rattle.s80_machine.specs.World.{Key, doit, method}
-use Rattle.s80_machine.specs.Lookup.{Place, number, places_up}
-use Rattle.s80_machine.specs.Turn.{special_selectors}
+use Rattle.s80_class.specs.Lookup.{Place, number, places_up, IsFound}
 use Rattle.s80_machine.specs.Step.{code_for}
 use Rattle.s80_machine.specs.Sound.{IsSetting}
-use Rattle.s80_machine.specs.Seen.{Given, IsActivated, IsFound, IsNumber, Method, class_place, place_in}
+use Rattle.s80_machine.specs.Seen.{Given, IsActivated, IsNumber, Method, class_place, place_in, FoundCode}
 use Rattle.s80_machine.specs.Came.{IsGiven, above}
 use Rattle.s80_machine.specs.Messages.{finds, own_place}
 use Rattle.s80_machine.proofs.SoundClasses.{kernel_number}
-use Rattle.s80_machine.proofs.SoundLists.{all_got, got_there, same_number}
+use Rattle.s80_machine.proofs.lemmas.SoundLists.{all_got, got_there, same_number}
 use Rattle.s80_machine.proofs.SoundOperands.{special_there}
 
 -- ---- the class of a known value

@@ -4,16 +4,16 @@ use Rattle.std.specs.Option.{option_map}
 use Rattle.std.proofs.lemmas.Option.{slice_get-map}
 use Rattle.s80_code.specs.declared.code.Code.{Code}
 use Rattle.s80_code.specs.declared.instruction.Instruction.{Instruction}
-use Rattle.s80_code.proofs.TableLemmas.{value}
+use Rattle.s80_code.proofs.lemmas.TableLemmas.{value}
 use Rattle.s80_object.specs.Objects.{State as Objects}
 use Rattle.s80_machine.specs.declared.machine.Machine.{Machine}
-use Rattle.s80_machine.specs.World.{World, Key, Context}
-use Rattle.s80_machine.specs.Turn.{State}
+use Rattle.s80_machine.specs.World.{World, Key}
+use Rattle.s80_machine.specs.Turn.{Context, State}
 use Rattle.s80_machine.specs.Step.{code_at, code_for, turn_of}
 use Rattle.s80_machine.specs.Seen.{Given, Method, listing}
 use Rattle.s80_machine.specs.Came.{IsGiven, Shows}
 use Rattle.s80_machine.specs.Stretch.{LeadsFar, Local, Reaches, local, state_of, world_of}
-use Rattle.s80_machine.proofs.SoundLists.{all_got}
+use Rattle.s80_machine.proofs.lemmas.SoundLists.{all_got}
 
 module _ (on : Given) (code : Code) (rest : List Context) (w : World) (key : Key) (code_is : code_for on.methods on.code key ≡ Some code) where
   -- the method of an activation stays its method

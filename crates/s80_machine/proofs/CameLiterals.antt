@@ -12,9 +12,9 @@ use Rattle.s80_object.specs.declared.value.Value.{Value}
 use Rattle.s80_prims.specs.declared.stop.Stop.TheVariants.{ObjectsFull}
 use Rattle.s80_machine.specs.declared.halt.Halt.{Halt}
 use Rattle.s80_machine.specs.declared.machine.Machine.{Machine}
-use Rattle.s80_machine.specs.World.{World, Context, with_objects}
-use Rattle.s80_machine.specs.Lookup.{number}
-use Rattle.s80_machine.specs.Turn.{Turn, goes_on, stops}
+use Rattle.s80_machine.specs.World.{World, with_objects}
+use Rattle.s80_machine.specs.Turn.{Context, Turn, goes_on, stops}
+use Rattle.s80_class.specs.Lookup.{number}
 use Rattle.s80_machine.specs.Step.{first_pushed, literal_pushed}
 use Rattle.s80_machine.specs.Seen.{Does, Given, pushed}
 use Rattle.s80_machine.specs.Came.{Came, IsMade, Shows, ShowsWorld, at_place}

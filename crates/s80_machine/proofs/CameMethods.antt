@@ -8,6 +8,7 @@ use Rattle.s80_form.specs.declared.definition.Kind.TheVariants as kind
 use Rattle.s80_base.specs.declared.names.Side.TheVariants.{Instance}
 use Rattle.s80_class.specs.Table.{Table}
 use Rattle.s80_code.specs.declared.code.Code.{Code}
+use Rattle.s80_code.specs.Special.{special_selectors}
 use Rattle.s80_dict.specs.declared.dict.MethodEntry.{MethodEntry}
 use Rattle.s80_object.specs.Body.{BodyTree, blank, bytes_of, cost, pointers, word_limit, words_of}
 use Rattle.s80_object.specs.Objects.{State as Objects, body_at, item_put, put_with, with_body}
@@ -25,22 +26,22 @@ use Rattle.s80_prims.specs.Classes.{can_be_new, class_of, kind_of_class, variabl
 use Rattle.s80_prims.specs.Primitives.{Alone, Effect, WithOne, WithTwo, World as ReachedWorld, at_place, character_of, done, fails, gives, makes, names, new_indexed, new_plain, new_with, number_of_character, of_class, primitive, put_at, put_character_at, put_done, puts, readable, readable_bytes, rows_alone, rows_with_one, rows_with_two, stops, string_of, text_bytes, transcript_limit, two_numbers, with_text, writes}
 use Rattle.s80_prims.specs.Printed.{printed}
 use Rattle.s80_prims.specs.Rows.{came_to, world_of}
-use Rattle.s80_verify.specs.Selector.{IsSelectorOf}
+use Rattle.s80_lex.specs.Selector.{IsSelectorOf}
 use Rattle.s80_machine.specs.declared.activations.Block.{Block as KeptBlock}
 use Rattle.s80_machine.specs.declared.halt.Halt.{Halt}
-use Rattle.s80_machine.specs.declared.lookup.Found.{Found as FoundCode}
 use Rattle.s80_machine.specs.declared.machine.Machine.{Machine}
-use Rattle.s80_machine.specs.World.{World, Key, method, Context, changed, reached, waiting}
-use Rattle.s80_machine.specs.Lookup.{Found, Place}
-use Rattle.s80_machine.specs.Turn.{Turn, Stuck, Block, at_once, block_with, given, goes_on, is_value, special_selectors, unary_in}
+use Rattle.s80_machine.specs.World.{World, Key, method, changed, reached}
+use Rattle.s80_machine.specs.Turn.{Context, waiting, Turn, Stuck, given, goes_on}
+use Rattle.s80_class.specs.Lookup.{Found, Place, IsFound}
+use Rattle.s80_machine.specs.Shared.{Block, at_once, block_with, is_value, unary_in}
 use Rattle.s80_machine.specs.Step.{block_activated, by_effect, by_primitive, found_turn, method_turn, special_turn}
 use Rattle.s80_machine.specs.Sound.{IsSetting}
-use Rattle.s80_machine.specs.Seen.{Does, EndsRun, Given, IsBlock, IsFound, block_of, pushed}
+use Rattle.s80_machine.specs.Seen.{Does, EndsRun, Given, IsBlock, block_of, pushed, FoundCode}
 use Rattle.s80_machine.specs.Came.{Came, Shows, ShowsWorld, places, sends}
 use Rattle.s80_machine.specs.Messages.{Takes, activates, finds, performs, refuses, runs, runs_method, runs_primitive, sends_one}
 use Rattle.s80_machine.proofs.SoundClasses.{found_at}
 use Rattle.s80_machine.proofs.SoundEnds.{block_takes}
-use Rattle.s80_machine.proofs.SoundLists.{same_number}
+use Rattle.s80_machine.proofs.lemmas.SoundLists.{same_number}
 use Rattle.s80_machine.proofs.SoundOperands.{one_selector}
 use Rattle.s80_machine.proofs.CameParts.{ends_so}
 use Rattle.s80_machine.proofs.CameSends.{alive, itself, pushed_came}
@@ -64,14 +65,14 @@ module _ (on : Given) (setting : IsSetting on.table on.methods on.code) (selecto
       record { code_is = ap (option_map (λ (e : MethodEntry Code). e.code)) there.entry; few = omega (arith, same, suits.suits.depths.header.arguments) }
 
   pub found_takes : (at : List Place) (g : FoundCode) (arguments : List Value) → IsSelectorOf (length arguments) selector → IsFound (finds on selector at) (Some g)
-      → Takes on (method g.class g.side selector) g.code.now arguments
+      → Takes on (method g.class g.side selector) g.entry.now.code arguments
   found_takes at g arguments takes found = go (finds on selector at) refl found
     where
-      go : (o : Option (Found (MethodEntry Code))) → finds on selector at ≡ o → IsFound o (Some g) → Takes on (method g.class g.side selector) g.code.now arguments
+      go : (o : Option (Found (MethodEntry Code))) → finds on selector at ≡ o → IsFound o (Some g) → Takes on (method g.class g.side selector) g.entry.now.code arguments
       go None e is = absurd is
       go (Some f) e is =
           let here = takes_found at f arguments takes e in
-          subst (λ code. Takes on (method g.class g.side selector) code arguments) (sym is.2)
+          subst (λ code. Takes on (method g.class g.side selector) code arguments) (ap (λ (e : MethodEntry Code). e.code) (sym is.2))
           (subst (λ side. Takes on (method g.class side selector) f.entry.code arguments) (sym is.1) (subst (λ class. Takes on (method class f.side selector) f.entry.code arguments) (sym is.0) here))
 
 -- ---- and is run
@@ -92,14 +93,14 @@ module _ (on : Given) (sent : World → Option Turn) (at : List Place) (selector
       go (Some f) is = absurd is
 
   -- what the code has found
-  pub found_code : (g : FoundCode) → IsFound (finds on selector at) (Some g) → Came on (of_method (method g.class g.side selector) g.code.now) new result → Came on (runs on sent at selector r arguments below w) new result
+  pub found_code : (g : FoundCode) → IsFound (finds on selector at) (Some g) → Came on (of_method (method g.class g.side selector) g.entry.now.code) new result → Came on (runs on sent at selector r arguments below w) new result
   found_code g is h = go (finds on selector at) is
     where
       go : (o : Option (Found (MethodEntry Code))) → IsFound o (Some g) → Came on (of_found o) new result
       go None is = absurd is
       go (Some f) is =
           subst (λ class. Came on (of_method (method class f.side selector) f.entry.code) new result) is.0
-          (subst (λ side. Came on (of_method (method g.class side selector) f.entry.code) new result) is.1 (subst (λ code. Came on (of_method (method g.class g.side selector) code) new result) is.2 h))
+          (subst (λ side. Came on (of_method (method g.class side selector) f.entry.code) new result) is.1 (subst (λ code. Came on (of_method (method g.class g.side selector) code) new result) (ap (λ (e : MethodEntry Code). e.code) is.2) h))
 
   sends_none : {A : Type 0} (a b : Bool) (o : Option A) (x run p : A) → (if b then o else None) ≡ None → (if a then x else (if b then run else p)) ≡ (if a then x else (if b then unwrap_or o run else p))
   sends_none true b o x run p none = refl
@@ -107,11 +108,11 @@ module _ (on : Given) (sent : World → Option Turn) (at : List Place) (selector
   sends_none false false o x run p none = refl
 
   -- its primitive sends no message
-  pub found_runs : (g : FoundCode) → IsFound (finds on selector at) (Some g) → (if g.code.now.primitive == 83 then sent w else None) ≡ None
-      → Came on (runs_method on (method g.class g.side selector) g.code.now r arguments below w) new result → Came on (runs on sent at selector r arguments below w) new result
+  pub found_runs : (g : FoundCode) → IsFound (finds on selector at) (Some g) → (if g.entry.now.code.primitive == 83 then sent w else None) ≡ None
+      → Came on (runs_method on (method g.class g.side selector) g.entry.now.code r arguments below w) new result → Came on (runs on sent at selector r arguments below w) new result
   found_runs g is none h =
       let key : Key = method g.class g.side selector in
-      let code : Code = g.code.now in
+      let code : Code = g.entry.now.code in
       let run : Turn = activates on key code r arguments below w in
       let same =
       sends_none (code.primitive == 81) (code.primitive == 83) (sent w)
@@ -129,15 +130,15 @@ none_mapped f false o e = refl
 module _ (on : Given) (at : List Place) (selector : List ℕ) (r : Value) (arguments : List Value) (below : List Context) (w : World) (new : Machine) (result : Result (Unit {0}) Halt) (g : FoundCode)
     (found : IsFound (finds on selector at) (Some g)) where
   abbrev asked : Option (List ℕ)
-  asked = if g.code.now.primitive == 83 then unary_in w.objects arguments else None
+  asked = if g.entry.now.code.primitive == 83 then unary_in w.objects arguments else None
 
   abbrev sends_it : List ℕ → Turn
   sends_it u = sends_one on (places on w r) u r below w
 
   -- no message is asked for
-  pub runs_found : None ≡ asked → Came on (runs_method on (method g.class g.side selector) g.code.now r arguments below w) new result
+  pub runs_found : None ≡ asked → Came on (runs_method on (method g.class g.side selector) g.entry.now.code r arguments below w) new result
       → Came on (runs on (performs on r arguments below) at selector r arguments below w) new result
-  runs_found none h = found_runs on (performs on r arguments below) at selector r arguments below w new result g found (none_mapped sends_it (g.code.now.primitive == 83) (unary_in w.objects arguments) none) h
+  runs_found none h = found_runs on (performs on r arguments below) at selector r arguments below w new result g found (none_mapped sends_it (g.entry.now.code.primitive == 83) (unary_in w.objects arguments) none) h
 
   sent_turn : (n : ℕ) (o : Option (List ℕ)) (u : List ℕ) (x run p : Turn) → Some u ≡ (if n == 83 then o else None) → sends_it u ≡ (if n == 81 then x else (if n == 83 then unwrap_or (option_map sends_it o) run else p))
   sent_turn n o u x run p e = go (n == 83) refl e
@@ -152,7 +153,7 @@ module _ (on : Given) (at : List Place) (selector : List ℕ) (r : Value) (argum
   pub performs_found : (u : List ℕ) → Some u ≡ asked → Came on (sends_it u) new result → Came on (runs on (performs on r arguments below) at selector r arguments below w) new result
   performs_found u e h =
       let key : Key = method g.class g.side selector in
-      let code : Code = g.code.now in
+      let code : Code = g.entry.now.code in
       let run : Turn = activates on key code r arguments below w in
       let same =
       sent_turn code.primitive (unary_in w.objects arguments) u

@@ -12,8 +12,9 @@ use Rattle.s80_prims.specs.declared.stop.Stop.TheVariants.{Budget, Deep, Objects
 use Rattle.s80_machine.specs.declared.halt.Halt.{Halt}
 use Rattle.s80_machine.specs.declared.halt.Halt.TheVariants as halt
 use Rattle.s80_machine.specs.declared.machine.Machine.{Machine}
-use Rattle.s80_machine.specs.World.{World, Context, one_tick, with_objects}
-use Rattle.s80_machine.specs.Turn.{Ends, Turn, deeper, depth_limit, stops, ticked}
+use Rattle.s80_machine.specs.World.{World, one_tick, with_objects}
+use Rattle.s80_machine.specs.Turn.{Context, Ends, Turn, deeper, stops, ticked}
+use Rattle.s80_machine.specs.Shared.{depth_limit}
 use Rattle.s80_machine.specs.Step.{with_room}
 use Rattle.s80_machine.specs.Seen.{EndsRun, Given}
 use Rattle.s80_machine.specs.Came.{Came, ChecksDepth, IsMade, ShowsWorld, Ticks}

@@ -18,7 +18,8 @@ use Rattle.s80_machine.specs.declared.sites.Site.{Site}
 use Rattle.s80_machine.specs.Sites.{IsSite, site_in}
 use Rattle.s80_machine.specs.Turn.{State, Turn, Goes, Ends, Stuck}
 use Rattle.s80_machine.specs.Step.{turn}
-use Rattle.s80_machine.specs.Run.{ComesTo, RunsTo, outcome_of, start}
+use Rattle.s80_machine.specs.Run.{ComesTo, RunsTo, start}
+use Rattle.s80_machine.specs.Shared.{outcome_of}
 use Rattle.s80_machine.specs.Sound.{IsKnownEnd, IsSound, IsSoundTurn}
 use Rattle.s80_machine.specs.Measure.{IsWithin, left_of_all, one_tick_more, steps_left}
 use Rattle.s80_machine.specs.Seen.{Given, Method, Numbers, is_method}

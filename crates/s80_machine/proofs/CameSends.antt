@@ -6,7 +6,7 @@ use Rattle.std.proofs.lemmas.Bool.Decides.{nat_tests}
 use Rattle.std.proofs.lemmas.List.Elements.{All-cons, All-head, All-nil, All-push, All-tail}
 use Rattle.s80_class.specs.Table.{Table}
 use Rattle.s80_code.specs.declared.code.Code.{Code}
-use Rattle.s80_code.proofs.TableLemmas.{value}
+use Rattle.s80_code.proofs.lemmas.TableLemmas.{value}
 use Rattle.s80_object.specs.Literal.{added_once}
 use Rattle.s80_object.specs.Objects.{State as Objects}
 use Rattle.s80_object.specs.declared.value.Value.{Value}
@@ -16,14 +16,15 @@ use Rattle.s80_prims.specs.declared.stop.Stop.TheVariants.{Budget, Deep}
 use Rattle.s80_machine.specs.declared.halt.Halt.{Halt}
 use Rattle.s80_machine.specs.declared.halt.Halt.TheVariants as halt
 use Rattle.s80_machine.specs.declared.machine.Machine.{Machine}
-use Rattle.s80_machine.specs.World.{World, Key, same_key, Context, number_in, numbered, one_tick}
-use Rattle.s80_machine.specs.Turn.{State, Turn, Stuck, deeper, depth_limit, given, goes_on, message_off, stops, ticked}
+use Rattle.s80_machine.specs.World.{World, Key, same_key, number_in, numbered, one_tick}
+use Rattle.s80_machine.specs.Turn.{Context, State, Turn, Stuck, deeper, given, goes_on, message_off, stops, ticked}
+use Rattle.s80_machine.specs.Shared.{depth_limit}
 use Rattle.s80_machine.specs.Step.{code_for}
 use Rattle.s80_machine.specs.Seen.{Does, DoesOne, Given, Method, Numbers, is_method, message_in, message_taken, pushed, with_stack}
 use Rattle.s80_machine.specs.Came.{Came, ChecksDepth, IsGiven, Shows, ShowsWorld, Ticks, TopIsKnown, at_place, left_at}
 use Rattle.s80_machine.specs.Messages.{ReceiverIsKnown}
 use Rattle.s80_machine.proofs.CameParts.{ends_so}
-use Rattle.s80_machine.proofs.SoundLists.{keys_same, numbered_there}
+use Rattle.s80_machine.proofs.lemmas.SoundLists.{keys_same, numbered_there}
 use Rattle.s80_machine.proofs.KeptSites.{site_stays}
 
 -- activations that are alive, in a world

@@ -6,7 +6,7 @@ use Rattle.std.proofs.lemmas.Option.{slice_get_within}
 use Rattle.s80_base.specs.declared.names.Side.{Side}
 use Rattle.s80_class.specs.Table.{Table}
 use Rattle.s80_code.specs.declared.code.Code.{Code}
-use Rattle.s80_code.proofs.TableLemmas.{value}
+use Rattle.s80_code.proofs.lemmas.TableLemmas.{value}
 use Rattle.s80_dict.specs.declared.dict.MethodEntry.{MethodEntry}
 use Rattle.s80_object.specs.declared.value.Value.{Value}
 use Rattle.s80_object.specs.declared.value.Value.TheVariants.{ClassRef, Small}
@@ -14,19 +14,19 @@ use Rattle.s80_prims.specs.declared.applied.Applied.TheVariants.{Fails}
 use Rattle.s80_prims.specs.Classes.{class_of}
 use Rattle.s80_prims.specs.Primitives.{World as ReachedWorld, primitive, two_numbers}
 use Rattle.s80_machine.specs.declared.halt.Halt.{Halt}
-use Rattle.s80_machine.specs.declared.lookup.Found.{Found as FoundCode}
 use Rattle.s80_machine.specs.declared.machine.Machine.{Machine}
 use Rattle.s80_machine.specs.declared.sites.Site.{Site}
 use Rattle.s80_machine.specs.declared.sites.Sites.{Sites}
-use Rattle.s80_machine.specs.World.{World, Key, method, same_key, Context, changed, number_in, numbered, reached}
-use Rattle.s80_machine.specs.Lookup.{Found, Place, places_up}
-use Rattle.s80_machine.specs.Turn.{State, Turn, block_with}
+use Rattle.s80_machine.specs.World.{World, Key, method, same_key, changed, number_in, numbered, reached}
+use Rattle.s80_machine.specs.Turn.{Context, State, Turn}
+use Rattle.s80_class.specs.Lookup.{Found, Place, places_up, IsFound}
+use Rattle.s80_machine.specs.Shared.{block_with}
 use Rattle.s80_machine.specs.Step.{block_activated, by_effect, by_primitive, code_for, found_turn, method_turn, places_of, selector_at}
-use Rattle.s80_machine.specs.Seen.{Given, IsFound, Method}
+use Rattle.s80_machine.specs.Seen.{Given, Method, FoundCode}
 use Rattle.s80_machine.specs.Came.{Came, Shows, at_place, places, sends}
 use Rattle.s80_machine.specs.Messages.{TopSends, activates, finds, runs}
 use Rattle.s80_machine.specs.Sites.{IsLiteralOf, IsNoted, IsSite, site_in}
-use Rattle.s80_machine.proofs.SoundLists.{both_true, found_there, keys_same, same_keys, same_number}
+use Rattle.s80_machine.proofs.lemmas.SoundLists.{both_true, found_there, keys_same, same_keys, same_number}
 use Rattle.s80_machine.proofs.KeptSites.{any_got, any_within, literal_stays}
 use Rattle.s80_machine.proofs.CameSends.{IsNumbered, alive}
 use Rattle.s80_machine.proofs.CameMethods.{found_code}
@@ -71,10 +71,10 @@ module _ (on : Given) (sent : World → Option Turn) (at : List Place) (selector
       subst (λ o. Came on (found_turn on.table on.methods on.code on.budget o sent selector r arguments below w) new result) (sym is)
       (subst (λ turn. Came on turn new result) (sym (plain_turn on (sent w) (method f.class f.side selector) f.entry.code r arguments below w plain)) came)
 
-  pub plain_code_runs : (g : FoundCode) → IsFound (finds on selector at) (Some g) → g.code.now.primitive ≡ 0 → Activates (method g.class g.side selector) g.code.now → Runs
+  pub plain_code_runs : (g : FoundCode) → IsFound (finds on selector at) (Some g) → g.entry.now.code.primitive ≡ 0 → Activates (method g.class g.side selector) g.entry.now.code → Runs
   plain_code_runs g found plain came =
       found_code on sent at selector r arguments below w new result g found
-      (subst (λ turn. Came on turn new result) (sym (plain_turn on (sent w) (method g.class g.side selector) g.code.now r arguments below w plain)) came)
+      (subst (λ turn. Came on turn new result) (sym (plain_turn on (sent w) (method g.class g.side selector) g.entry.now.code r arguments below w plain)) came)
 
 -- ---- a message that went to a method before
 
@@ -115,7 +115,7 @@ is_numbered w key n there = ap (λ (b : Bool). record w { keys = if b then w.key
 -- ---- a message that is noted
 
 pub site_is : (on : Given) (keys : List Key) (m k : ℕ) (selector : List ℕ) (class : ℕ) (side : Side) (number : ℕ) (g : FoundCode) → IsLiteralOf on keys m k selector
-    → IsFound (finds on selector (places_up on.table class side)) (Some g) → g.code.now.primitive ≡ 0 → position_or_len (same_key (method g.class g.side selector)) keys ≡ number → number < length keys
+    → IsFound (finds on selector (places_up on.table class side)) (Some g) → g.entry.now.code.primitive ≡ 0 → position_or_len (same_key (method g.class g.side selector)) keys ≡ number → number < length keys
     → IsSite on keys m k (record { class = class; side = side; method = number })
 site_is on keys m k selector class side number g sends found plain own there = go (finds on selector (places_up on.table class side)) refl found
   where
@@ -126,7 +126,7 @@ site_is on keys m k selector class side number g sends found plain own there = g
       found = f;
       sent = sends;
       finds = e;
-      plain = ap (λ (c : Code). c.primitive) (sym is.2) ∙ plain;
+      plain = ap (λ (e : MethodEntry Code). e.code.primitive) (sym is.2) ∙ plain;
       number = subst (λ s. position_or_len (same_key (method f.class s selector)) keys ≡ number) is.1 (subst (λ c. position_or_len (same_key (method c g.side selector)) keys ≡ number) is.0 own);
       there = there;
     }
@@ -154,7 +154,7 @@ shows_noted on m s sites n k site shows noted is = record {
 
 -- the method has its number, and that is noted
 pub noted_after : (on : Given) (m : Machine) (s : State) (at k : ℕ) (selector : List ℕ) (class : ℕ) (side : Side) (number : ℕ) (g : FoundCode) (methods : List Method) (sites : Sites) → IsLiteralOf on s.world.keys at k selector
-    → IsFound (finds on selector (places_up on.table class side)) (Some g) → g.code.now.primitive ≡ 0 → IsNumbered on (record m { methods = methods }) s (method g.class g.side selector) number
+    → IsFound (finds on selector (places_up on.table class side)) (Some g) → g.entry.now.code.primitive ≡ 0 → IsNumbered on (record m { methods = methods }) s (method g.class g.side selector) number
     → IsNoted m.sites at k (record { class = class; side = side; method = number }) sites
     → Shows on (record m { methods = methods; sites = sites }) (alive s.contexts (numbered s.world (method g.class g.side selector)))
 noted_after on m s at k selector class side number g methods sites sends found plain n noted =

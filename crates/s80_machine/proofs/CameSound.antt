@@ -5,8 +5,9 @@ use Rattle.std.proofs.lemmas.Option.{slice_get-map}
 use Rattle.s80_code.specs.declared.code.Code.{Code}
 use Rattle.s80_code.specs.declared.instruction.Instruction.{Instruction}
 use Rattle.s80_code.specs.declared.instruction.Instruction.TheVariants.{SendSpecial}
+use Rattle.s80_code.specs.Special.{block_copy}
 use Rattle.s80_code.specs.Table.{Stands, decoded}
-use Rattle.s80_code.proofs.TableLemmas.{value}
+use Rattle.s80_code.proofs.lemmas.TableLemmas.{value}
 use Rattle.s80_object.specs.Body.{home as home_body}
 use Rattle.s80_object.specs.Objects.{IsHome, State as Objects, body_at}
 use Rattle.s80_object.specs.declared.value.Value.TheVariants.{Object}
@@ -14,21 +15,21 @@ use Rattle.s80_prims.specs.Known.{AreKnown, IsKnown}
 use Rattle.s80_verify.specs.declared.stack.Stack.{Stack}
 use Rattle.s80_verify.specs.Operands.{Suits}
 use Rattle.s80_verify.specs.Record.{Fits}
-use Rattle.s80_verify.proofs.LawLemmas.{fits_there}
-use Rattle.s80_verify.proofs.PlaceLemmas.{ends_within}
+use Rattle.s80_verify.proofs.lemmas.LawLemmas.{fits_there}
+use Rattle.s80_verify.proofs.lemmas.PlaceLemmas.{ends_within}
 use Rattle.s80_machine.specs.declared.halt.Halt.{Halt}
 use Rattle.s80_machine.specs.declared.machine.Machine.{Machine}
 use Rattle.s80_machine.specs.declared.methods.Activated.{Activated}
-use Rattle.s80_machine.specs.World.{World, Context, Frame, own, home, block, home_in}
-use Rattle.s80_machine.specs.Turn.{State}
+use Rattle.s80_machine.specs.World.{World, Activation, own, home, block, home_in}
+use Rattle.s80_machine.specs.Turn.{Context, State}
 use Rattle.s80_machine.specs.Step.{act, code_at, code_for, turn, turn_at, turn_of}
-use Rattle.s80_machine.specs.Sound.{AreSound, HasCount, IsFrameOf, IsHomeOf, IsSound, IsSoundContext, IsSoundWorld, stack_kind}
+use Rattle.s80_machine.specs.Sound.{AreSound, HasCount, IsActivationOf, IsHomeOf, IsSound, IsSoundContext, IsSoundWorld, stack_kind}
 use Rattle.s80_machine.specs.Seen.{Does, Given, IsActivated, Method, moved}
 use Rattle.s80_machine.specs.Came.{Came, IsGiven, Shows, ShowsWorld, TopHasHome, TopIsKnown, at_place}
 use Rattle.s80_machine.specs.Messages.{ReceiverIsKnown, TopRuns}
 use Rattle.s80_machine.specs.Acts.{TopCountsFew, TopHasMethod}
 use Rattle.s80_machine.proofs.SoundEnds.{AllWait}
-use Rattle.s80_machine.proofs.SoundLists.{all_got}
+use Rattle.s80_machine.proofs.lemmas.SoundLists.{all_got}
 use Rattle.s80_machine.proofs.CameCounts.{few_counted}
 use Rattle.s80_machine.proofs.CameSteps.{shows_other, state, with_contexts}
 
@@ -156,8 +157,8 @@ module _ (on : Given) (m : Machine) where
 
     -- ---- its instruction
 
-    abbrev here : Fits of c.place (stack_kind c.frame) (length c.stack + 0)
-    here = fits_there of a.stands.method.suits.depths c.place (stack_kind c.frame) (length c.stack + 0) a.stands.reached
+    abbrev here : Fits of c.place (stack_kind c.activation) (length c.stack + 0)
+    here = fits_there of a.stands.method.suits.depths c.place (stack_kind c.activation) (length c.stack + 0) a.stands.reached
 
     fetched : (code : Code) (place : ℕ) → code ≡ of → place ≡ c.place → decoded (drop place code.bytes) ≡ Some (here.instruction, here.stands.width)
     fetched code place same at = ap (λ (k : Code). decoded (drop place k.bytes)) same ∙ ap (λ p. decoded (drop p of.bytes)) at ∙ here.stands.is_decoded
@@ -180,15 +181,15 @@ module _ (on : Given) (m : Machine) where
 
       pub suits : (at : ℕ) × (stack : Stack) × Suits code at stack i
       suits =
-          let there : Suits of c.place (stack_kind c.frame) i = subst (λ (p : Instruction × ℕ). Suits of c.place (stack_kind c.frame) p.0) one here.suits in
-          (c.place, stack_kind c.frame, subst (λ (k : Code). Suits k c.place (stack_kind c.frame) i) (sym same) there)
+          let there : Suits of c.place (stack_kind c.activation) i = subst (λ (p : Instruction × ℕ). Suits of c.place (stack_kind c.activation) p.0) one here.suits in
+          (c.place, stack_kind c.activation, subst (λ (k : Code). Suits k c.place (stack_kind c.activation) i) (sym same) there)
 
-      pub few : i ≡ SendSpecial 24 → (next : ℕ) (contexts : List Context) → contexts ≡ record c { place = next } ∷ a.rest → TopCountsFew (with_contexts m contexts)
+      pub few : i ≡ SendSpecial block_copy → (next : ℕ) (contexts : List Context) → contexts ≡ record c { place = next } ∷ a.rest → TopCountsFew (with_contexts m contexts)
       few copies next contexts is = λ d rest n e counts.
           let same : d ∷ rest ≡ record c { place = next } ∷ a.rest = sym e ∙ is in
           let top : d ≡ record c { place = next } = cc in
           let on_top : HasCount n c.stack = subst (λ (x : Context). HasCount n x.stack) top counts in
-          let there : Stands of.bytes c.place (SendSpecial 24) (c.place + width) = subst (λ j. Stands of.bytes c.place j (c.place + width)) copies stands in
+          let there : Stands of.bytes c.place (SendSpecial block_copy) (c.place + width) = subst (λ j. Stands of.bytes c.place j (c.place + width)) copies stands in
           few_counted on.table on.methods on.code c a.rest w a.sound a.stands a.wait (c.place + width) there n on_top
 
       -- the step is what this instruction does
@@ -236,10 +237,10 @@ module _ (on : Given) (m : Machine) where
         let there = ap (λ (x : Context). slice_get (map (λ x. x.key) m.methods) x.method) top ∙ ap (λ keys. slice_get keys c.method) a.shows.world.keys ∙ a.stands.method.key_is in
         (a.stands.method.key, (there, a.stands.method.code_is ∙ ap (λ k. Some k) (sym same)))
 
-    home_there : (f : Frame) (h : ℕ) → IsFrameOf on.table on.methods on.code w f c.method c.receiver of → home_in f ≡ Some h → IsHomeOf on.table on.methods on.code w h c.method c.receiver of
-    home_there (own temporaries) h frame e = cc
-    home_there (home k) h frame e = subst (λ n. IsHomeOf on.table on.methods on.code w n c.method c.receiver of) (value e) frame
-    home_there (block b k) h frame e = subst (λ n. IsHomeOf on.table on.methods on.code w n c.method c.receiver of) (value e) frame.0
+    home_there : (f : Activation) (h : ℕ) → IsActivationOf on.table on.methods on.code w f c.method c.receiver of → home_in f ≡ Some h → IsHomeOf on.table on.methods on.code w h c.method c.receiver of
+    home_there (own temporaries) h activation e = cc
+    home_there (home k) h activation e = subst (λ n. IsHomeOf on.table on.methods on.code w n c.method c.receiver of) (value e) activation
+    home_there (block b k) h activation e = subst (λ n. IsHomeOf on.table on.methods on.code w n c.method c.receiver of) (value e) activation.0
 
     home_is : (h : ℕ) → IsHomeOf on.table on.methods on.code w h c.method c.receiver of → IsHome (body_at m.objects (Object h))
     home_is h it =
@@ -250,5 +251,5 @@ module _ (on : Given) (m : Machine) where
     has_home next contexts is = λ d rest h e found.
         let same : d ∷ rest ≡ record c { place = next } ∷ a.rest = sym e ∙ is in
         let same_one : d ≡ record c { place = next } = cc in
-        let top : d.frame ≡ c.frame = ap (λ (x : Context). x.frame) same_one in
-        home_is h (home_there c.frame h a.stands.frame (sym (ap home_in top) ∙ found))
+        let top : d.activation ≡ c.activation = ap (λ (x : Context). x.activation) same_one in
+        home_is h (home_there c.activation h a.stands.activation (sym (ap home_in top) ∙ found))

@@ -8,17 +8,18 @@ use Rattle.std.proofs.lemmas.Bool.Decides.{nat_tests}
 use Rattle.s80_code.specs.declared.code.Code.{Code}
 use Rattle.s80_code.specs.declared.instruction.Instruction.{Instruction}
 use Rattle.s80_code.specs.declared.instruction.Instruction.TheVariants.{Jump, JumpOnFalse, JumpOnTrue, SendSpecial}
-use Rattle.s80_code.proofs.TableLemmas.{value}
+use Rattle.s80_code.specs.Special.{block_copy, special_arguments}
+use Rattle.s80_code.proofs.lemmas.TableLemmas.{value}
 use Rattle.s80_object.specs.declared.value.Value.{Value}
 use Rattle.s80_object.specs.declared.value.Value.TheVariants.{False, True}
 use Rattle.s80_prims.specs.declared.stop.End.TheVariants.{Stopped}
 use Rattle.s80_prims.specs.declared.stop.Stop.TheVariants.{Budget, CannotReturn, NonBoolean}
-use Rattle.s80_verify.specs.Effect.{special_arguments}
 use Rattle.s80_machine.specs.declared.halt.Halt.{Halt}
 use Rattle.s80_machine.specs.declared.halt.Halt.TheVariants as halt
 use Rattle.s80_machine.specs.declared.machine.Machine.{Machine}
-use Rattle.s80_machine.specs.World.{World, Key, Context, Frame, own, home, block, is_home, one_tick}
-use Rattle.s80_machine.specs.Turn.{State, Turn, Goes, Stuck, decided, deliver, given, goes_on, message_off, return_from, return_home, stops, ticked}
+use Rattle.s80_machine.specs.World.{World, Key, Activation, own, home, block, one_tick}
+use Rattle.s80_machine.specs.Turn.{Context, is_home, State, Turn, Goes, Stuck, deliver, given, goes_on, message_off, return_from, return_home, stops, ticked}
+use Rattle.s80_machine.specs.Shared.{decided}
 use Rattle.s80_machine.specs.Turn as turn
 use Rattle.s80_machine.specs.Step.{act, copy_turn, jump, special_turn}
 use Rattle.s80_machine.specs.Seen.{Does, DoesOne, Given, IsEnded, IsUnwound, Method, below_home, popped, popped_from, topped, topped_in, with_stack}
@@ -164,33 +165,33 @@ module _ (on : Given) where
       by_test true later e = cc
       by_test false later e = later e
 
-  left_is : (f : Frame) (v : Value) (rest : List Context) (w : World) (left : List Context) → left_by f rest ≡ Some left → return_from f v rest w ≡ deliver v left w
+  left_is : (f : Activation) (v : Value) (rest : List Context) (w : World) (left : List Context) → left_by f rest ≡ Some left → return_from f v rest w ≡ deliver v left w
   left_is (own temporaries) v rest w left e = let same : rest ≡ left = cc in ap (λ l. deliver v l w) same
   left_is (home h) v rest w left e = let same : rest ≡ left = cc in ap (λ l. deliver v l w) same
   left_is (block b h) v rest w left e = home_left h v rest w left e
 
-  none_left : (f : Frame) (v : Value) (rest : List Context) (w : World) → left_by f rest ≡ None → return_from f v rest w ≡ stops CannotReturn w
+  none_left : (f : Activation) (v : Value) (rest : List Context) (w : World) → left_by f rest ≡ None → return_from f v rest w ≡ stops CannotReturn w
   none_left (own temporaries) v rest w e = cc
   none_left (home h) v rest w e = cc
   none_left (block b h) v rest w e = home_not_left h v rest w e
 
   module _ (m : Machine) (c : Context) (rest : List Context) (w : World) (shows : Shows on m (state (c ∷ rest) w)) (v : Value) (new : List Context) where
-    pub none_unwound : (fault : Halt) → IsUnwound (left_by c.frame rest) m.contexts new (Err fault) → Came on (return_from c.frame v rest w) (with_contexts m new) (Err fault)
-    none_unwound fault unwound = by_left (left_by c.frame rest) refl unwound
+    pub none_unwound : (fault : Halt) → IsUnwound (left_by c.activation rest) m.contexts new (Err fault) → Came on (return_from c.activation v rest w) (with_contexts m new) (Err fault)
+    none_unwound fault unwound = by_left (left_by c.activation rest) refl unwound
       where
-        by_left : (o : Option (List Context)) → left_by c.frame rest ≡ o → IsUnwound o m.contexts new (Err fault) → Came on (return_from c.frame v rest w) (with_contexts m new) (Err fault)
+        by_left : (o : Option (List Context)) → left_by c.activation rest ≡ o → IsUnwound o m.contexts new (Err fault) → Came on (return_from c.activation v rest w) (with_contexts m new) (Err fault)
         by_left None e h =
-            subst (λ t. Came on t (with_contexts m new) (Err fault)) (sym (none_left c.frame v rest w e))
+            subst (λ t. Came on t (with_contexts m new) (Err fault)) (sym (none_left c.activation v rest w e))
             (ends_so on (Stopped CannotReturn) w (with_contexts m new) fault h.0 (same_world m w new shows.world))
         by_left (Some left) e h = let is = h.0 in cc
 
-    pub unwound_goes : (x : Machine) (r : Result (Unit {0}) Halt) → IsUnwound (left_by c.frame rest) m.contexts new (Ok tt)
-        → ((left : List Context) → Shows on (with_contexts m new) (state left w) → Came on (deliver v left w) x r) → Came on (return_from c.frame v rest w) x r
-    unwound_goes x r unwound goes = by_left (left_by c.frame rest) refl unwound
+    pub unwound_goes : (x : Machine) (r : Result (Unit {0}) Halt) → IsUnwound (left_by c.activation rest) m.contexts new (Ok tt)
+        → ((left : List Context) → Shows on (with_contexts m new) (state left w) → Came on (deliver v left w) x r) → Came on (return_from c.activation v rest w) x r
+    unwound_goes x r unwound goes = by_left (left_by c.activation rest) refl unwound
       where
-        by_left : (o : Option (List Context)) → left_by c.frame rest ≡ o → IsUnwound o m.contexts new (Ok tt) → Came on (return_from c.frame v rest w) x r
+        by_left : (o : Option (List Context)) → left_by c.activation rest ≡ o → IsUnwound o m.contexts new (Ok tt) → Came on (return_from c.activation v rest w) x r
         by_left None e h = absurd h
-        by_left (Some left) e h = subst (λ t. Came on t x r) (sym (left_is c.frame v rest w left e)) (goes left (shows_other m (c ∷ rest) new left w h.1 shows))
+        by_left (Some left) e h = subst (λ t. Came on t x r) (sym (left_is c.activation v rest w left e)) (goes left (shows_other m (c ∷ rest) new left w h.1 shows))
 
   -- ---- a part that may be there
 
@@ -265,9 +266,9 @@ module _ (on : Given) where
     abbrev sends : Turn
     sends = message_off (get_or special_arguments n 0) [] c.stack (special_turn on.table on.methods on.code on.budget n c next rest w)
 
-    pub short_copies : n ≡ 24 → Came on (copy_turn on.table on.methods on.code on.budget c next rest w c.stack) new r → Came on (act on.table on.methods on.code on.budget code c next rest w (SendSpecial n)) new r
-    short_copies is came = let test : (n == 24) ≡ true = grind (arith, nat_tests) in subst (λ b. Came on (if b then copies else sends) new r) (sym test) came
+    pub short_copies : n ≡ block_copy → Came on (copy_turn on.table on.methods on.code on.budget c next rest w c.stack) new r → Came on (act on.table on.methods on.code on.budget code c next rest w (SendSpecial n)) new r
+    short_copies is came = let test : (n == block_copy) ≡ true = grind (arith, nat_tests) in subst (λ b. Came on (if b then copies else sends) new r) (sym test) came
 
-    pub short_sends : n ≢ 24 → Came on (message_off (get_or special_arguments n 0) [] c.stack (special_turn on.table on.methods on.code on.budget n c next rest w)) new r
+    pub short_sends : n ≢ block_copy → Came on (message_off (get_or special_arguments n 0) [] c.stack (special_turn on.table on.methods on.code on.budget n c next rest w)) new r
         → Came on (act on.table on.methods on.code on.budget code c next rest w (SendSpecial n)) new r
-    short_sends differs came = let test : (n == 24) ≡ false = grind (arith, nat_tests) in subst (λ b. Came on (if b then copies else sends) new r) (sym test) came
+    short_sends differs came = let test : (n == block_copy) ≡ false = grind (arith, nat_tests) in subst (λ b. Came on (if b then copies else sends) new r) (sym test) came

@@ -2,19 +2,18 @@
 use Rattle.std.proofs.Common.{◌≡◌, ◌∙◌, ap, sym, subst, refl, ℕ, List, ◌∷◌, slice_get, Option, Some, None, Result, Ok, Err}
 use Rattle.std.specs.Option.{option_map}
 use Rattle.s80_class.specs.Classes.{Name}
-use Rattle.s80_class.specs.Table.{IsNumberOf}
-use Rattle.s80_code.proofs.TableLemmas.{value}
+use Rattle.s80_class.specs.Table.{IsNumberOf, number_of}
+use Rattle.s80_code.proofs.lemmas.TableLemmas.{value}
 use Rattle.s80_object.specs.declared.value.Value.{Value}
 use Rattle.s80_object.specs.declared.value.Value.TheVariants.{Object}
-use Rattle.s80_prims.specs.Classes.{number_of}
 use Rattle.s80_machine.specs.declared.halt.Halt.{Halt}
 use Rattle.s80_machine.specs.declared.halt.Halt.TheVariants as halt
 use Rattle.s80_machine.specs.declared.machine.Machine.{Machine}
-use Rattle.s80_machine.specs.World.{World, Context, Frame, own, home, block, field_set, home_in, in_frame, waiting, with_receiver_variable, with_temporary}
-use Rattle.s80_machine.specs.Turn.{Turn, given, goes_on}
+use Rattle.s80_machine.specs.World.{World, Activation, own, home, block, field_set, home_in, in_activation, with_receiver_variable, with_temporary}
+use Rattle.s80_machine.specs.Turn.{Context, waiting, Turn, given, goes_on}
 use Rattle.s80_machine.specs.Seen.{Given}
 use Rattle.s80_machine.specs.Came.{Came, Stores}
-use Rattle.s80_machine.proofs.SoundClasses.{has_number, number_names}
+use Rattle.s80_class.proofs.lemmas.Numbers.{has_number, number_names}
 
 -- ---- turns
 
@@ -50,21 +49,21 @@ module _ (on : Given) (c : Context) (next : ℕ) (stack : List Value) (rest : Li
       comes_so on _ _ new r (ap (λ v. given (with_receiver_variable w v i x) (goes_on c next stack rest)) is) (stored_comes (field_set w n i x) r stores)
 
   -- a temporary of a home
-  abbrev goes_in : World × Frame → Turn
-  goes_in p = goes_on (record c { frame = p.1 }) next stack rest p.0
+  abbrev goes_in : World × Activation → Turn
+  goes_in p = goes_on (record c { activation = p.1 }) next stack rest p.0
 
-  in_own_frame : (o : Option World) → given (option_map (in_frame c.frame) o) goes_in ≡ given o (goes_on c next stack rest)
-  in_own_frame None = refl
-  in_own_frame (Some w) = refl
+  in_own_activation : (o : Option World) → given (option_map (in_activation c.activation) o) goes_in ≡ given o (goes_on c next stack rest)
+  in_own_activation None = refl
+  in_own_activation (Some w) = refl
 
-  at_home : (w : World) (f : Frame) (h i : ℕ) (x : Value) → home_in f ≡ Some h → with_temporary w f i x ≡ option_map (in_frame f) (field_set w h i x)
+  at_home : (w : World) (f : Activation) (h i : ℕ) (x : Value) → home_in f ≡ Some h → with_temporary w f i x ≡ option_map (in_activation f) (field_set w h i x)
   at_home w (own temporaries) h i x is = cc
-  at_home w (home k) h i x is = ap (λ n. option_map (in_frame (home k)) (field_set w n i x)) (value is)
-  at_home w (block b k) h i x is = ap (λ n. option_map (in_frame (block b k)) (field_set w n i x)) (value is)
+  at_home w (home k) h i x is = ap (λ n. option_map (in_activation (home k)) (field_set w n i x)) (value is)
+  at_home w (block b k) h i x is = ap (λ n. option_map (in_activation (block b k)) (field_set w n i x)) (value is)
 
-  pub home_comes : (w : World) (h i : ℕ) (x : Value) (r : Result (Unit {0}) Halt) → home_in c.frame ≡ Some h → Stores on (field_set w h i x) old new r → Came on (given (with_temporary w c.frame i x) goes_in) new r
+  pub home_comes : (w : World) (h i : ℕ) (x : Value) (r : Result (Unit {0}) Halt) → home_in c.activation ≡ Some h → Stores on (field_set w h i x) old new r → Came on (given (with_temporary w c.activation i x) goes_in) new r
   home_comes w h i x r is stores =
-      comes_so on _ _ new r (ap (λ o. given o goes_in) (at_home w c.frame h i x is) ∙ in_own_frame (field_set w h i x)) (stored_comes (field_set w h i x) r stores)
+      comes_so on _ _ new r (ap (λ o. given o goes_in) (at_home w c.activation h i x is) ∙ in_own_activation (field_set w h i x)) (stored_comes (field_set w h i x) r stores)
 
 -- ---- outer names
 

@@ -8,13 +8,14 @@ use Rattle.s80_code.specs.declared.instruction.Instruction.TheVariants.{JumpOnFa
 use Rattle.s80_code.specs.declared.instruction.Storage.{Storage}
 use Rattle.s80_code.specs.declared.instruction.Storage.TheVariants.{Receiver, Temporary}
 use Rattle.s80_code.specs.Table.{decoded}
-use Rattle.s80_code.proofs.TableLemmas.{value}
+use Rattle.s80_code.proofs.lemmas.TableLemmas.{value}
 use Rattle.s80_object.specs.Objects.{State as Objects}
 use Rattle.s80_object.specs.declared.value.Value.{Value}
 use Rattle.s80_object.specs.declared.value.Value.TheVariants.{False, True}
 use Rattle.s80_prims.specs.declared.stop.Stop.TheVariants.{NonBoolean}
-use Rattle.s80_machine.specs.World.{World, Context, Frame, with_objects, with_temporary}
-use Rattle.s80_machine.specs.Turn.{Goes, State, Turn, decided, given, goes_on, place_at, stops}
+use Rattle.s80_machine.specs.World.{World, Activation, with_objects, with_temporary}
+use Rattle.s80_machine.specs.Turn.{Context, Goes, State, Turn, given, goes_on, place_at, stops}
+use Rattle.s80_machine.specs.Shared.{decided}
 use Rattle.s80_machine.specs.Turn as turn
 use Rattle.s80_machine.specs.Step.{act, jump, store, turn_at}
 use Rattle.s80_machine.specs.Counted.{block_in}
@@ -64,31 +65,31 @@ module _ (on : Given) (code : Code) (next ticks : ℕ) where
     seen : a.stack ≡ v ∷ below
     seen = stack ∙ on_top xs v top
 
-    module _ (i : ℕ) (frame : Frame) (objects changed : Objects) (told : (w : World) → with_temporary (with_objects w objects) a.frame i v ≡ Some (with_objects w changed, frame)) where
+    module _ (i : ℕ) (activation : Activation) (objects changed : Objects) (told : (w : World) → with_temporary (with_objects w objects) a.activation i v ≡ Some (with_objects w changed, activation)) where
       stores : (left : List Value) (rest : List Context) (w : World)
           → store on.table on.methods on.code on.budget code a next rest (world_of (local a objects ticks) w) (Temporary i) v left
-          ≡ goes_on (record a { frame = frame }) next left rest (world_of (local a changed ticks) w)
-      stores left rest w = ap (λ o. given o (λ (p : World × Frame). goes_on (record a { frame = p.1 }) next left rest p.0)) (told (record w { ticks = ticks }))
+          ≡ goes_on (record a { activation = activation }) next left rest (world_of (local a changed ticks) w)
+      stores left rest w = ap (λ o. given o (λ (p : World × Activation). goes_on (record a { activation = p.1 }) next left rest p.0)) (told (record w { ticks = ticks }))
 
-      pub top_stored : Leads on code (Store (Temporary i)) next (local old objects ticks) (local (record a { frame = frame; place = next }) changed ticks)
+      pub top_stored : Leads on code (Store (Temporary i)) next (local old objects ticks) (local (record a { activation = activation; place = next }) changed ticks)
       top_stored =
-          subst (λ (c : Context). Leads on code (Store (Temporary i)) next (local c objects ticks) (local (record a { frame = frame; place = next }) changed ticks)) shows
+          subst (λ (c : Context). Leads on code (Store (Temporary i)) next (local c objects ticks) (local (record a { activation = activation; place = next }) changed ticks)) shows
           (record {
             method = refl;
             step = λ rest w.
                 ap (λ s. turn.popped s (λ v below. store on.table on.methods on.code on.budget code a next rest (world_of (local a objects ticks) w) (Temporary i) v (v ∷ below))) seen
-                ∙ stores (v ∷ below) rest w ∙ ap (λ s. goes_on (record a { frame = frame }) next s rest (world_of (local a changed ticks) w)) (sym seen);
+                ∙ stores (v ∷ below) rest w ∙ ap (λ s. goes_on (record a { activation = activation }) next s rest (world_of (local a changed ticks) w)) (sym seen);
           })
 
       pub top_moved : (ys : List Value) → ys ≡ take (length xs - 1) xs
-          → Leads on code (PopInto (Temporary i)) next (local old objects ticks) (local (record a { frame = frame; place = next; stack = reverse ys }) changed ticks)
+          → Leads on code (PopInto (Temporary i)) next (local old objects ticks) (local (record a { activation = activation; place = next; stack = reverse ys }) changed ticks)
       top_moved ys is =
-          subst (λ (c : Context). Leads on code (PopInto (Temporary i)) next (local c objects ticks) (local (record a { frame = frame; place = next; stack = reverse ys }) changed ticks)) shows
+          subst (λ (c : Context). Leads on code (PopInto (Temporary i)) next (local c objects ticks) (local (record a { activation = activation; place = next; stack = reverse ys }) changed ticks)) shows
           (record {
             method = refl;
             step = λ rest w.
                 ap (λ s. turn.popped s (store on.table on.methods on.code on.budget code a next rest (world_of (local a objects ticks) w) (Temporary i))) seen
-                ∙ stores below rest w ∙ ap (λ zs. goes_on (record a { frame = frame }) next (reverse zs) rest (world_of (local a changed ticks) w)) (sym is);
+                ∙ stores below rest w ∙ ap (λ zs. goes_on (record a { activation = activation }) next (reverse zs) rest (world_of (local a changed ticks) w)) (sym is);
           })
 
     -- ---- jumps
@@ -137,7 +138,7 @@ module _ (on : Given) (code : Code) (next ticks : ℕ) where
 -- ---- so many instructions
 
 pub record KeepsOn (budget : ℕ) (entries : List (Option (Instruction × ℕ))) (old new : Local) : Type 0 where
-  pub stays : block_in new.context.frame ≡ block_in old.context.frame
+  pub stays : block_in new.context.activation ≡ block_in old.context.activation
   pub goes : (on : Given) (code : Code) → on.budget ≡ budget → entries ≡ listing code.bytes → (n : ℕ) × LeadsFar on code n old new
 
 module _ (budget : ℕ) (entries : List (Option (Instruction × ℕ))) where
@@ -145,7 +146,7 @@ module _ (budget : ℕ) (entries : List (Option (Instruction × ℕ))) where
   keeps_first l = record { stays = refl; goes = λ on code same listed. (0, refl) }
 
   module _ (old mid new : Local) (keeps : KeepsOn budget entries old mid) (i : Instruction) (width next : ℕ) (there : slice_get entries mid.context.place ≡ Some (Some (i, width))) (sum : next ≡ mid.context.place + width)
-      (stays : block_in new.context.frame ≡ block_in mid.context.frame) (done : Bool) (tries : (on : Given) (code : Code) → on.budget ≡ budget → Tries on code i next mid new done) where
+      (stays : block_in new.context.activation ≡ block_in mid.context.activation) (done : Bool) (tries : (on : Given) (code : Code) → on.budget ≡ budget → Tries on code i next mid new done) where
     leads_on : (on : Given) (code : Code) → entries ≡ listing code.bytes → Leads on code i next mid new → LeadsOn on code mid new
     leads_on on code listed leads =
         let is : decoded (drop mid.context.place code.bytes) ≡ Some (i, width) = some_listed code.bytes mid.context.place (Some (i, width)) (ap (λ es. slice_get es mid.context.place) (sym listed) ∙ there) in

@@ -4,7 +4,8 @@ use Rattle.std.specs.List.{sum_by, list_any}
 use Rattle.std.proofs.lemmas.Bool.{eq-eqb, ne_eqb, cases_lt, cases_eq}
 use Rattle.std.proofs.lemmas.List.{get_or-set_same, get_or-set_other, get_or_past}
 use Rattle.std.proofs.lemmas.List.Sums.{sum_by-cons, sum_by_push, sum_by-take-drop, sum_by-set}
-use Rattle.s80_machine.specs.World.{Context, Frame, own, home, block, is_active, is_frame_of_block}
+use Rattle.s80_machine.specs.Turn.{Context, is_active}
+use Rattle.s80_machine.specs.World.{Activation, own, home, block, is_activation_of_block}
 use Rattle.s80_machine.specs.Counted.{AreCounted, block_in, count_of, one_of}
 use Rattle.s80_machine.proofs.SeenContexts.{any_reversed}
 
@@ -14,22 +15,22 @@ abbrev is_of : ℕ → Option ℕ → Bool
 is_of b None = false
 is_of b (Some d) = b == d
 
-told_by_block : (b : ℕ) (f : Frame) → is_frame_of_block b f ≡ is_of b (block_in f)
+told_by_block : (b : ℕ) (f : Activation) → is_activation_of_block b f ≡ is_of b (block_in f)
 told_by_block b (own temporaries) = refl
 told_by_block b (home h) = refl
 told_by_block b (block d h) = refl
 
-ones : (b : ℕ) (c : Context) (o : Option ℕ) → block_in c.frame ≡ o → one_of b c ≡ cond (is_of b o) 1 0
-ones b c o is = ap (λ t. cond t 1 0) (told_by_block b c.frame ∙ ap (is_of b) is)
+ones : (b : ℕ) (c : Context) (o : Option ℕ) → block_in c.activation ≡ o → one_of b c ≡ cond (is_of b o) 1 0
+ones b c o is = ap (λ t. cond t 1 0) (told_by_block b c.activation ∙ ap (is_of b) is)
 
-same_ones : (b : ℕ) (x y : Context) → block_in y.frame ≡ block_in x.frame → one_of b y ≡ one_of b x
-same_ones b x y same = ones b y (block_in x.frame) same ∙ sym (ones b x (block_in x.frame) refl)
+same_ones : (b : ℕ) (x y : Context) → block_in y.activation ≡ block_in x.activation → one_of b y ≡ one_of b x
+same_ones b x y same = ones b y (block_in x.activation) same ∙ sym (ones b x (block_in x.activation) refl)
 
 -- one of its own block, and of no other
-pub one_here : (d : ℕ) (c : Context) → block_in c.frame ≡ Some d → one_of d c ≡ 1
+pub one_here : (d : ℕ) (c : Context) → block_in c.activation ≡ Some d → one_of d c ≡ 1
 one_here d c is = ones d c (Some d) is ∙ ap (λ t. cond t 1 0) (eq-eqb d d refl)
 
-none_there : (b d : ℕ) (c : Context) → block_in c.frame ≡ Some d → (b ≡ d → ⊥) → one_of b c ≡ 0
+none_there : (b d : ℕ) (c : Context) → block_in c.activation ≡ Some d → (b ≡ d → ⊥) → one_of b c ≡ 0
 none_there b d c is other = ones b c (Some d) is ∙ ap (λ t. cond t 1 0) (ne_eqb b d other)
 
 -- ---- one count, more or less
@@ -39,7 +40,7 @@ pub has_place : (counts : List ℕ) (d : ℕ) → 1 ≤ get_or counts d 0 → d 
 has_place counts d some = elim (cases_lt d (length counts)) [ inl within ↦ within | inr past ↦ absurd (omega (arith, get_or_past counts d 0 past)) ]
 
 -- one more at its place
-pub one_more_of : (counts : List ℕ) (d n : ℕ) (c : Context) → d < length counts → block_in c.frame ≡ Some d → n ≡ get_or counts d 0 + 1
+pub one_more_of : (counts : List ℕ) (d n : ℕ) (c : Context) → d < length counts → block_in c.activation ≡ Some d → n ≡ get_or counts d 0 + 1
     → (b : ℕ) → get_or (set counts d n) b 0 ≡ get_or counts b 0 + one_of b c
 one_more_of counts d n c within is has b = elim (cases_eq b d) [
   | inl e ↦ subst (λ k. get_or (set counts d n) k 0 ≡ get_or counts k 0 + one_of k c) (sym e) (omega (arith, get_or-set_same counts d n 0 within, one_here d c is, has))
@@ -54,7 +55,7 @@ module _ (counts : List ℕ) (xs : List Context) (counted : AreCounted counts xs
   begun_counted new ys c is more = subst (AreCounted new) (sym is) (record { each = λ b. more b ∙ ap (λ n. n + one_of b c) (counted.each b) ∙ sym (sum_by_push (one_of b) xs c) })
 
   -- the last is changed, and is of the same block
-  pub changed_counted : (n : ℕ) (x y : Context) → n ≡ length xs → 0 < length xs → x ≡ get_or xs (n - 1) x → block_in y.frame ≡ block_in x.frame → AreCounted counts (set xs (n - 1) y)
+  pub changed_counted : (n : ℕ) (x y : Context) → n ≡ length xs → 0 < length xs → x ≡ get_or xs (n - 1) x → block_in y.activation ≡ block_in x.activation → AreCounted counts (set xs (n - 1) y)
   changed_counted n x y size some is same = record {
     each = λ b.
         let within : n - 1 < length xs = omega (arith, size, some) in
@@ -86,4 +87,4 @@ some_of test (x ∷ xs) = ap (nat_lt 0) (sum_by-cons (λ c. cond (test c) 1 0) x
 
 pub active_counted : (counts : List ℕ) (xs : List Context) → AreCounted counts xs → (old : List Context) (b n : ℕ) → reverse xs ≡ old → n ≡ get_or counts b 0 → nat_lt 0 n ≡ is_active b old
 active_counted counts xs counted old b n shows is =
-    ap (nat_lt 0) (is ∙ counted.each b) ∙ some_of (λ c. is_frame_of_block b c.frame) xs ∙ sym (any_reversed (λ c. is_frame_of_block b c.frame) xs) ∙ ap (is_active b) shows
+    ap (nat_lt 0) (is ∙ counted.each b) ∙ some_of (λ c. is_activation_of_block b c.activation) xs ∙ sym (any_reversed (λ c. is_activation_of_block b c.activation) xs) ∙ ap (is_active b) shows

@@ -13,17 +13,17 @@ use Rattle.std.proofs.lemmas.Option.{slice_get_past, slice_get_read, slice_get_w
 use Rattle.indexmap.specs.IndexSet.{insert_key}
 use Rattle.s80_base.specs.declared.names.Side.{Side}
 use Rattle.s80_base.specs.declared.names.Side.TheVariants.{Instance, Class}
-use Rattle.s80_base.proofs.Lists.{length_map}
+use Rattle.s80_base.proofs.lemmas.Lists.{length_map}
 use Rattle.s80_code.specs.declared.code.Code.{Code}
 use Rattle.s80_code.specs.declared.instruction.Instruction.{Instruction}
 use Rattle.s80_code.specs.Table.{decoded}
-use Rattle.s80_code.proofs.TableLemmas.{decodes}
-use Rattle.s80_object.proofs.Kept.{texts_of, found_place, last_place, added_last}
+use Rattle.s80_code.proofs.lemmas.TableLemmas.{decodes}
+use Rattle.s80_object.proofs.lemmas.Kept.{texts_of, found_place, last_place, added_last}
 use Rattle.s80_machine.specs.declared.methods.Activated.{Activated}
 use Rattle.s80_machine.specs.World.{Key, method, same_key}
 use Rattle.s80_machine.specs.Turn.{begins_block, instructions_in}
 use Rattle.s80_machine.specs.Seen.{AreActivated, IsActivated, IsKept, Method, Numbers, is_method, key_bytes, key_in, methods_of, side_byte, side_of_byte}
-use Rattle.s80_machine.proofs.SoundLists.{get_either_last, keys_same, same_keys}
+use Rattle.s80_machine.proofs.lemmas.SoundLists.{get_either_last, keys_same, same_keys}
 
 -- ---- keys
 

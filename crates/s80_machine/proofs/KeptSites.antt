@@ -2,13 +2,13 @@
 use Rattle.std.proofs.Common.{◌≡◌, ◌≢◌, ◌∙◌, ap, sym, subst, refl, ℕ, zero, suc, ◌+◌, ◌<◌, ◌≤◌, ◌==◌, ◌&&◌, ◌||◌, not, cond, List, [], ◌∷◌, ◌++◌, Bool, true, false, true≢false, length, slice_get, slice_set, get_or, Vec, Global, Option, Some, None, Result, Ok, Err, OnOk, option_and_then, arith, if◌then◌else◌}
 use Rattle.std.specs.List.{list_any, position_or_len}
 use Rattle.std.proofs.lemmas.Option.{slice_get_read}
-use Rattle.s80_code.proofs.TableLemmas.{value}
+use Rattle.s80_code.proofs.lemmas.TableLemmas.{value}
 use Rattle.s80_object.specs.Literal.{added_once}
 use Rattle.s80_machine.specs.declared.sites.Site.{Site}
 use Rattle.s80_machine.specs.World.{Key, same_key}
 use Rattle.s80_machine.specs.Seen.{Given}
 use Rattle.s80_machine.specs.Sites.{IsLiteralOf, IsSite}
-use Rattle.s80_machine.proofs.SoundLists.{number_same, once_front, same_number}
+use Rattle.s80_machine.proofs.lemmas.SoundLists.{number_same, once_front, same_number}
 
 -- ---- places of what passes a test
 

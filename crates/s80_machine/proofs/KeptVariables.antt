@@ -10,7 +10,7 @@ use Rattle.s80_object.specs.declared.value.Value.{Value}
 use Rattle.s80_machine.specs.declared.variables.Variables.{Variables}
 use Rattle.s80_machine.specs.World.{Variable, class_variable, outer, class_side}
 use Rattle.s80_machine.specs.Seen.{IsNamed, IsSet, held_by_name, held_by_number, value_in}
-use Rattle.s80_machine.proofs.SoundLists.{same_number, number_same}
+use Rattle.s80_machine.proofs.lemmas.SoundLists.{same_number, number_same}
 
 -- ---- tests
 

@@ -11,6 +11,7 @@ use Rattle.s80_code.specs.declared.instruction.Instruction.TheVariants as instru
 use Rattle.s80_code.specs.declared.instruction.Storage.{Storage}
 use Rattle.s80_code.specs.declared.instruction.Storage.TheVariants.{Receiver, Temporary, Constant, Variable}
 use Rattle.s80_code.specs.Entries.{entries_of}
+use Rattle.s80_code.specs.Special.{block_copy, special_arguments, special_selectors}
 use Rattle.s80_dict.specs.Table.{MethodsValue}
 use Rattle.s80_dict.specs.declared.dict.MethodEntry.{MethodEntry}
 use Rattle.s80_object.specs.Body.{block, words_of, word_limit}
@@ -19,10 +20,10 @@ use Rattle.s80_object.specs.Objects.{State as Objects, with_body}
 use Rattle.s80_object.specs.declared.value.Value.{Value}
 use Rattle.s80_object.specs.declared.value.Value.TheVariants.{Small, Character, Nil, True, False, Symbol, Number, ClassRef, Object, Context as ThisContext, Transcript, Smalltalk}
 use Rattle.s80_prims.specs.declared.stop.Stop.TheVariants.{NonBoolean}
-use Rattle.s80_verify.specs.Effect.{special_arguments}
-use Rattle.s80_machine.specs.World.{World, Context, Frame, home_in, one_tick, receiver_variable, temporary, variable_named, waiting, with_objects, with_receiver_variable, with_temporary, with_variable}
-use Rattle.s80_machine.specs.Lookup.{number}
-use Rattle.s80_machine.specs.Turn.{Turn, Goes, at_once, block_with, constant_in, decided, depth_limit, fixed, given, goes_on, is_value, place_at, special_selectors, stops, ticked}
+use Rattle.s80_machine.specs.World.{World, Activation, home_in, one_tick, receiver_variable, temporary, variable_named, with_objects, with_receiver_variable, with_temporary, with_variable}
+use Rattle.s80_machine.specs.Turn.{Context, waiting, Turn, Goes, constant_in, given, goes_on, place_at, stops, ticked}
+use Rattle.s80_class.specs.Lookup.{number}
+use Rattle.s80_machine.specs.Shared.{at_once, block_with, decided, depth_limit, fixed, is_value}
 use Rattle.s80_machine.specs.Step.{act, block_made, copy_turn, first_pushed, jump, jump_or_back, literal_pushed, places_above, places_for, push, selector_at, send_turn, special_turn, store, super_turn}
 use Rattle.s80_machine.specs.Measure.{left_of, left_of_all, one_tick_more, steps_left}
 use Rattle.s80_machine.proofs.LeftJumps.{IsForward}
@@ -72,7 +73,7 @@ module _ (t : Table) (methods : MethodsValue (MethodEntry Code)) (doit_code code
 
   by_push : (s : Storage) → Lowers budget now (push t methods doit_code budget code c next rest w s)
   by_push (Receiver i) = by_given budget now (receiver_variable w c.receiver i) _ (λ v. on (v ∷ c.stack))
-  by_push (Temporary i) = by_given budget now (temporary w c.frame i) _ (λ v. on (v ∷ c.stack))
+  by_push (Temporary i) = by_given budget now (temporary w c.activation i) _ (λ v. on (v ∷ c.stack))
   by_push (Constant k) = by_given budget now (option_and_then constant_in (slice_get (entries_of code.literals) k)) _ (by_literal k)
   by_push (Variable k) = by_given budget now (option_and_then variable_named (slice_get (entries_of code.literals) k)) _ (λ u. on (w.variables u ∷ c.stack))
 
@@ -82,11 +83,11 @@ module _ (t : Table) (methods : MethodsValue (MethodEntry Code)) (doit_code code
       kept : (o : Option World) → KeepsTicks w.ticks o → Lowers budget now (given o (goes_on c next stack rest))
       kept None h = tt
       kept (Some u) h = along c next stack u h forward
-  by_store (Temporary i) v stack = kept (with_temporary w c.frame i v) (temporary_keeps w c.frame i v)
+  by_store (Temporary i) v stack = kept (with_temporary w c.activation i v) (temporary_keeps w c.activation i v)
     where
-      kept : (o : Option (World × Frame)) → BothKeep w.ticks o → Lowers budget now (given o (λ p. goes_on (record c { frame = p.1 }) next stack rest p.0))
+      kept : (o : Option (World × Activation)) → BothKeep w.ticks o → Lowers budget now (given o (λ p. goes_on (record c { activation = p.1 }) next stack rest p.0))
       kept None h = tt
-      kept (Some p) h = along (record c { frame = p.1 }) next stack p.0 h forward
+      kept (Some p) h = along (record c { activation = p.1 }) next stack p.0 h forward
   by_store (Constant k) v stack = tt
   by_store (Variable k) v stack =
       by_given budget now (option_and_then variable_named (slice_get (entries_of code.literals) k)) _ (λ u. along c next stack (with_variable w u v) refl forward)
@@ -101,7 +102,7 @@ module _ (t : Table) (methods : MethodsValue (MethodEntry Code)) (doit_code code
   by_copy : (stack : List Value) → Lowers budget now (copy_turn t methods doit_code budget c next rest w stack)
   by_copy [] = tt
   by_copy (Small (pos count) ∷ []) = tt
-  by_copy (Small (pos count) ∷ v ∷ stack) = by_given budget now (home_in c.frame) (block_made t methods doit_code budget c next rest w count stack) (by_block_made count stack)
+  by_copy (Small (pos count) ∷ v ∷ stack) = by_given budget now (home_in c.activation) (block_made t methods doit_code budget c next rest w count stack) (by_block_made count stack)
   by_copy (Small (negsuc n) ∷ stack) = tt
   by_copy (Nil ∷ stack) = tt
   by_copy (True ∷ stack) = tt
@@ -175,13 +176,13 @@ module _ (t : Table) (methods : MethodsValue (MethodEntry Code)) (doit_code code
   by_act (instruction.Store storage) f = by_popped budget now c.stack _ (λ v stack. by_store storage v (v ∷ stack))
   by_act (instruction.PopInto storage) f = by_popped budget now c.stack _ (λ v stack. by_store storage v stack)
   by_act (instruction.PushFixed n) f = by_given budget now (slice_get (fixed c.receiver) n) _ (λ v. on (v ∷ c.stack))
-  by_act (instruction.ReturnFixed n) f = by_given budget now (slice_get (fixed c.receiver) n) _ (λ v. by_return budget now c.frame v rest w ended)
-  by_act instruction.ReturnTop f = by_popped budget now c.stack _ (λ v stack. by_return budget now c.frame v rest w ended)
+  by_act (instruction.ReturnFixed n) f = by_given budget now (slice_get (fixed c.receiver) n) _ (λ v. by_return budget now c.activation v rest w ended)
+  by_act instruction.ReturnTop f = by_popped budget now c.stack _ (λ v stack. by_return budget now c.activation v rest w ended)
   by_act instruction.ReturnFromBlock f = by_popped budget now c.stack _ (λ v stack. by_delivery budget now v rest w ended)
   by_act (instruction.Send count k) f = by_message budget now count [] c.stack _ (by_send_turn k)
   by_act (instruction.SendSuper count k) f = by_message budget now count [] c.stack _ (by_super_turn k)
   by_act (instruction.SendSpecial n) f =
-      by_test budget now (n == 24) _ _ (by_copy c.stack) (by_message budget now (get_or special_arguments n 0) [] c.stack _ (by_special n))
+      by_test budget now (n == block_copy) _ _ (by_copy c.stack) (by_message budget now (get_or special_arguments n 0) [] c.stack _ (by_special n))
   by_act instruction.Pop f = by_popped budget now c.stack _ (λ v stack. on stack)
   by_act instruction.Duplicate f = by_popped budget now c.stack _ (λ v stack. on (v ∷ v ∷ stack))
   by_act instruction.PushContext f = on (ThisContext ∷ c.stack)

@@ -4,7 +4,7 @@ use Rattle.std.specs.List.{AllByRecursion}
 use Rattle.s80_code.specs.declared.instruction.Instruction.{Instruction}
 use Rattle.s80_code.specs.declared.instruction.Instruction.TheVariants.{JumpOnTrue, JumpOnFalse}
 use Rattle.s80_code.specs.Table.{Form, alone, with_one, with_two, Row, rows, has, row_of, formed, decoded}
-use Rattle.s80_code.proofs.TableLemmas.{value, by_row}
+use Rattle.s80_code.proofs.lemmas.TableLemmas.{value, by_row}
 
 -- its distance is a number of bytes
 abbrev pub IsForward : Instruction → Type 0

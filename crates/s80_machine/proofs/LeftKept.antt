@@ -7,13 +7,13 @@ use Rattle.s80_object.specs.Body.{BodyTree}
 use Rattle.s80_object.specs.Objects.{State as Objects, field_put, put_with, with_body_at}
 use Rattle.s80_object.specs.declared.value.Value.{Value}
 use Rattle.s80_object.specs.declared.value.Value.TheVariants.{Small, Character, Nil, True, False, Symbol, Number, ClassRef, Object, Context as ThisContext, Transcript, Smalltalk}
-use Rattle.s80_machine.specs.World.{World, Frame, own, home, block, field_set, in_frame, ok_of, with_objects, with_receiver_variable, with_temporary}
+use Rattle.s80_machine.specs.World.{World, Activation, own, home, block, field_set, in_activation, ok_of, with_objects, with_receiver_variable, with_temporary}
 
 abbrev pub KeepsTicks : ℕ → Option World → Type 0
 KeepsTicks ticks None = Unit {0}
 KeepsTicks ticks (Some u) = u.ticks ≡ ticks
 
-abbrev pub BothKeep : ℕ → Option (World × Frame) → Type 0
+abbrev pub BothKeep : ℕ → Option (World × Activation) → Type 0
 BothKeep ticks None = Unit {0}
 BothKeep ticks (Some p) = p.0.ticks ≡ ticks
 
@@ -24,18 +24,18 @@ objects_keep w make (Some b) = refl
 field_keeps : (w : World) (n i : ℕ) (x : Value) → KeepsTicks w.ticks (field_set w n i x)
 field_keeps w n i x = objects_keep w (λ b. with_body_at w.objects (Object n) b) (ok_of (put_with (λ b. field_put b i x) w.objects (Object n)))
 
-frame_keeps : (ticks : ℕ) (f : Frame) (o : Option World) → KeepsTicks ticks o → BothKeep ticks (option_map (in_frame f) o)
-frame_keeps ticks f None h = tt
-frame_keeps ticks f (Some u) h = h
+activation_keeps : (ticks : ℕ) (f : Activation) (o : Option World) → KeepsTicks ticks o → BothKeep ticks (option_map (in_activation f) o)
+activation_keeps ticks f None h = tt
+activation_keeps ticks f (Some u) h = h
 
-pub temporary_keeps : (w : World) (f : Frame) (i : ℕ) (x : Value) → BothKeep w.ticks (with_temporary w f i x)
+pub temporary_keeps : (w : World) (f : Activation) (i : ℕ) (x : Value) → BothKeep w.ticks (with_temporary w f i x)
 temporary_keeps w (own temporaries) i x = test (nat_lt i (length temporaries))
   where
     test : (b : Bool) → BothKeep w.ticks (if b then Some (w, own (slice_set temporaries i x)) else None)
     test true = refl
     test false = tt
-temporary_keeps w (home h) i x = frame_keeps w.ticks (home h) (field_set w h i x) (field_keeps w h i x)
-temporary_keeps w (block b h) i x = frame_keeps w.ticks (block b h) (field_set w h i x) (field_keeps w h i x)
+temporary_keeps w (home h) i x = activation_keeps w.ticks (home h) (field_set w h i x) (field_keeps w h i x)
+temporary_keeps w (block b h) i x = activation_keeps w.ticks (block b h) (field_set w h i x) (field_keeps w h i x)
 
 pub variable_keeps : (w : World) (r : Value) (i : ℕ) (x : Value) → KeepsTicks w.ticks (with_receiver_variable w r i x)
 variable_keeps w (Object n) i x = field_keeps w n i x

@@ -8,8 +8,9 @@ use Rattle.s80_object.specs.Body.{BodyTree, cost, words_of, word_limit}
 use Rattle.s80_object.specs.Objects.{with_body}
 use Rattle.s80_object.specs.declared.value.Value.{Value}
 use Rattle.s80_prims.specs.declared.stop.Stop.TheVariants.{ObjectsFull}
-use Rattle.s80_machine.specs.World.{World, Context, Frame, own, home, block, is_home, one_tick, with_objects}
-use Rattle.s80_machine.specs.Turn.{Turn, Goes, Ends, Stuck, deeper, deliver, depth_limit, given, message_off, popped, return_from, return_home, stops, ticked}
+use Rattle.s80_machine.specs.World.{World, Activation, own, home, block, one_tick, with_objects}
+use Rattle.s80_machine.specs.Turn.{Context, is_home, Turn, Goes, Ends, Stuck, deeper, deliver, given, message_off, popped, return_from, return_home, stops, ticked}
+use Rattle.s80_machine.specs.Shared.{depth_limit}
 use Rattle.s80_machine.specs.Step.{with_room}
 use Rattle.s80_machine.specs.Measure.{left_of, left_of_all, one_tick_more, steps_left}
 
@@ -118,7 +119,7 @@ module _ (budget most : ℕ) where
       let less = by_less c rest w l in
       by_test (is_home h c) (deliver v rest w) (return_home h v rest w) (by_delivery v rest w less) (by_home h v rest w less)
 
-  pub by_return : (f : Frame) (v : Value) (rest : List Context) (w : World) → Lowers budget most (Goes (record { contexts = rest; world = w })) → Lowers budget most (return_from f v rest w)
+  pub by_return : (f : Activation) (v : Value) (rest : List Context) (w : World) → Lowers budget most (Goes (record { contexts = rest; world = w })) → Lowers budget most (return_from f v rest w)
   by_return (own temporaries) v rest w l = by_delivery v rest w l
   by_return (home h) v rest w l = by_delivery v rest w l
   by_return (block b h) v rest w l = by_home h v rest w l

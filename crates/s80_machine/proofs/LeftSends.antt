@@ -15,21 +15,22 @@ use Rattle.s80_prims.specs.Primitives.{primitive}
 use Rattle.s80_prims.specs.declared.applied.Applied.{Applied}
 use Rattle.s80_prims.specs.declared.applied.Applied.TheVariants.{Done, Fails, Stops}
 use Rattle.s80_prims.specs.declared.stop.Stop.TheVariants.{BlockActive}
-use Rattle.s80_machine.specs.World.{World, Key, method, Context, Frame, block, changed, home, is_active, number_in, numbered, one_tick, own, reached, with_objects}
-use Rattle.s80_machine.specs.Lookup.{Found, Place, first_found}
-use Rattle.s80_machine.specs.Turn.{Turn, Goes, Block, block_with, depth_limit, holds_block, pushed_all, stops, deeper, unary_in}
+use Rattle.s80_machine.specs.World.{World, Key, method, Activation, block, changed, home, number_in, numbered, one_tick, own, reached, with_objects}
+use Rattle.s80_machine.specs.Turn.{Context, is_active, Turn, Goes, holds_block, pushed_all, stops, deeper}
+use Rattle.s80_class.specs.Lookup.{Found, Place, first_found}
+use Rattle.s80_machine.specs.Shared.{Block, block_with, depth_limit, unary_in}
 use Rattle.s80_machine.specs.Step.{activated, at_home, block_activated, block_started, by_effect, found_turn, looked_up, method_turn, not_understood, performed, places_for, sent, started, with_home, without_home}
 use Rattle.s80_machine.proofs.LeftParts.{IsPaid, Lowers, Pays, one_above, paid_again, spent, by_delivery, by_depth, by_given, by_map_or, by_room, by_test, by_tick}
 
 module _ (t : Table) (methods : MethodsValue (MethodEntry Code)) (doit_code : Code) (budget most : ℕ) where
   -- ---- activations
 
-  abbrev begun : Key → Value → Frame → World → Context
-  begun key r f w = record { method = number_in w key; receiver = r; frame = f; place = 0; stack = [] }
+  abbrev begun : Key → Value → Activation → World → Context
+  begun key r f w = record { method = number_in w key; receiver = r; activation = f; place = 0; stack = [] }
 
   abbrev begun_block : Block → List Value → ℕ → ℕ × Value → Context
   begun_block b arguments h parts =
-      record { method = parts.0; receiver = parts.1; frame = block b.object h; place = b.start; stack = pushed_all arguments [] }
+      record { method = parts.0; receiver = parts.1; activation = block b.object h; place = b.start; stack = pushed_all arguments [] }
 
   pub by_start : (key : Key) (code : Code) (r : Value) (temporaries : List Value) (below : List Context) (w : World)
       → IsPaid budget most w.ticks → length below < depth_limit → Lowers budget most (started t methods doit_code budget key code r temporaries below w)

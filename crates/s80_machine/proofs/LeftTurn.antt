@@ -4,12 +4,13 @@ use Rattle.s80_class.specs.Table.{Table}
 use Rattle.s80_code.specs.declared.code.Code.{Code}
 use Rattle.s80_code.specs.declared.instruction.Instruction.{Instruction}
 use Rattle.s80_code.specs.Table.{decoded}
-use Rattle.s80_code.proofs.TableLemmas.{decodes}
+use Rattle.s80_code.proofs.lemmas.TableLemmas.{decodes}
 use Rattle.s80_dict.specs.Table.{MethodsValue}
 use Rattle.s80_dict.specs.declared.dict.MethodEntry.{MethodEntry}
 use Rattle.s80_object.specs.declared.value.Value.TheVariants.{Nil}
-use Rattle.s80_machine.specs.World.{World, Context, doit, first_world}
-use Rattle.s80_machine.specs.Turn.{State, Turn, Goes, depth_limit}
+use Rattle.s80_machine.specs.World.{World, doit, first_world}
+use Rattle.s80_machine.specs.Turn.{Context, State, Turn, Goes}
+use Rattle.s80_machine.specs.Shared.{depth_limit}
 use Rattle.s80_machine.specs.Step.{code_at, code_for, turn, turn_at, turn_in, turn_of}
 use Rattle.s80_machine.specs.Run.{start}
 use Rattle.s80_machine.specs.Sound.{AreSound, IsSound}

@@ -7,7 +7,8 @@ use Rattle.s80_dict.specs.declared.dict.MethodEntry.{MethodEntry}
 use Rattle.s80_prims.specs.declared.stop.Outcome.{Outcome}
 use Rattle.s80_machine.specs.Turn.{State, Turn, Goes, Ends, Stuck}
 use Rattle.s80_machine.specs.Step.{turn}
-use Rattle.s80_machine.specs.Run.{ComesTo, RunsTo, outcome_of, start}
+use Rattle.s80_machine.specs.Run.{ComesTo, RunsTo, start}
+use Rattle.s80_machine.specs.Shared.{outcome_of}
 use Rattle.s80_machine.specs.Sound.{IsSound, IsSoundTurn}
 use Rattle.s80_machine.specs.Measure.{IsWithin, steps_left}
 use Rattle.s80_machine.proofs.LeftTurn.{begins_within, leaves_less}

@@ -3,7 +3,7 @@ use Rattle.std.proofs.Common.{◌≡◌, ◌∙◌, ap, sym, subst, refl, ℕ, �
 use Rattle.std.specs.List.{list_any}
 use mathlib.Core.List.{reverse_aux}
 use Rattle.s80_machine.specs.declared.halt.Halt.{Halt}
-use Rattle.s80_machine.specs.World.{Context}
+use Rattle.s80_machine.specs.Turn.{Context}
 use Rattle.s80_machine.specs.Seen.{Does, DoesOne, DoesIn}
 use Rattle.s80_machine.proofs.SeenStacks.{seen_first, set_first}
 

@@ -5,7 +5,7 @@ use Rattle.std.proofs.lemmas.Grind.{reverse_onto}
 use Rattle.s80_object.specs.declared.value.Value.{Value}
 use Rattle.s80_machine.specs.declared.halt.Halt.{Halt}
 use Rattle.s80_machine.specs.declared.halt.Halt.TheVariants as halt
-use Rattle.s80_machine.specs.World.{Context}
+use Rattle.s80_machine.specs.Turn.{Context}
 use Rattle.s80_machine.specs.Seen.{DoesIn, message_in, message_taken, with_stack}
 
 -- ---- the last of a list is seen first

@@ -6,6 +6,7 @@ use Rattle.s80_class.specs.Table.{Table}
 use Rattle.s80_code.specs.declared.code.Code.{Code}
 use Rattle.s80_code.specs.declared.instruction.Instruction.{Instruction}
 use Rattle.s80_code.specs.declared.instruction.Instruction.TheVariants as instruction
+use Rattle.s80_code.specs.Special.{block_copy, special_arguments, special_selectors}
 use Rattle.s80_code.specs.Table.{Stands}
 use Rattle.s80_dict.specs.Table.{MethodsValue}
 use Rattle.s80_dict.specs.declared.dict.MethodEntry.{MethodEntry}
@@ -15,20 +16,21 @@ use Rattle.s80_object.specs.declared.value.Value.{Value}
 use Rattle.s80_object.specs.declared.value.Value.TheVariants.{Object, Small}
 use Rattle.s80_prims.specs.Known.{IsKnown}
 use Rattle.s80_verify.specs.declared.stack.Stack.TheVariants.{OfBlock}
-use Rattle.s80_verify.specs.Effect.{takes, leaves, goes_on as goes_behind, special_arguments}
+use Rattle.s80_verify.specs.Effect.{takes, leaves, goes_on as goes_behind}
 use Rattle.s80_verify.specs.Operands.{Sends}
 use Rattle.s80_verify.specs.Reach.{Begins, Counts, Reached}
-use Rattle.s80_verify.specs.Selector.{IsSelectorOf}
-use Rattle.s80_verify.proofs.ListLemmas.{get_within}
-use Rattle.s80_verify.proofs.PlaceLemmas.{same_instruction}
-use Rattle.s80_machine.specs.World.{World, Context, Frame, own, home, block, home_in, waiting, with_objects}
-use Rattle.s80_machine.specs.Turn.{Turn, Block, at_once, block_with, given, goes_on, holds_block, is_value, message_off, selector_in, special_selectors}
+use Rattle.s80_lex.specs.Selector.{IsSelectorOf}
+use Rattle.s80_verify.proofs.lemmas.ListLemmas.{get_within}
+use Rattle.s80_verify.proofs.lemmas.PlaceLemmas.{same_instruction}
+use Rattle.s80_machine.specs.World.{World, Activation, own, home, block, home_in, with_objects}
+use Rattle.s80_machine.specs.Turn.{Context, waiting, Turn, given, goes_on, holds_block, message_off, selector_in}
+use Rattle.s80_machine.specs.Shared.{Block, at_once, block_with, is_value}
 use Rattle.s80_machine.specs.Step.{block_activated, block_made, copy_turn, places_above, places_for, selector_at, send_turn, sent, special_turn, super_turn}
-use Rattle.s80_machine.specs.Sound.{HasCount, IsBlockOf, IsFrameOf, IsHomeOf, IsNoCopy, IsSetting, IsSoundContext, IsSoundTurn, IsSoundWorld, stack_kind}
-use Rattle.s80_machine.proofs.SoundLists.{same_number}
+use Rattle.s80_machine.specs.Sound.{HasCount, IsBlockOf, IsActivationOf, IsHomeOf, IsNoCopy, IsSetting, IsSoundContext, IsSoundTurn, IsSoundWorld, stack_kind}
+use Rattle.s80_machine.proofs.lemmas.SoundLists.{same_number}
 use Rattle.s80_machine.proofs.SoundOperands.{in_range, special_there}
 use Rattle.s80_machine.proofs.SoundPlaces.{holds_it, none_at_start, reach_block, starts_behind}
-use Rattle.s80_machine.proofs.SoundWorlds.{frame_stays, values_stay}
+use Rattle.s80_machine.proofs.SoundWorlds.{activation_stays, values_stay}
 use Rattle.s80_machine.proofs.SoundChanges.{last_known, same_follows}
 use Rattle.s80_machine.proofs.SoundValues.{at_once_known, class_of_known}
 use Rattle.s80_machine.proofs.SoundEnds.{AllWait, block_sound, block_takes, room_sound}
@@ -56,10 +58,10 @@ module _ (t : Table) (methods : MethodsValue (MethodEntry Code)) (code : Code) (
   waits : (i : Instruction) (count next : ℕ) → Stands context.of.bytes c.place i next → IsCall i count → (stack : List Value) → length c.stack ≡ count + 1 + length stack → AreKnownAll stack → AllWait t methods code w (waiting c next stack ∷ rest)
   waits i count next s h stack left known =
       All-cons (IsSoundContext t methods code w 1) (waiting c next stack) rest
-      (behind t methods code c rest w sound context wait i next s w 1 c.frame stack
+      (behind t methods code c rest w sound context wait i next s w 1 c.activation stack
       (record {
         follows = same_follows t methods code w sound;
-        frame = context.frame;
+        activation = context.activation;
         kind = refl;
         known = known;
         goes = h.goes;
@@ -72,10 +74,10 @@ module _ (t : Table) (methods : MethodsValue (MethodEntry Code)) (code : Code) (
   at_once_sound : (i : Instruction) (count next : ℕ) → Stands context.of.bytes c.place i next → IsCall i count → (v : Value) (stack : List Value) → length c.stack ≡ count + 1 + length stack → IsKnown t w.objects v → AreKnownAll stack
       → Turns (goes_on c next (v ∷ stack) rest w)
   at_once_sound i count next s h v stack left known all =
-      goes_sound t methods code c rest w sound context wait i next s w c.frame (v ∷ stack)
+      goes_sound t methods code c rest w sound context wait i next s w c.activation (v ∷ stack)
       (record {
         follows = same_follows t methods code w sound;
-        frame = context.frame;
+        activation = context.activation;
         kind = refl;
         known = All-cons (IsKnown t w.objects) v stack known all;
         goes = h.goes;
@@ -157,21 +159,21 @@ module _ (t : Table) (methods : MethodsValue (MethodEntry Code)) (code : Code) (
 
   -- ---- real blocks
 
-  home_there : (f : Frame) (m : ℕ) (r : Value) (of : Code) → IsFrameOf t methods code w f m r of → holds_block of ≡ true → (h : ℕ) × (home_in f ≡ Some h) × IsHomeOf t methods code w h m r of
+  home_there : (f : Activation) (m : ℕ) (r : Value) (of : Code) → IsActivationOf t methods code w f m r of → holds_block of ≡ true → (h : ℕ) × (home_in f ≡ Some h) × IsHomeOf t methods code w h m r of
   home_there (own temporaries) m r of is holds = absurd (true≢false (sym holds ∙ is.1.1))
   home_there (home h) m r of is holds = (h, refl, is)
   home_there (block b h) m r of is holds = (h, refl, is.0)
 
-  made_sound : (next arguments start : ℕ) → Stands context.of.bytes c.place (instruction.SendSpecial 24) next → Begins context.of c.place arguments start → (count : ℕ) → count ≡ arguments → (stack : List Value) → length c.stack ≡ 2 + length stack
+  made_sound : (next arguments start : ℕ) → Stands context.of.bytes c.place (instruction.SendSpecial block_copy) next → Begins context.of c.place arguments start → (count : ℕ) → count ≡ arguments → (stack : List Value) → length c.stack ≡ 2 + length stack
       → AreKnownAll stack → (h : ℕ) → IsHomeOf t methods code w h c.method c.receiver context.of → Turns (block_made t methods code budget c next rest w count stack h)
   made_sound next arguments start s b count same stack left known h is_home =
-      let jump : b.jump ≡ next = (same_instruction context.of.bytes c.place (instruction.SendSpecial 24) (instruction.SendSpecial 24) b.jump next b.is_copy s).place in
+      let jump : b.jump ≡ next = (same_instruction context.of.bytes c.place (instruction.SendSpecial block_copy) (instruction.SendSpecial block_copy) b.jump next b.is_copy s).place in
       let begins : start ≡ next + 2 = starts_behind context.of c.place arguments start b ∙ ap (λ p. p + 2) jump in
       let body = block_body (Object h) (next + 2) count in
       let w1 : World = with_objects w (with_body w.objects body) in
       let reached : Reached context.of (next + 2) OfBlock count =
       subst (λ p. Reached context.of p OfBlock count) begins
-      (subst (Reached context.of start OfBlock) (sym same) (reach_block context.of c.place (stack_kind c.frame) (length c.stack + 0) context.reached arguments start b)) in
+      (subst (Reached context.of start OfBlock) (sym same) (reach_block context.of c.place (stack_kind c.activation) (length c.stack + 0) context.reached arguments start b)) in
       let is : IsBlockOf t methods code w (Object h) (next + 2) count = record {
         home = h;
         number = c.method;
@@ -185,10 +187,10 @@ module _ (t : Table) (methods : MethodsValue (MethodEntry Code)) (code : Code) (
       } in
       room_sound t methods code w body (goes_on c next (Object (length w.objects.bodies) ∷ stack) rest) sound (get_within w.objects.bodies h _ is_home.there) is
       (λ f.
-      goes_sound t methods code c rest w sound context wait (instruction.SendSpecial 24) next s w1 c.frame (Object (length w.objects.bodies) ∷ stack)
+      goes_sound t methods code c rest w sound context wait (instruction.SendSpecial block_copy) next s w1 c.activation (Object (length w.objects.bodies) ∷ stack)
       (record {
         follows = f;
-        frame = frame_stays t methods code w w1 f.onward c.frame c.method c.receiver context.of context.frame;
+        activation = activation_stays t methods code w w1 f.onward c.activation c.method c.receiver context.of context.activation;
         kind = refl;
         known = All-cons (IsKnown t w1.objects) (Object (length w.objects.bodies)) stack (last_known t methods code w body) (values_stay t w w1 f.onward stack known);
         goes = refl;
@@ -196,16 +198,16 @@ module _ (t : Table) (methods : MethodsValue (MethodEntry Code)) (code : Code) (
         counts = λ n is. absurd is;
       }))
 
-  copy_sound : (next : ℕ) → Stands context.of.bytes c.place (instruction.SendSpecial 24) next → Turns (copy_turn t methods code budget c next rest w c.stack)
+  copy_sound : (next : ℕ) → Stands context.of.bytes c.place (instruction.SendSpecial block_copy) next → Turns (copy_turn t methods code budget c next rest w c.stack)
   copy_sound next s =
-      let here = fits t methods code c rest w sound context wait (instruction.SendSpecial 24) next s in
+      let here = fits t methods code c rest w sound context wait (instruction.SendSpecial block_copy) next s in
       let b = here.suits refl in
       by_stack b.0 b.1 b.2 c.stack refl (context.counted b.0 b.1 b.2).1 (omega (arith, here.enough)) context.values
     where
       by_stack : (arguments start : ℕ) → Begins context.of c.place arguments start → (vs : List Value) → c.stack ≡ vs → HasCount arguments vs → 2 ≤ length vs → AreKnownAll vs → Turns (copy_turn t methods code budget c next rest w vs)
       by_stack arguments start b (Small (pos count) ∷ x ∷ stack) e same enough known =
-          let holds = holds_it context.of context.method.suits.depths c.place (stack_kind c.frame) (length c.stack + 0) next context.reached s in
-          let h = home_there c.frame c.method c.receiver context.of context.frame holds in
+          let holds = holds_it context.of context.method.suits.depths c.place (stack_kind c.activation) (length c.stack + 0) next context.reached s in
+          let h = home_there c.activation c.method c.receiver context.of context.activation holds in
           let left : length c.stack ≡ 2 + length stack = ap length e ∙ omega arith in
           let tail = All-tail (IsKnown t w.objects) x stack (All-tail (IsKnown t w.objects) (Small (pos count)) (x ∷ stack) known) in
           subst (λ o. Turns (given o (block_made t methods code budget c next rest w count stack))) (sym h.1) (made_sound next arguments start s b count same stack left tail h.0 h.2)
@@ -213,10 +215,10 @@ module _ (t : Table) (methods : MethodsValue (MethodEntry Code)) (code : Code) (
       by_stack arguments start b _ e same enough known = absurd same
 
   pub specials_sound : (n next : ℕ) → Stands context.of.bytes c.place (instruction.SendSpecial n) next
-      → Turns (if n == 24 then copy_turn t methods code budget c next rest w c.stack else message_off (get_or special_arguments n 0) [] c.stack (special_turn t methods code budget n c next rest w))
-  specials_sound n next s = by_test (n == 24) refl
+      → Turns (if n == block_copy then copy_turn t methods code budget c next rest w c.stack else message_off (get_or special_arguments n 0) [] c.stack (special_turn t methods code budget n c next rest w))
+  specials_sound n next s = by_test (n == block_copy) refl
     where
-      by_test : (b : Bool) → (n == 24) ≡ b
+      by_test : (b : Bool) → (n == block_copy) ≡ b
           → Turns (if b then copy_turn t methods code budget c next rest w c.stack else message_off (get_or special_arguments n 0) [] c.stack (special_turn t methods code budget n c next rest w))
-      by_test true is = copy_sound next (subst (λ k. Stands context.of.bytes c.place (instruction.SendSpecial k) next) (same_number n 24 is) s)
+      by_test true is = copy_sound next (subst (λ k. Stands context.of.bytes c.place (instruction.SendSpecial k) next) (same_number n block_copy is) s)
       by_test false is = special_sound n next s

@@ -9,12 +9,12 @@ use Rattle.s80_object.specs.Objects.{Made, Opaque, with_body, with_body_at}
 use Rattle.s80_object.specs.declared.value.Value.{Value}
 use Rattle.s80_object.specs.declared.value.Value.TheVariants.{Object}
 use Rattle.s80_prims.specs.Known.{AreKnown, BodyIsKnown, IsKnown}
-use Rattle.s80_verify.proofs.ListLemmas.{get_front, get_within, set_here, set_there, same_or_not}
+use Rattle.s80_verify.proofs.lemmas.ListLemmas.{get_front, get_within, set_here, set_there, same_or_not}
 use Rattle.s80_machine.specs.World.{World, Key, Variable, same_key, same_variable, one_tick, numbered, with_objects, with_variable}
 use Rattle.s80_machine.specs.Sound.{IsSoundBody, IsSoundLiteral, IsSoundWorld}
-use Rattle.s80_machine.proofs.SoundLists.{set_either, get_either_last, once_front}
+use Rattle.s80_machine.proofs.lemmas.SoundLists.{set_either, get_either_last, once_front}
 use Rattle.s80_machine.proofs.SoundWorlds.{IsSameAs, same_self, Onward, onward_then, value_stays, known_stays, body_stays, literal_stays}
-use Rattle.s80_code.proofs.TableLemmas.{value}
+use Rattle.s80_code.proofs.lemmas.TableLemmas.{value}
 
 module _ (t : Table) (methods : MethodsValue (MethodEntry Code)) (code : Code) where
   -- it goes on from a world, and is sound

@@ -11,55 +11,16 @@ use Rattle.s80_base.specs.declared.names.Side.TheVariants.{Instance, Class}
 use Rattle.s80_kernel.specs.Rows as rows
 use Rattle.s80_class.specs.Classes.{Name, ClassRow, IsLine, inherited_in, inherited_of, lineage}
 use Rattle.s80_class.specs.Known.{IsKnown as IsKnownTable}
-use Rattle.s80_class.specs.Table.{Table, IsClass, IsNumberOf}
-use Rattle.s80_class.proofs.Lines.{lineage_line, not_eq}
-use Rattle.s80_code.proofs.TableLemmas.{value}
+use Rattle.s80_class.specs.Table.{Table, IsClass, IsNumberOf, class_name, number_of}
+use Rattle.s80_class.proofs.lemmas.Lines.{lineage_line, not_eq}
+use Rattle.s80_class.proofs.lemmas.Numbers.{has_number, name_is, number_is}
+use Rattle.s80_code.proofs.lemmas.TableLemmas.{value}
 use Rattle.s80_code.specs.declared.code.Code.{Code}
 use Rattle.s80_dict.specs.Table.{MethodsValue, methods_at}
 use Rattle.s80_dict.specs.declared.dict.MethodEntry.{MethodEntry}
-use Rattle.s80_prims.specs.Classes.{class_name, number_of, onto_number, variables_of}
-use Rattle.s80_machine.specs.Lookup.{Found, Place, first_found, found_or, number, numbers_up, places_up}
+use Rattle.s80_prims.specs.Classes.{variables_of}
+use Rattle.s80_class.specs.Lookup.{Found, Place, first_found, found_or, number, numbers_from, numbers_up, on_side, places_behind, places_up}
 use Rattle.s80_machine.specs.Sound.{IsSetting, variables_on}
-
--- ---- numbers
-
-pub number_names : (names : List (Option Name)) (word : Name) (k : ℕ) → number_of names word ≡ Some k → IsNumberOf names k word
-number_names [] word k e = cc
-number_names (n ∷ names) word k e = onto n (number_of names word) refl k e (number_names names word)
-  where
-    later : (n : Option Name) (o : Option ℕ) → number_of names word ≡ o → (k : ℕ) → option_map suc o ≡ Some k → ((k : ℕ) → number_of names word ≡ Some k → IsNumberOf names k word) → IsNumberOf (n ∷ names) k word
-    later n None is k e more = cc
-    later n (Some j) is k e more = subst (λ i. IsNumberOf (n ∷ names) i word) (value e) (more j is)
-
-    by_name : (name : Name) (b : Bool) → bytes_eq name word ≡ b → (o : Option ℕ) → number_of names word ≡ o → (k : ℕ) → cond b (Some 0) (option_map suc o) ≡ Some k
-        → ((k : ℕ) → number_of names word ≡ Some k → IsNumberOf names k word) → IsNumberOf (Some name ∷ names) k word
-    by_name name true same o is k e more =
-        subst (λ i. IsNumberOf (Some name ∷ names) i word) (value e) (ap (λ w. Some (Some w)) ((bytes_decides name word).0 same))
-    by_name name false differs o is k e more = later (Some name) o is k e more
-
-    onto : (n : Option Name) (o : Option ℕ) → number_of names word ≡ o → (k : ℕ) → onto_number word n o ≡ Some k → ((k : ℕ) → number_of names word ≡ Some k → IsNumberOf names k word) → IsNumberOf (n ∷ names) k word
-    onto None o is k e more = later None o is k e more
-    onto (Some name) o is k e more = by_name name (bytes_eq name word) refl o is k e more
-
-pub has_number : (names : List (Option Name)) (word : Name) (c : ℕ) → IsNumberOf names c word → (k : ℕ) × (number_of names word ≡ Some k)
-has_number [] word c h = cc
-has_number (None ∷ names) word zero h = let bad : None ≡ Some word = value h in cc
-has_number (None ∷ names) word (suc c) h = let r = has_number names word c h in (suc r.0, ap (option_map suc) r.1)
-has_number (Some name ∷ names) word c h = by_name (bytes_eq name word) refl c h (has_number names word)
-  where
-    by_name : (b : Bool) → bytes_eq name word ≡ b → (c : ℕ) → IsNumberOf (Some name ∷ names) c word → ((c : ℕ) → IsNumberOf names c word → (k : ℕ) × (number_of names word ≡ Some k))
-        → (k : ℕ) × (cond b (Some 0) (option_map suc (number_of names word)) ≡ Some k)
-    by_name true is c h more = (0, refl)
-    by_name false is zero h more = absurd (not_eq name word is (value (value h)))
-    by_name false is (suc c) h more = let r = more c h in (suc r.0, ap (option_map suc) r.1)
-
-pub number_is : (t : Table) (word : Name) (c : ℕ) → IsNumberOf t.names c word → IsNumberOf t.names (number t word) word
-number_is t word c h =
-    let r = has_number t.names word c h in
-    subst (λ k. IsNumberOf t.names k word) (sym (ap (λ o. unwrap_or o 0) r.1)) (number_names t.names word r.0 r.1)
-
-pub name_is : (t : Table) (c : ℕ) (name : Name) → IsNumberOf t.names c name → class_name t c ≡ name
-name_is t c name is = ap (λ o. unwrap_or (option_and_then (λ n. n) o) []) is
 
 -- ---- classes above
 
@@ -123,9 +84,13 @@ module _ (t : Table) (methods : MethodsValue (MethodEntry Code)) (code : Code) (
   unfolding rows.is_kernel_class
   places_within c Instance most class le = numbers_within t setting.classes c Instance most class le
   places_within c Class most class le =
-      All-append (HasAtMost t most) (map (λ n. (n, Class)) (numbers_up t c)) (map (λ n. (n, Instance)) (numbers_up t (number t (codes "Class"))))
-      (numbers_within t setting.classes c Class most class le)
-      (numbers_within t setting.classes (number t (codes "Class")) Instance most (codes "Class", kernel_number (codes "Class") refl) (omega (arith, kernel_plain (codes "Class") refl refl)))
+      let n = setting.numbers (codes "Class") refl in
+      let there = has_number t.names (codes "Class") n.0 n.1 in
+      let behind : All (HasAtMost t most) (on_side Instance (numbers_up t (number t (codes "Class")))) =
+      numbers_within t setting.classes (number t (codes "Class")) Instance most (codes "Class", kernel_number (codes "Class") refl) (omega (arith, kernel_plain (codes "Class") refl refl)) in
+      let known : Some (number t (codes "Class")) ≡ number_of t.names (codes "Class") = ap (λ (o : Option ℕ). Some (unwrap_or o 0)) there.1 ∙ sym there.1 in
+      All-append (HasAtMost t most) (on_side Class (numbers_up t c)) (places_behind t) (numbers_within t setting.classes c Class most class le)
+      (subst (λ (o : Option ℕ). All (HasAtMost t most) (on_side Instance (numbers_from t o))) known behind)
 
 -- ---- what was found stands at one of the places
 

@@ -16,16 +16,17 @@ use Rattle.s80_prims.specs.declared.stop.Stop.{Stop}
 use Rattle.s80_prims.specs.declared.stop.Stop.TheVariants.{BlockActive, Budget, CannotReturn, Deep, ObjectsFull}
 use Rattle.s80_verify.specs.declared.stack.Stack.TheVariants.{OfHome, OfBlock}
 use Rattle.s80_verify.specs.Reach.{Reached}
-use Rattle.s80_verify.proofs.ListLemmas.{get_last}
-use Rattle.s80_machine.specs.World.{World, Key, Context, Frame, own, home, block, is_active, is_home, number_in, numbered, one_tick, receiver_variable, with_objects}
-use Rattle.s80_machine.specs.Turn.{Turn, Block, Goes, block_in, block_with, deeper, deliver, depth_limit, given, holds_block, if_takes, pushed_all, return_from, return_home, stops, ticked}
+use Rattle.s80_verify.proofs.lemmas.ListLemmas.{get_last}
+use Rattle.s80_machine.specs.World.{World, Key, Activation, own, home, block, number_in, numbered, one_tick, receiver_variable, with_objects}
+use Rattle.s80_machine.specs.Turn.{Context, is_active, is_home, Turn, Goes, deeper, deliver, given, holds_block, pushed_all, return_from, return_home, stops, ticked}
+use Rattle.s80_machine.specs.Shared.{Block, block_in, block_with, depth_limit, if_takes}
 use Rattle.s80_machine.specs.Step.{activated, at_home, block_activated, block_started, code_for, started, with_home, with_room, without_home}
-use Rattle.s80_machine.specs.Sound.{IsBlockOf, IsFrameOf, IsHomeOf, IsMethod, IsSoundBody, IsSoundContext, IsSoundTurn, IsSoundWorld, Suits, stack_kind, variables_for}
-use Rattle.s80_machine.proofs.SoundLists.{numbered_there, same_number}
+use Rattle.s80_machine.specs.Sound.{IsBlockOf, IsActivationOf, IsHomeOf, IsMethod, IsSoundBody, IsSoundContext, IsSoundTurn, IsSoundWorld, Suits, stack_kind, variables_for}
+use Rattle.s80_machine.proofs.lemmas.SoundLists.{numbered_there, same_number}
 use Rattle.s80_machine.proofs.SoundPlaces.{none_first}
 use Rattle.s80_machine.proofs.SoundWorlds.{contexts_stay, method_stays, variable_stays}
 use Rattle.s80_machine.proofs.SoundChanges.{Follows, body_follows, numbered_follows, tick_follows}
-use Rattle.s80_code.proofs.TableLemmas.{value}
+use Rattle.s80_code.proofs.lemmas.TableLemmas.{value}
 
 module _ (t : Table) (methods : MethodsValue (MethodEntry Code)) (code : Code) where
   -- each waits for an answer
@@ -61,8 +62,8 @@ module _ (t : Table) (methods : MethodsValue (MethodEntry Code)) (code : Code) w
   answered w v c known h = record {
     of = h.of;
     method = h.method;
-    frame = h.frame;
-    reached = let same : length c.stack + 1 ≡ suc (length c.stack) + 0 = omega arith in subst (Reached h.of c.place (stack_kind c.frame)) same h.reached;
+    activation = h.activation;
+    reached = let same : length c.stack + 1 ≡ suc (length c.stack) + 0 = omega arith in subst (Reached h.of c.place (stack_kind c.activation)) same h.reached;
     counted = λ arguments start b. absurd (let bad : 1 ≡ 0 = (h.counted arguments start b).0 in omega (arith, bad));
     values = All-cons (IsKnown t w.objects) v c.stack known h.values;
   }
@@ -78,7 +79,7 @@ module _ (t : Table) (methods : MethodsValue (MethodEntry Code)) (code : Code) w
       let below = All-tail (IsSoundContext t methods code w 1) c rest wait in
       if_sound (is_home k c) (deliver v rest w) (return_home k v rest w) (deliver_sound v rest w known h below) (home_sound k v rest w known h below)
 
-  pub return_sound : (f : Frame) (v : Value) (rest : List Context) (w : World) → IsKnown t w.objects v → IsSoundWorld t methods code w → AllWait w rest → IsSoundTurn t methods code (return_from f v rest w)
+  pub return_sound : (f : Activation) (v : Value) (rest : List Context) (w : World) → IsKnown t w.objects v → IsSoundWorld t methods code w → AllWait w rest → IsSoundTurn t methods code (return_from f v rest w)
   return_sound (own temporaries) v rest w known h wait = deliver_sound v rest w known h wait
   return_sound (home k) v rest w known h wait = deliver_sound v rest w known h wait
   return_sound (block b k) v rest w known h wait = home_sound k v rest w known h wait
@@ -93,12 +94,12 @@ module _ (t : Table) (methods : MethodsValue (MethodEntry Code)) (code : Code) w
     pub variables : (i : ℕ) → i < variables_for t key → IsSome (receiver_variable w r i)
 
   -- it begins at its first place, with nothing on its stack
-  begun : (w : World) (m : ℕ) (r : Value) (of : Code) (f : Frame) → stack_kind f ≡ OfHome → IsMethod t methods code w m r of → IsSoundWorld t methods code w → IsFrameOf t methods code w f m r of
-      → IsSoundContext t methods code w 0 (record { method = m; receiver = r; frame = f; place = 0; stack = [] })
-  begun w m r of f kind method h frame = record {
+  begun : (w : World) (m : ℕ) (r : Value) (of : Code) (f : Activation) → stack_kind f ≡ OfHome → IsMethod t methods code w m r of → IsSoundWorld t methods code w → IsActivationOf t methods code w f m r of
+      → IsSoundContext t methods code w 0 (record { method = m; receiver = r; activation = f; place = 0; stack = [] })
+  begun w m r of f kind method h activation = record {
     of = of;
     method = method;
-    frame = frame;
+    activation = activation;
     reached = (0, (refl, kind, refl));
     counted = λ arguments start b. absurd (none_first of arguments start b);
     values = All-nil (IsKnown t w.objects);
@@ -115,7 +116,7 @@ module _ (t : Table) (methods : MethodsValue (MethodEntry Code)) (code : Code) w
       by_block : (b : Bool) → holds_block of ≡ b → IsSoundTurn t methods code (if b then with_home t methods code budget key r temporaries below w else without_home t methods code budget key r temporaries below w)
       by_block true e =
           room_sound w (home_body (number_in w key) r temporaries)
-          (λ w1. Goes (record { contexts = record { method = number_in w key; receiver = r; frame = home (length w.objects.bodies); place = 0; stack = [] } ∷ below; world = w1 })) h
+          (λ w1. Goes (record { contexts = record { method = number_in w key; receiver = r; activation = home (length w.objects.bodies); place = 0; stack = [] } ∷ below; world = w1 })) h
           (method.known, all) (of, method, count)
           (λ f.
           let w1 : World = with_objects w (with_body w.objects (home_body (number_in w key) r temporaries)) in
@@ -193,11 +194,11 @@ module _ (t : Table) (methods : MethodsValue (MethodEntry Code)) (code : Code) w
       count : b.arguments ≡ length (pushed_all arguments []) + 0
       count = omega (arith, pushed_count arguments [], takes.takes)
 
-      context : IsSoundContext t methods code w 0 (record { method = is.number; receiver = is.receiver; frame = block b.object is.home; place = b.start; stack = pushed_all arguments [] })
+      context : IsSoundContext t methods code w 0 (record { method = is.number; receiver = is.receiver; activation = block b.object is.home; place = b.start; stack = pushed_all arguments [] })
       context = record {
         of = is.of;
         method = is.method;
-        frame = (is.is_home, (b.start, b.arguments, takes.there ∙ ap (λ v. Some (block_body v b.start b.arguments)) (same ∙ is.whole_is)));
+        activation = (is.is_home, (b.start, b.arguments, takes.there ∙ ap (λ v. Some (block_body v b.start b.arguments)) (same ∙ is.whole_is)));
         reached = subst (Reached is.of b.start OfBlock) count is.reached;
         counted = λ n start c. absurd (is.plain n start c);
         values = pushed_known (IsKnown t w.objects) arguments [] all (All-nil (IsKnown t w.objects));

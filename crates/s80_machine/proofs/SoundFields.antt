@@ -15,10 +15,10 @@ use Rattle.s80_object.specs.declared.value.ObjectFault.TheVariants.{Kind, Range}
 use Rattle.s80_object.specs.declared.value.Value.{Value}
 use Rattle.s80_object.specs.declared.value.Value.TheVariants.{Small, Character, Nil, True, False, Symbol, Number, ClassRef, Object, Context as ContextValue, Transcript, Smalltalk}
 use Rattle.s80_prims.specs.Known.{BodyIsKnown, IsKnown}
-use Rattle.s80_machine.specs.World.{World, Frame, own, home, block, class_side, field_read, field_set, in_frame, ok_of, receiver_variable, temporary, with_objects, with_receiver_variable, with_temporary, with_variable}
-use Rattle.s80_machine.specs.Sound.{IsFrameOf, IsHomeOf, IsSoundWorld, stack_kind}
-use Rattle.s80_machine.proofs.SoundLists.{got_there, all_got}
-use Rattle.s80_machine.proofs.SoundWorlds.{IsSameAs, HasField, some_place, place_below, frame_stays}
+use Rattle.s80_machine.specs.World.{World, Activation, own, home, block, class_side, field_read, field_set, in_activation, ok_of, receiver_variable, temporary, with_objects, with_receiver_variable, with_temporary, with_variable}
+use Rattle.s80_machine.specs.Sound.{IsActivationOf, IsHomeOf, IsSoundWorld, stack_kind}
+use Rattle.s80_machine.proofs.lemmas.SoundLists.{got_there, all_got}
+use Rattle.s80_machine.proofs.SoundWorlds.{IsSameAs, HasField, some_place, place_below, activation_stays}
 use Rattle.s80_machine.proofs.SoundChanges.{Follows, put_follows, same_follows, variable_follows}
 
 pub is_below : (i n : ℕ) → i < n → nat_lt i n ≡ true
@@ -71,7 +71,7 @@ module _ (t : Table) (methods : MethodsValue (MethodEntry Code)) (code : Code) (
   home_has : (h m : ℕ) (r : Value) (of : Code) (i : ℕ) → IsHomeOf t methods code w h m r of → i < of.temporaries → IsSome (field_read w h i)
   home_has h m r of i is below = subst (λ o. HasField o i) (sym is.there) (some_place is.temporaries i (omega (arith, is.count, below)))
 
-  pub temporary_there : (f : Frame) (m : ℕ) (r : Value) (of : Code) (i : ℕ) → IsFrameOf t methods code w f m r of → i < of.temporaries → IsThere t w (temporary w f i)
+  pub temporary_there : (f : Activation) (m : ℕ) (r : Value) (of : Code) (i : ℕ) → IsActivationOf t methods code w f m r of → i < of.temporaries → IsThere t w (temporary w f i)
   temporary_there (own temporaries) m r of i is below = there_in temporaries i (omega (arith, is.0, below)) is.1.0
   temporary_there (home h) m r of i is below = field_there h i (home_has h m r of i is below)
   temporary_there (block b h) m r of i is below = field_there h i (home_has h m r of i is.0 below)
@@ -132,40 +132,40 @@ module _ (t : Table) (methods : MethodsValue (MethodEntry Code)) (code : Code) (
     receiver_written Smalltalk i h = absurd (true≢false (sym h))
 
   -- a temporary written, in a world that goes on from this one
-  pub record Keeps (f : Frame) (m : ℕ) (r : Value) (of : Code) (o : Option (World × Frame)) : Type 0 where
+  pub record Keeps (f : Activation) (m : ℕ) (r : Value) (of : Code) (o : Option (World × Activation)) : Type 0 where
     pub new : World
-    pub frame : Frame
-    pub is : o ≡ Some (new, frame)
+    pub activation : Activation
+    pub is : o ≡ Some (new, activation)
     pub follows : Follows t methods code w new
-    pub frame_is : IsFrameOf t methods code new frame m r of
-    pub kind : stack_kind frame ≡ stack_kind f
+    pub activation_is : IsActivationOf t methods code new activation m r of
+    pub kind : stack_kind activation ≡ stack_kind f
 
-  pub temporary_written : (f : Frame) (m : ℕ) (r : Value) (of : Code) (i : ℕ) (x : Value) → IsKnown t w.objects x → IsFrameOf t methods code w f m r of → i < of.temporaries → Keeps f m r of (with_temporary w f i x)
+  pub temporary_written : (f : Activation) (m : ℕ) (r : Value) (of : Code) (i : ℕ) (x : Value) → IsKnown t w.objects x → IsActivationOf t methods code w f m r of → i < of.temporaries → Keeps f m r of (with_temporary w f i x)
   temporary_written (own temporaries) m r of i x known is below = record {
     new = w;
-    frame = own (slice_set temporaries i x);
+    activation = own (slice_set temporaries i x);
     is = ap (λ b. if b then Some (w, own (slice_set temporaries i x)) else None) (is_below i (length temporaries) (omega (arith, is.0, below)));
     follows = same_follows t methods code w sound;
-    frame_is = (length-set temporaries i x ∙ is.0, (All-set (IsKnown t w.objects) temporaries i x known is.1.0, is.1.1));
+    activation_is = (length-set temporaries i x ∙ is.0, (All-set (IsKnown t w.objects) temporaries i x known is.1.0, is.1.1));
     kind = refl;
   }
   temporary_written (home h) m r of i x known is below =
       let put = field_written x known h i (home_has h m r of i is below) in
       record {
         new = put.new;
-        frame = home h;
-        is = ap (option_map (in_frame (home h))) put.is;
+        activation = home h;
+        is = ap (option_map (in_activation (home h))) put.is;
         follows = put.follows;
-        frame_is = frame_stays t methods code w put.new put.follows.onward (home h) m r of is;
+        activation_is = activation_stays t methods code w put.new put.follows.onward (home h) m r of is;
         kind = refl;
       }
   temporary_written (block b h) m r of i x known is below =
       let put = field_written x known h i (home_has h m r of i is.0 below) in
       record {
         new = put.new;
-        frame = block b h;
-        is = ap (option_map (in_frame (block b h))) put.is;
+        activation = block b h;
+        is = ap (option_map (in_activation (block b h))) put.is;
         follows = put.follows;
-        frame_is = frame_stays t methods code w put.new put.follows.onward (block b h) m r of is;
+        activation_is = activation_stays t methods code w put.new put.follows.onward (block b h) m r of is;
         kind = refl;
       }

@@ -18,14 +18,14 @@ use Rattle.s80_object.specs.declared.value.Value.{Value}
 use Rattle.s80_object.specs.declared.value.Value.TheVariants.{Small, Character, Nil, True, False, Object}
 use Rattle.s80_prims.specs.Known.{IsKnown}
 use Rattle.s80_machine.specs.World.{World, with_objects}
-use Rattle.s80_machine.specs.Lookup.{number}
+use Rattle.s80_class.specs.Lookup.{number}
 use Rattle.s80_machine.specs.Sound.{IsSetting, IsMethod, IsSoundLiteral, IsSoundWorld}
 use Rattle.s80_machine.specs.Step.{code_for}
-use Rattle.s80_machine.proofs.SoundLists.{both_true, same_number}
+use Rattle.s80_machine.proofs.lemmas.SoundLists.{both_true, same_number}
 use Rattle.s80_machine.proofs.SoundClasses.{kernel_number, kernel_plain}
 use Rattle.s80_machine.proofs.SoundWorlds.{value_stays}
 use Rattle.s80_machine.proofs.SoundChanges.{Follows, body_follows, follows_then, last_known, literal_follows, same_follows, words_follow}
-use Rattle.s80_code.proofs.TableLemmas.{value}
+use Rattle.s80_code.proofs.lemmas.TableLemmas.{value}
 
 -- ---- found once
 

@@ -12,14 +12,14 @@ use Rattle.s80_prims.specs.Known.{IsKnown}
 use Rattle.s80_verify.specs.declared.stack.Stack.{Stack}
 use Rattle.s80_verify.specs.Effect.{takes, leaves, goes_on as goes_behind, distance_of}
 use Rattle.s80_verify.specs.Reach.{Counts, Reached}
-use Rattle.s80_verify.proofs.LawLemmas.{FitsRun, fits_as, fits_there}
-use Rattle.s80_verify.proofs.JumpLemmas.{does_jump, jump_is}
-use Rattle.s80_machine.specs.World.{World, Context, Frame}
-use Rattle.s80_machine.specs.Turn.{Turn, given, goes_on, message_off, place_at, popped}
+use Rattle.s80_verify.proofs.lemmas.LawLemmas.{FitsRun, fits_as, fits_there}
+use Rattle.s80_verify.proofs.lemmas.JumpLemmas.{does_jump, jump_is}
+use Rattle.s80_machine.specs.World.{World, Activation}
+use Rattle.s80_machine.specs.Turn.{Context, Turn, given, goes_on, message_off, place_at, popped}
 use Rattle.s80_machine.specs.Step.{jump}
-use Rattle.s80_machine.specs.Sound.{HasCount, IsFrameOf, IsSoundContext, IsSoundTurn, IsSoundWorld, stack_kind}
+use Rattle.s80_machine.specs.Sound.{HasCount, IsActivationOf, IsSoundContext, IsSoundTurn, IsSoundWorld, stack_kind}
 use Rattle.s80_machine.proofs.SoundPlaces.{counts_before, none_at_target, reach_behind, reach_jump, reached_place}
-use Rattle.s80_machine.proofs.SoundWorlds.{frame_stays, method_stays}
+use Rattle.s80_machine.proofs.SoundWorlds.{activation_stays, method_stays}
 use Rattle.s80_machine.proofs.SoundChanges.{Follows}
 use Rattle.s80_machine.proofs.SoundEnds.{AllWait, wait_on}
 
@@ -46,39 +46,39 @@ module _ (t : Table) (methods : MethodsValue (MethodEntry Code)) (code : Code) w
   -- ---- the active context
 
   module _ (c : Context) (rest : List Context) (w : World) (sound : IsSoundWorld t methods code w) (context : IsSoundContext t methods code w 0 c) (wait : AllWait t methods code w rest) where
-    pub fits : (i : Instruction) (next : ℕ) → Stands context.of.bytes c.place i next → FitsRun context.of c.place (stack_kind c.frame) (length c.stack + 0) i next
+    pub fits : (i : Instruction) (next : ℕ) → Stands context.of.bytes c.place i next → FitsRun context.of c.place (stack_kind c.activation) (length c.stack + 0) i next
     fits i next s =
         let depths = context.method.suits.depths in
-        fits_as context.of c.place (stack_kind c.frame) (length c.stack + 0) (fits_there context.of depths c.place (stack_kind c.frame) (length c.stack + 0) context.reached) i next s
+        fits_as context.of c.place (stack_kind c.activation) (length c.stack + 0) (fits_there context.of depths c.place (stack_kind c.activation) (length c.stack + 0) context.reached) i next s
 
     -- what a context has that goes on behind an instruction
-    pub record IsBehind (i : Instruction) (w1 : World) (awaited : ℕ) (f : Frame) (stack : List Value) : Type 0 where
+    pub record IsBehind (i : Instruction) (w1 : World) (awaited : ℕ) (f : Activation) (stack : List Value) : Type 0 where
       pub follows : Follows t methods code w w1
-      pub frame : IsFrameOf t methods code w1 f c.method c.receiver context.of
-      pub kind : stack_kind f ≡ stack_kind c.frame
+      pub activation : IsActivationOf t methods code w1 f c.method c.receiver context.of
+      pub kind : stack_kind f ≡ stack_kind c.activation
       pub known : All (IsKnown t w1.objects) stack
       pub goes : goes_behind i ≡ true
       pub depth : length stack + awaited ≡ (length c.stack - takes i) + leaves i
       pub counts : (arguments : ℕ) → Counts context.of i arguments → (awaited ≡ 0) × HasCount arguments stack
 
-    pub behind : (i : Instruction) (next : ℕ) → Stands context.of.bytes c.place i next → (w1 : World) (awaited : ℕ) (f : Frame) (stack : List Value) → IsBehind i w1 awaited f stack
-        → IsSoundContext t methods code w1 awaited (record { method = c.method; receiver = c.receiver; frame = f; place = next; stack = stack })
+    pub behind : (i : Instruction) (next : ℕ) → Stands context.of.bytes c.place i next → (w1 : World) (awaited : ℕ) (f : Activation) (stack : List Value) → IsBehind i w1 awaited f stack
+        → IsSoundContext t methods code w1 awaited (record { method = c.method; receiver = c.receiver; activation = f; place = next; stack = stack })
     behind i next s w1 awaited f stack h =
         let depths = context.method.suits.depths in
-        let kind : Stack = stack_kind c.frame in
+        let kind : Stack = stack_kind c.activation in
         let left : length stack + awaited ≡ (length c.stack + 0 - takes i) + leaves i = omega (arith, h.depth) in
         let there : Reached context.of next kind (length stack + awaited) = reach_behind context.of c.place kind (length c.stack + 0) context.reached i next (length stack + awaited) s (fits i next s).enough h.goes left in
         record {
           of = context.of;
           method = method_stays t methods code w w1 h.follows.onward c.method c.receiver context.of context.method;
-          frame = h.frame;
+          activation = h.activation;
           reached = subst (λ k. Reached context.of next k (length stack + awaited)) (sym h.kind) there;
           counted = λ arguments start b.
               h.counts arguments (counts_before context.of c.place next i (reached_place context.of depths c.place kind (length c.stack + 0) context.reached) s arguments start b);
           values = h.known;
         }
 
-    pub goes_sound : (i : Instruction) (next : ℕ) → Stands context.of.bytes c.place i next → (w1 : World) (f : Frame) (stack : List Value) → IsBehind i w1 0 f stack → IsSoundTurn t methods code (goes_on (record c { frame = f }) next stack rest w1)
+    pub goes_sound : (i : Instruction) (next : ℕ) → Stands context.of.bytes c.place i next → (w1 : World) (f : Activation) (stack : List Value) → IsBehind i w1 0 f stack → IsSoundTurn t methods code (goes_on (record c { activation = f }) next stack rest w1)
     goes_sound i next s w1 f stack h = record { world = h.follows.sound; contexts = (behind i next s w1 0 f stack h, wait_on t methods code w w1 h.follows rest wait) }
 
     -- ---- jumps
@@ -87,14 +87,14 @@ module _ (t : Table) (methods : MethodsValue (MethodEntry Code)) (code : Code) w
         → length stack ≡ (length c.stack - takes i) + leaves i → IsSoundTurn t methods code (jump t methods code budget distance c next stack rest w1)
     jump_sound i distance next s is w1 stack budget f known depth =
         let depths = context.method.suits.depths in
-        let kind : Stack = stack_kind c.frame in
+        let kind : Stack = stack_kind c.activation in
         let lands = (fits i next s).lands (does_jump i distance is) in
         let left : length stack + 0 ≡ (length c.stack + 0 - takes i) + leaves i = omega (arith, depth) in
         let there : Reached context.of lands.0 kind (length stack + 0) = reach_jump context.of c.place kind (length c.stack + 0) context.reached i next lands.0 (length stack + 0) s (fits i next s).enough lands.1 left in
         let at : IsSoundContext t methods code w1 0 (record c { place = lands.0; stack = stack }) = record {
           of = context.of;
           method = method_stays t methods code w w1 f.onward c.method c.receiver context.of context.method;
-          frame = frame_stays t methods code w w1 f.onward c.frame c.method c.receiver context.of context.frame;
+          activation = activation_stays t methods code w w1 f.onward c.activation c.method c.receiver context.of context.activation;
           reached = there;
           counted = λ arguments start b.
               absurd (none_at_target context.of depths c.place kind (length c.stack + 0) context.reached i next lands.0 kind (length stack + 0) s lands.1 there arguments start b);

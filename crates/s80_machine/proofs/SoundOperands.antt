@@ -5,13 +5,12 @@ use Rattle.std.specs.List.{AllByRecursion}
 use Rattle.std.proofs.lemmas.Bool.Decides.{nat_tests}
 use Rattle.s80_code.specs.declared.instruction.Instruction.{Instruction}
 use Rattle.s80_code.specs.declared.instruction.Instruction.TheVariants.{PushFixed, ReturnFixed, SendSpecial}
+use Rattle.s80_code.specs.Special.{special_arguments, special_selectors}
 use Rattle.s80_code.specs.Table.{Form, alone, with_one, with_two, Row, rows, has, row_of, formed, decoded, Stands}
-use Rattle.s80_code.proofs.TableLemmas.{value, by_row, holds_below, below_holds}
-use Rattle.s80_verify.specs.Effect.{special_arguments}
-use Rattle.s80_verify.specs.Selector.{IsSelectorOf, is_name, is_binary, keywords_of}
-use Rattle.s80_verify.proofs.SelectorLemmas.{name_is, binary_is, keywords_then, keywords_when, name_no_binary, name_is_none, binary_is_none, none_some}
-use Rattle.s80_machine.specs.Turn.{special_selectors}
-use Rattle.s80_machine.proofs.SoundLists.{both_true, same_number}
+use Rattle.s80_code.proofs.lemmas.TableLemmas.{value, by_row, holds_below, below_holds}
+use Rattle.s80_lex.specs.Selector.{IsSelectorOf, is_name, is_binary, keywords_of}
+use Rattle.s80_lex.proofs.lemmas.SelectorLemmas.{name_is, binary_is, keywords_then, keywords_when, name_no_binary, name_is_none, binary_is_none, none_some}
+use Rattle.s80_machine.proofs.lemmas.SoundLists.{both_true, same_number}
 
 abbrev pub IsInRange : Instruction → Type 0
 IsInRange (PushFixed n) = n ≤ 7

@@ -6,16 +6,17 @@ use Rattle.std.specs.List.{list_any}
 use Rattle.s80_code.specs.declared.code.Code.{Code}
 use Rattle.s80_code.specs.declared.instruction.Instruction.{Instruction}
 use Rattle.s80_code.specs.declared.instruction.Instruction.TheVariants.{PushContext, SendSpecial, Jump}
+use Rattle.s80_code.specs.Special.{block_copy}
 use Rattle.s80_code.specs.Table.{Stands, decoded, formed, with_one, row}
-use Rattle.s80_code.proofs.TableLemmas.{value, row_law}
+use Rattle.s80_code.proofs.lemmas.TableLemmas.{value, row_law}
 use Rattle.s80_verify.specs.declared.stack.Stack.{Stack}
 use Rattle.s80_verify.specs.declared.stack.Stack.TheVariants.{OfBlock}
 use Rattle.s80_verify.specs.Effect.{takes, leaves, goes_on, Jumps, Goes}
 use Rattle.s80_verify.specs.Reach.{IsPlaceAfter, IsPlace, Counts, Begins, Leads, ReachedIn, Reached}
 use Rattle.s80_verify.specs.Record.{HasDepths}
-use Rattle.s80_verify.proofs.LawLemmas.{all_marked, fits_there, fits_as, marked_is_some}
-use Rattle.s80_verify.proofs.JumpLemmas.{same_place, jump_is, does_jump}
-use Rattle.s80_verify.proofs.PlaceLemmas.{same_instruction, goes_forward, ends_within, moved, place_behind, one_before, front_at}
+use Rattle.s80_verify.proofs.lemmas.LawLemmas.{all_marked, fits_there, fits_as, marked_is_some}
+use Rattle.s80_verify.proofs.lemmas.JumpLemmas.{same_place, jump_is, does_jump}
+use Rattle.s80_verify.proofs.lemmas.PlaceLemmas.{same_instruction, goes_forward, ends_within, moved, place_behind, one_before, front_at}
 use Rattle.s80_machine.specs.Sound.{IsNoCopy}
 use Rattle.s80_machine.specs.Turn.{begins_block, instructions_in, holds_block}
 
@@ -40,7 +41,7 @@ push_place code at arguments start b = place_behind code.bytes b.context PushCon
 
 jump_place : (code : Code) (at arguments start : ℕ) (b : Begins code at arguments start) → IsPlace code.bytes b.jump
 jump_place code at arguments start b =
-    place_behind code.bytes at (SendSpecial 24) b.jump (place_behind code.bytes b.push b.count at (push_place code at arguments start b) b.is_count) b.is_copy
+    place_behind code.bytes at (SendSpecial block_copy) b.jump (place_behind code.bytes b.push b.count at (push_place code at arguments start b) b.is_count) b.is_copy
 
 target_place : (code : Code) → HasDepths code → (before : ℕ) (under : Stack) (held : ℕ) → Reached code before under held → (i : Instruction) (next to : ℕ) → Stands code.bytes before i next → Jumps i next to → IsPlace code.bytes to
 target_place code h before under held r i next to s jumps =
@@ -113,7 +114,7 @@ places_far bytes (suc n) at (before, i, p, s) = omega (arith, places_far bytes n
 abbrev HasBlockFrom : List ℕ → ℕ → ℕ → Type 0
 HasBlockFrom bytes at count = list_any begins_block (instructions_in count (drop at bytes)) ≡ true
 
-block_here : (bytes : List ℕ) (at next count : ℕ) → Stands bytes at (SendSpecial 24) next → HasBlockFrom bytes at (suc count)
+block_here : (bytes : List ℕ) (at next count : ℕ) → Stands bytes at (SendSpecial block_copy) next → HasBlockFrom bytes at (suc count)
 block_here bytes at next count s =
     ap (λ o. list_any begins_block (option_map_or (λ p. p.0 ∷ instructions_in count (drop p.1 (drop at bytes))) o [])) s.is_decoded
 
@@ -136,11 +137,11 @@ block_first bytes (suc n) at count (before, i, p, s) h =
     let c : suc count + n ≡ count + suc n = omega arith in
     subst (HasBlockFrom bytes 0) c (block_first bytes n before (suc count) p (block_before bytes before at count i s h))
 
-pub holds_it : (code : Code) → HasDepths code → (at : ℕ) (stack : Stack) (depth next : ℕ) → Reached code at stack depth → Stands code.bytes at (SendSpecial 24) next → holds_block code ≡ true
+pub holds_it : (code : Code) → HasDepths code → (at : ℕ) (stack : Stack) (depth next : ℕ) → Reached code at stack depth → Stands code.bytes at (SendSpecial block_copy) next → holds_block code ≡ true
 holds_it code h at stack depth next r s =
     let p = reached_place code h at stack depth r in
     let far = places_far code.bytes p.0 at p.1 in
-    let last = ends_within code.bytes at (SendSpecial 24) next s in
-    let more = goes_forward code.bytes at (SendSpecial 24) next s in
+    let last = ends_within code.bytes at (SendSpecial block_copy) next s in
+    let more = goes_forward code.bytes at (SendSpecial block_copy) next s in
     let c : suc (length code.bytes - suc p.0) + p.0 ≡ length code.bytes = omega (arith, far, last, more) in
     subst (HasBlockFrom code.bytes 0) c (block_first code.bytes p.0 at (suc (length code.bytes - suc p.0)) p.1 (block_here code.bytes at next (length code.bytes - suc p.0) s))

@@ -10,7 +10,7 @@ use Rattle.s80_form.specs.declared.definition.Kind.{Kind}
 use Rattle.s80_form.specs.declared.definition.Kind.TheVariants as kind
 use Rattle.s80_kernel.specs.Rows as rows
 use Rattle.s80_class.specs.Classes.{is_bits}
-use Rattle.s80_class.specs.Table.{Table, IsClass}
+use Rattle.s80_class.specs.Table.{Table, IsClass, number_of}
 use Rattle.s80_code.specs.declared.code.Code.{Code}
 use Rattle.s80_dict.specs.Table.{MethodsValue}
 use Rattle.s80_dict.specs.declared.dict.MethodEntry.{MethodEntry}
@@ -24,7 +24,7 @@ use Rattle.s80_object.specs.declared.value.Value.{Value}
 use Rattle.s80_object.specs.declared.value.Value.TheVariants.{Small, Character, Nil, ClassRef, Object}
 use Rattle.s80_prims.specs.declared.stop.Stop.TheVariants.{Error, ObjectsFull, TranscriptFull}
 use Rattle.s80_prims.specs.Arithmetic.{arithmetic, ranged}
-use Rattle.s80_prims.specs.Classes.{can_be_new, kind_of_class, number_of, variables_of}
+use Rattle.s80_prims.specs.Classes.{can_be_new, kind_of_class, variables_of}
 use Rattle.s80_prims.specs.Known.{BodyIsKnown, IsKnown}
 use Rattle.s80_prims.specs.Primitives.{Alone, Effect, WithOne, WithTwo, at_place, character_of, done, fails, gives, makes, names, new_indexed, new_plain, new_with, number_of_character, of_class, primitive, prints, put_at, put_character_at, put_done, puts, puts_character, readable, readable_bytes, rows_alone, rows_with_one, rows_with_two, stops, string_of, text_bytes, transcript_limit, two_numbers, with_text, writes}
 use Rattle.s80_prims.specs.Printed.{printed}

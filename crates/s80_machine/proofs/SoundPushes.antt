@@ -23,21 +23,22 @@ use Rattle.s80_verify.specs.Effect.{takes, leaves, goes_on as goes_behind}
 use Rattle.s80_verify.specs.Fault.{RunsAt}
 use Rattle.s80_verify.specs.Operands.{HasVariable, IsReadable, IsWritable}
 use Rattle.s80_verify.specs.Reach.{Counts}
-use Rattle.s80_machine.specs.World.{World, Context, Frame, Variable as VariableName, receiver_variable, temporary, variable_named, with_objects, with_receiver_variable, with_temporary, with_variable}
+use Rattle.s80_machine.specs.World.{World, Activation, Variable as VariableName, receiver_variable, temporary, variable_named, with_objects, with_receiver_variable, with_temporary, with_variable}
+use Rattle.s80_machine.specs.Turn.{Context, Turn, constant_in, given, goes_on, stops}
 use Rattle.s80_machine.specs.World as world
-use Rattle.s80_machine.specs.Lookup.{number}
-use Rattle.s80_machine.specs.Turn.{Turn, constant_in, fixed, given, goes_on, stops}
+use Rattle.s80_class.specs.Lookup.{number}
+use Rattle.s80_machine.specs.Shared.{fixed}
 use Rattle.s80_machine.specs.Step.{first_pushed, literal_pushed, push, store}
-use Rattle.s80_machine.specs.Sound.{HasCount, IsFrameOf, IsSetting, stack_kind, IsSoundContext, IsSoundTurn, IsSoundWorld, receiver_variable_in}
-use Rattle.s80_machine.proofs.SoundLists.{all_got, got_there}
+use Rattle.s80_machine.specs.Sound.{HasCount, IsActivationOf, IsSetting, stack_kind, IsSoundContext, IsSoundTurn, IsSoundWorld, receiver_variable_in}
+use Rattle.s80_machine.proofs.lemmas.SoundLists.{all_got, got_there}
 use Rattle.s80_machine.proofs.SoundOperands.{in_range}
-use Rattle.s80_machine.proofs.SoundWorlds.{frame_stays, method_stays, value_stays, values_stay}
+use Rattle.s80_machine.proofs.SoundWorlds.{activation_stays, method_stays, value_stays, values_stay}
 use Rattle.s80_machine.proofs.SoundChanges.{Follows, follows_then, same_follows, variable_follows}
 use Rattle.s80_machine.proofs.SoundFields.{IsThere, receiver_there, receiver_written, temporary_there, temporary_written}
 use Rattle.s80_machine.proofs.SoundLiterals.{WasMade, is_built, noted_follows, was_made}
 use Rattle.s80_machine.proofs.SoundEnds.{AllWait, if_sound, stops_sound}
 use Rattle.s80_machine.proofs.SoundMoves.{goes_sound}
-use Rattle.s80_code.proofs.TableLemmas.{value}
+use Rattle.s80_code.proofs.lemmas.TableLemmas.{value}
 
 -- ---- fixed values
 
@@ -70,10 +71,10 @@ module _ (t : Table) (methods : MethodsValue (MethodEntry Code)) (code : Code) (
 
   pub pushes : (i : Instruction) (next : ℕ) → Stands context.of.bytes c.place i next → (w1 : World) (v : Value) → Follows t methods code w w1 → IsKnown t w1.objects v → IsPush i v → Turns (goes_on c next (v ∷ c.stack) rest w1)
   pushes i next s w1 v f known h =
-      goes_sound t methods code c rest w sound context wait i next s w1 c.frame (v ∷ c.stack)
+      goes_sound t methods code c rest w sound context wait i next s w1 c.activation (v ∷ c.stack)
       (record {
         follows = f;
-        frame = frame_stays t methods code w w1 f.onward c.frame c.method c.receiver context.of context.frame;
+        activation = activation_stays t methods code w w1 f.onward c.activation c.method c.receiver context.of context.activation;
         kind = refl;
         known = All-cons (IsKnown t w1.objects) v c.stack known (values_stay t w w1 f.onward c.stack context.values);
         goes = h.goes;
@@ -98,7 +99,7 @@ module _ (t : Table) (methods : MethodsValue (MethodEntry Code)) (code : Code) (
   -- a variable of the receiver that an instruction names is there
   pub receiver_has : (i : Instruction) (next k : ℕ) → Stands context.of.bytes c.place i next → receiver_variable_in i ≡ Some k → IsSome (receiver_variable w c.receiver k)
   receiver_has i next k s is =
-      let run : RunsAt context.of c.place = record { stack = stack_kind c.frame; depth = length c.stack + 0; instruction = i; next = next; reached = context.reached; stands = s } in
+      let run : RunsAt context.of c.place = record { stack = stack_kind c.activation; depth = length c.stack + 0; instruction = i; next = next; reached = context.reached; stands = s } in
       context.method.variables k (context.method.suits.named c.place k run is)
 
   -- ---- literals
@@ -151,7 +152,7 @@ module _ (t : Table) (methods : MethodsValue (MethodEntry Code)) (code : Code) (
       there_sound (instruction.Push (Receiver k)) next s (receiver_variable w c.receiver k) (receiver_there t methods code w sound c.receiver k (receiver_has (instruction.Push (Receiver k)) next k s refl))
       (record { none = refl; one = refl; goes = refl; counts = λ n counted. absurd counted })
   push_sound (Temporary k) next s is =
-      there_sound (instruction.Push (Temporary k)) next s (temporary w c.frame k) (temporary_there t methods code w sound c.frame c.method c.receiver context.of k context.frame is)
+      there_sound (instruction.Push (Temporary k)) next s (temporary w c.activation k) (temporary_there t methods code w sound c.activation c.method c.receiver context.of k context.activation is)
       (record { none = refl; one = refl; goes = refl; counts = λ n counted. absurd counted })
   push_sound (Constant k) next s is =
       subst (λ o. Turns (given o (literal_pushed t methods code budget c next rest w k))) (sym (ap (option_and_then constant_in) is.1)) (literal_sound k next is.0 s is.1)
@@ -171,25 +172,25 @@ module _ (t : Table) (methods : MethodsValue (MethodEntry Code)) (code : Code) (
     pub writable : IsWritable context.of storage
     pub known : All (IsKnown t w.objects) stack
 
-  stored : (i : Instruction) (storage : Storage) (next : ℕ) (stack : List Value) → Stands context.of.bytes c.place i next → IsStore i storage stack → (w1 : World) (f : Frame) → Follows t methods code w w1
-      → IsFrameOf t methods code w1 f c.method c.receiver context.of → stack_kind f ≡ stack_kind c.frame → Turns (goes_on (record c { frame = f }) next stack rest w1)
-  stored i storage next stack s h w1 f follows frame kind =
+  stored : (i : Instruction) (storage : Storage) (next : ℕ) (stack : List Value) → Stands context.of.bytes c.place i next → IsStore i storage stack → (w1 : World) (f : Activation) → Follows t methods code w w1
+      → IsActivationOf t methods code w1 f c.method c.receiver context.of → stack_kind f ≡ stack_kind c.activation → Turns (goes_on (record c { activation = f }) next stack rest w1)
+  stored i storage next stack s h w1 f follows activation kind =
       goes_sound t methods code c rest w sound context wait i next s w1 f stack
-      (record { follows = follows; frame = frame; kind = kind; known = values_stay t w w1 follows.onward stack h.known; goes = h.goes; depth = h.depth; counts = λ n is. absurd (h.counts n is) })
+      (record { follows = follows; activation = activation; kind = kind; known = values_stay t w w1 follows.onward stack h.known; goes = h.goes; depth = h.depth; counts = λ n is. absurd (h.counts n is) })
 
   pub store_sound : (i : Instruction) (storage : Storage) (next : ℕ) (v : Value) (stack : List Value) → Stands context.of.bytes c.place i next → IsKnown t w.objects v → IsStore i storage stack
       → Turns (store t methods code budget context.of c next rest w storage v stack)
   store_sound i (Receiver k) next v stack s known h =
       let put = receiver_written t methods code w sound v known c.receiver k (receiver_has i next k s (h.names k refl)) in
       subst (λ o. Turns (given o (goes_on c next stack rest))) (sym put.is)
-      (stored i (Receiver k) next stack s h put.new c.frame put.follows (frame_stays t methods code w put.new put.follows.onward c.frame c.method c.receiver context.of context.frame) refl)
+      (stored i (Receiver k) next stack s h put.new c.activation put.follows (activation_stays t methods code w put.new put.follows.onward c.activation c.method c.receiver context.of context.activation) refl)
   store_sound i (Temporary k) next v stack s known h =
-      let put = temporary_written t methods code w sound c.frame c.method c.receiver context.of k v known context.frame h.writable in
-      subst (λ o. Turns (given o (λ (p : World × Frame). goes_on (record c { frame = p.1 }) next stack rest p.0))) (sym put.is) (stored i (Temporary k) next stack s h put.new put.frame put.follows put.frame_is put.kind)
+      let put = temporary_written t methods code w sound c.activation c.method c.receiver context.of k v known context.activation h.writable in
+      subst (λ o. Turns (given o (λ (p : World × Activation). goes_on (record c { activation = p.1 }) next stack rest p.0))) (sym put.is) (stored i (Temporary k) next stack s h put.new put.activation put.follows put.activation_is put.kind)
   store_sound i (Constant k) next v stack s known h = absurd h.writable
   store_sound i (Variable k) next v stack s known h =
       let u = variable_there context.of k h.writable in
       let f = variable_follows t methods code w u.0 v sound known in
       let w1 : World = with_variable w u.0 v in
       subst (λ o. Turns (given o (λ u. goes_on c next stack rest (with_variable w u v)))) (sym u.1)
-      (stored i (Variable k) next stack s h w1 c.frame f (frame_stays t methods code w w1 f.onward c.frame c.method c.receiver context.of context.frame) refl)
+      (stored i (Variable k) next stack s h w1 c.activation f (activation_stays t methods code w w1 f.onward c.activation c.method c.receiver context.of context.activation) refl)

@@ -6,7 +6,7 @@ use Rattle.std.proofs.lemmas.List.Elements.{All-nil, All-drop}
 use Rattle.s80_base.specs.declared.names.Side.{Side}
 use Rattle.s80_base.specs.declared.names.Side.TheVariants.{Instance}
 use Rattle.s80_kernel.specs.Rows as rows
-use Rattle.s80_class.specs.Table.{Table}
+use Rattle.s80_class.specs.Table.{Table, class_name}
 use Rattle.s80_code.specs.declared.code.Code.{Code}
 use Rattle.s80_dict.specs.Table.{MethodsValue, methods_at}
 use Rattle.s80_dict.specs.declared.dict.MethodEntry.{MethodEntry}
@@ -16,15 +16,16 @@ use Rattle.s80_object.specs.declared.value.Value.TheVariants.{Symbol}
 use Rattle.s80_prims.specs.declared.applied.Applied.{Applied}
 use Rattle.s80_prims.specs.declared.applied.Applied.TheVariants.{Done, Fails, Stops}
 use Rattle.s80_prims.specs.declared.stop.Stop.TheVariants.{NotUnderstood}
-use Rattle.s80_prims.specs.Classes.{class_name, class_of}
+use Rattle.s80_prims.specs.Classes.{class_of}
 use Rattle.s80_prims.specs.Kept.{AnswersKnown, KeepsKnown}
 use Rattle.s80_prims.specs.Known.{AreKnown, IsKnown}
 use Rattle.s80_prims.specs.Primitives.{World as ReachedWorld, primitive}
-use Rattle.s80_verify.specs.Selector.{IsSelectorOf, is_name}
-use Rattle.s80_verify.proofs.SelectorLemmas.{name_is}
-use Rattle.s80_machine.specs.World.{World, Key, doit, method, Context, changed, one_tick, reached, receiver_variable}
-use Rattle.s80_machine.specs.Lookup.{Found, Place, first_found, number, places_up}
-use Rattle.s80_machine.specs.Turn.{Turn, Block, block_with, if_unary, unary_in}
+use Rattle.s80_lex.specs.Selector.{IsSelectorOf, is_name}
+use Rattle.s80_lex.proofs.lemmas.SelectorLemmas.{name_is}
+use Rattle.s80_machine.specs.World.{World, Key, doit, method, changed, one_tick, reached, receiver_variable}
+use Rattle.s80_machine.specs.Turn.{Context, Turn}
+use Rattle.s80_class.specs.Lookup.{Found, Place, first_found, number, places_up}
+use Rattle.s80_machine.specs.Shared.{Block, block_with, if_unary, unary_in}
 use Rattle.s80_machine.specs.Step.{activated, block_activated, by_effect, by_primitive, code_for, found_turn, looked_up, method_turn, not_understood, performed, places_above, places_for, places_of, sent}
 use Rattle.s80_machine.specs.Sound.{IsSetting, IsMethod, IsSoundTurn, IsSoundWorld, SuitsMethod, variables_for, variables_on}
 use Rattle.s80_machine.proofs.SoundClasses.{HasAtMost, found_at, kernel_number, kernel_plain, places_within}
@@ -34,7 +35,7 @@ use Rattle.s80_machine.proofs.SoundChanges.{Follows}
 use Rattle.s80_machine.proofs.SoundValues.{has_class}
 use Rattle.s80_machine.proofs.SoundPrims.{primitive_good}
 use Rattle.s80_machine.proofs.SoundEnds.{AllWait, CanRun, activated_sound, block_sound, block_takes, deliver_sound, if_sound, stops_sound, ticked_sound, wait_on}
-use Rattle.s80_code.proofs.TableLemmas.{value}
+use Rattle.s80_code.proofs.lemmas.TableLemmas.{value}
 
 -- the receiver has the variables of all these places
 pub record Serves (t : Table) (w : World) (r : Value) (places : List Place) : Type 0 where

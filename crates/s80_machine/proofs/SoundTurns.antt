@@ -3,7 +3,7 @@ use Rattle.std.proofs.Common.{◌≡◌, ◌∙◌, ap, sym, subst, refl, ℕ, �
 use Rattle.std.specs.Int.{is_negative}
 use Rattle.std.specs.Str.{bytes_eq}
 use Rattle.std.proofs.lemmas.List.Elements.{All-cons, All-nil}
-use Rattle.s80_class.specs.Table.{Table}
+use Rattle.s80_class.specs.Table.{Table, number_of}
 use Rattle.s80_code.specs.declared.code.Code.{Code}
 use Rattle.s80_code.specs.declared.instruction.Instruction.{Instruction}
 use Rattle.s80_code.specs.declared.instruction.Instruction.TheVariants.{Push, Store, PopInto, PushFixed, ReturnFixed, ReturnTop, ReturnFromBlock, Send, SendSuper, SendSpecial, Pop, Duplicate, PushContext, Jump, JumpOnTrue, JumpOnFalse}
@@ -13,19 +13,19 @@ use Rattle.s80_dict.specs.Table.{MethodsValue}
 use Rattle.s80_dict.specs.declared.dict.MethodEntry.{MethodEntry}
 use Rattle.s80_object.specs.declared.value.Value.{Value}
 use Rattle.s80_object.specs.declared.value.Value.TheVariants.{Nil, True, False, Context as ContextValue, Transcript, Smalltalk}
-use Rattle.s80_prims.specs.Classes.{number_of}
 use Rattle.s80_prims.specs.Known.{IsKnown}
 use Rattle.s80_prims.specs.declared.stop.Stop.TheVariants.{NonBoolean}
 use Rattle.s80_verify.specs.Effect.{takes, leaves, goes_on as goes_behind}
 use Rattle.s80_verify.specs.Reach.{Counts}
-use Rattle.s80_verify.proofs.LawLemmas.{fits_there}
-use Rattle.s80_machine.specs.World.{World, Context, one_tick, Variable as VariableName, class_variable, outer, class_side, doit, first_value, first_world, outer_value}
-use Rattle.s80_machine.specs.Turn.{Turn, State, decided, deliver, fixed, given, goes_on, return_from, stops, ticked}
+use Rattle.s80_verify.proofs.lemmas.LawLemmas.{fits_there}
+use Rattle.s80_machine.specs.World.{World, one_tick, Variable as VariableName, class_variable, outer, class_side, doit, first_value, first_world, outer_value}
+use Rattle.s80_machine.specs.Turn.{Context, Turn, State, deliver, given, goes_on, return_from, stops, ticked}
+use Rattle.s80_machine.specs.Shared.{decided, fixed}
 use Rattle.s80_machine.specs.Step.{act, code_at, code_for, jump, store, turn, turn_at, turn_in, turn_of}
 use Rattle.s80_machine.specs.Run.{start}
 use Rattle.s80_machine.specs.Sound.{AreSound, IsSetting, IsSound, IsSoundContext, IsSoundTurn, IsSoundWorld, of_receiver, stack_kind}
-use Rattle.s80_machine.proofs.SoundLists.{all_got, got_there}
-use Rattle.s80_machine.proofs.SoundClasses.{number_names}
+use Rattle.s80_machine.proofs.lemmas.SoundLists.{all_got, got_there}
+use Rattle.s80_class.proofs.lemmas.Numbers.{number_names}
 use Rattle.s80_machine.proofs.SoundOperands.{in_range}
 use Rattle.s80_machine.proofs.SoundWorlds.{values_stay}
 use Rattle.s80_machine.proofs.SoundChanges.{Follows, same_follows}
@@ -65,8 +65,8 @@ module _ (t : Table) (methods : MethodsValue (MethodEntry Code)) (code : Code) (
     stays : (i : Instruction) (next : ℕ) → Stands context.of.bytes c.place i next → (stack : List Value) → All (IsKnown t w.objects) stack → goes_behind i ≡ true → length stack + 0 ≡ (length c.stack - takes i) + leaves i
         → ((n : ℕ) → Counts context.of i n → ⊥) → Turns (goes_on c next stack rest w)
     stays i next s stack known goes depth counts =
-        goes_sound t methods code c rest w sound context wait i next s w c.frame stack
-        (record { follows = same; frame = context.frame; kind = refl; known = known; goes = goes; depth = depth; counts = λ n is. absurd (counts n is) })
+        goes_sound t methods code c rest w sound context wait i next s w c.activation stack
+        (record { follows = same; activation = context.activation; kind = refl; known = known; goes = goes; depth = depth; counts = λ n is. absurd (counts n is) })
 
     pops : (next : ℕ) → Stands context.of.bytes c.place Pop next → Turns (act t methods code budget context.of c next rest w Pop)
     pops next s =
@@ -86,12 +86,12 @@ module _ (t : Table) (methods : MethodsValue (MethodEntry Code)) (code : Code) (
         let within : n ≤ 7 = in_range context.of.bytes c.place next (ReturnFixed n) s in
         let v = got_there (fixed c.receiver) n (omega (arith, within)) in
         let known = all_got (IsKnown t w.objects) (fixed c.receiver) n v.0 (all_fixed (IsKnown t w.objects) c.receiver context.method.known tt tt tt (λ n. tt)) v.1 in
-        subst (λ o. Turns (given o (λ v. return_from c.frame v rest w))) (sym v.1) (return_sound t methods code c.frame v.0 rest w known sound wait)
+        subst (λ o. Turns (given o (λ v. return_from c.activation v rest w))) (sym v.1) (return_sound t methods code c.activation v.0 rest w known sound wait)
 
     returns_top : (next : ℕ) → Stands context.of.bytes c.place ReturnTop next → Turns (act t methods code budget context.of c next rest w ReturnTop)
     returns_top next s =
-        popped_sound t methods code w c.stack (λ v stack. return_from c.frame v rest w) (omega (arith, (fits t methods code c rest w sound context wait ReturnTop next s).enough)) context.values
-        (λ v stack left known all. return_sound t methods code c.frame v rest w known sound wait)
+        popped_sound t methods code w c.stack (λ v stack. return_from c.activation v rest w) (omega (arith, (fits t methods code c rest w sound context wait ReturnTop next s).enough)) context.values
+        (λ v stack left known all. return_sound t methods code c.activation v rest w known sound wait)
 
     answers : (next : ℕ) → Stands context.of.bytes c.place ReturnFromBlock next → Turns (act t methods code budget context.of c next rest w ReturnFromBlock)
     answers next s =
@@ -158,7 +158,7 @@ module _ (t : Table) (methods : MethodsValue (MethodEntry Code)) (code : Code) (
     active_sound =
         let method = context.method in
         let fetched : code_at methods code w c.method ≡ Some context.of = ap (option_and_then (code_for methods code)) method.key_is ∙ method.code_is in
-        let here = fits_there context.of method.suits.depths c.place (stack_kind c.frame) (length c.stack + 0) context.reached in
+        let here = fits_there context.of method.suits.depths c.place (stack_kind c.activation) (length c.stack + 0) context.reached in
         let s = here.stands in
         let stands : Stands context.of.bytes c.place here.instruction (c.place + s.width) = record { width = s.width; is_decoded = s.is_decoded; behind = refl } in
         subst (λ o. Turns (turn_of t methods code budget c rest w o)) (sym fetched)

@@ -23,10 +23,10 @@ use Rattle.s80_prims.specs.Classes.{body_class, class_of, kernel_class, number_c
 use Rattle.s80_prims.specs.Known.{BodyIsKnown, IsKnown}
 use Rattle.s80_prims.specs.Primitives.{same}
 use Rattle.s80_machine.specs.World.{World, receiver_variable}
-use Rattle.s80_machine.specs.Lookup.{number}
-use Rattle.s80_machine.specs.Turn.{at_once, integer_primitives, of_integers}
+use Rattle.s80_class.specs.Lookup.{number}
+use Rattle.s80_machine.specs.Shared.{at_once, integer_primitives, of_integers}
 use Rattle.s80_machine.specs.Sound.{IsSetting, IsSoundBody, IsSoundWorld, variables_on}
-use Rattle.s80_machine.proofs.SoundLists.{got_there}
+use Rattle.s80_machine.proofs.lemmas.SoundLists.{got_there}
 use Rattle.s80_machine.proofs.SoundClasses.{kernel_number, kernel_plain}
 use Rattle.s80_machine.proofs.SoundWorlds.{HasField, some_place}
 

@@ -12,10 +12,11 @@ use Rattle.s80_object.specs.Objects.{Made}
 use Rattle.s80_object.specs.declared.value.Value.{Value}
 use Rattle.s80_object.specs.declared.value.Value.TheVariants.{Small, Character, Nil, True, False, Symbol, Number, ClassRef, Object, Context as ContextValue, Transcript, Smalltalk}
 use Rattle.s80_prims.specs.Known.{BodyIsKnown, IsKnown}
-use Rattle.s80_verify.proofs.ListLemmas.{get_within}
-use Rattle.s80_machine.specs.World.{World, Key, Context, Frame, own, home, block, receiver_variable}
-use Rattle.s80_machine.specs.Sound.{IsMethod, IsHomeOf, IsFrameOf, IsSoundContext, IsBlockOf, IsSoundBody, IsSoundLiteral}
-use Rattle.s80_machine.proofs.SoundLists.{got_there}
+use Rattle.s80_verify.proofs.lemmas.ListLemmas.{get_within}
+use Rattle.s80_machine.specs.World.{World, Key, Activation, own, home, block, receiver_variable}
+use Rattle.s80_machine.specs.Turn.{Context}
+use Rattle.s80_machine.specs.Sound.{IsMethod, IsHomeOf, IsActivationOf, IsSoundContext, IsBlockOf, IsSoundBody, IsSoundLiteral}
+use Rattle.s80_machine.proofs.lemmas.SoundLists.{got_there}
 
 -- ---- bodies that stand for others
 
@@ -148,10 +149,10 @@ module _ (t : Table) (methods : MethodsValue (MethodEntry Code)) (code : Code) (
       let c = on.bodies n (home_body m r h.temporaries) h.there in
       record { temporaries = c.2.0; there = c.1 ∙ ap (λ b. Some b) c.2.1; count = c.2.2 ∙ h.count }
 
-  pub frame_stays : (f : Frame) (m : ℕ) (r : Value) (of : Code) → IsFrameOf t methods code old f m r of → IsFrameOf t methods code new f m r of
-  frame_stays (own temporaries) m r of h = (h.0, (values_stay t old new on temporaries h.1.0, h.1.1))
-  frame_stays (home n) m r of h = home_stays n m r of h
-  frame_stays (block b n) m r of h =
+  pub activation_stays : (f : Activation) (m : ℕ) (r : Value) (of : Code) → IsActivationOf t methods code old f m r of → IsActivationOf t methods code new f m r of
+  activation_stays (own temporaries) m r of h = (h.0, (values_stay t old new on temporaries h.1.0, h.1.1))
+  activation_stays (home n) m r of h = home_stays n m r of h
+  activation_stays (block b n) m r of h =
       let c = on.bodies b (block_body (Object n) h.1.0 h.1.1) h.1.2 in
       (home_stays n m r of h.0, (h.1.0, h.1.1, c.1 ∙ ap (λ b. Some b) c.2))
 
@@ -159,7 +160,7 @@ module _ (t : Table) (methods : MethodsValue (MethodEntry Code)) (code : Code) (
   context_stays awaited c h = record {
     of = h.of;
     method = method_stays c.method c.receiver h.of h.method;
-    frame = frame_stays c.frame c.method c.receiver h.of h.frame;
+    activation = activation_stays c.activation c.method c.receiver h.of h.activation;
     reached = h.reached;
     counted = h.counted;
     values = values_stay t old new on c.stack h.values;

@@ -4,7 +4,8 @@ use Rattle.s80_code.specs.declared.code.Code.{Code}
 use Rattle.s80_code.specs.declared.instruction.Instruction.{Instruction}
 use Rattle.s80_machine.specs.declared.halt.Halt.{Halt}
 use Rattle.s80_machine.specs.declared.machine.Machine.{Machine}
-use Rattle.s80_machine.specs.World.{World, Context, Frame, own, home, block}
+use Rattle.s80_machine.specs.World.{World, Activation, own, home, block}
+use Rattle.s80_machine.specs.Turn.{Context}
 use Rattle.s80_machine.specs.Step.{act}
 use Rattle.s80_machine.specs.Sound.{HasCount}
 use Rattle.s80_machine.specs.Seen.{Given, below_home}
@@ -25,7 +26,7 @@ abbrev pub TopCountsFew : Machine → Type 0
 TopCountsFew m = (c : Context) (rest : List Context) (n : ℕ) → m.contexts ≡ c ∷ rest → HasCount n c.stack → n < 2 ^ 8
 
 -- those that are left by a return from the message of an activation
-abbrev pub left_by : Frame → List Context → Option (List Context)
+abbrev pub left_by : Activation → List Context → Option (List Context)
 left_by (own temporaries) rest = Some rest
 left_by (home h) rest = Some rest
 left_by (block b h) rest = below_home h rest

@@ -4,6 +4,7 @@ use Rattle.s80_class.specs.Known.{IsKnown as IsKnownTable}
 use Rattle.s80_class.specs.Table.{Table}
 use Rattle.s80_code.specs.declared.code.Code.{Code}
 use Rattle.s80_code.specs.declared.instruction.Storage.{Storage}
+use Rattle.s80_code.specs.Special.{special_selectors}
 use Rattle.s80_object.specs.Objects.{State as Objects, IsHome, body_at, no_objects}
 use Rattle.s80_object.specs.declared.value.Value.{Value}
 use Rattle.s80_object.specs.declared.value.Value.TheVariants.{Object}
@@ -18,11 +19,12 @@ use Rattle.s80_machine.specs.declared.halt.Halt.{Halt}
 use Rattle.s80_machine.specs.declared.halt.Halt.TheVariants as halt
 use Rattle.s80_machine.specs.declared.machine.Machine.{Machine}
 use Rattle.s80_machine.specs.declared.setting.Setting.{Setting}
-use Rattle.s80_machine.specs.World.{World, Key, Variable, Context, home_in, waiting}
-use Rattle.s80_machine.specs.Lookup.{Place}
+use Rattle.s80_machine.specs.World.{World, Key, Variable, home_in}
+use Rattle.s80_machine.specs.Turn.{Context, waiting, State, Turn, Goes, Ends, Stuck}
+use Rattle.s80_class.specs.Lookup.{Place}
 use Rattle.s80_machine.specs.Sites.{IsSite, site_in}
 use Rattle.s80_machine.specs.declared.sites.Site.{Site}
-use Rattle.s80_machine.specs.Turn.{State, Turn, Goes, Ends, Stuck, depth_limit, special_selectors}
+use Rattle.s80_machine.specs.Shared.{depth_limit}
 use Rattle.s80_machine.specs.Step.{code_for, places_above, places_for, push, sent, store}
 use Rattle.s80_machine.specs.Sound.{IsSetting}
 use Rattle.s80_machine.specs.Seen.{AreNumbers, EndsRun, Given, Method, value_in, value_of}
@@ -111,7 +113,7 @@ pub record TopIsKnown (t : Table) (m : Machine) : Type 0 where
 
 -- the home of the active context is one
 abbrev pub TopHasHome : Machine → Type 0
-TopHasHome m = (c : Context) (rest : List Context) (h : ℕ) → m.contexts ≡ c ∷ rest → home_in c.frame ≡ Some h → IsHome (body_at m.objects (Object h))
+TopHasHome m = (c : Context) (rest : List Context) (h : ℕ) → m.contexts ≡ c ∷ rest → home_in c.activation ≡ Some h → IsHome (body_at m.objects (Object h))
 
 -- what a run is given suits it
 abbrev pub IsSet : Given → Type 0

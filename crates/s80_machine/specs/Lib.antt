@@ -1,6 +1,6 @@
 pub mod World
+pub mod Shared
 pub mod Counted
-pub mod Lookup
 pub mod Turn
 pub mod Step
 pub mod Run

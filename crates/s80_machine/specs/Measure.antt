@@ -1,8 +1,8 @@
 -- Why a run ends: a step that takes no tick goes on in its activation or ends one.
 use Rattle.std.specs.Prelude.{ℕ, ◌+◌, ◌*◌, ◌-◌, ◌≤◌, List, length}
 use Rattle.std.specs.List.{sum_by}
-use Rattle.s80_machine.specs.World.{Context}
-use Rattle.s80_machine.specs.Turn.{State, depth_limit}
+use Rattle.s80_machine.specs.Turn.{Context, State}
+use Rattle.s80_machine.specs.Shared.{depth_limit}
 
 -- what is left of an activation's code, of which there are at most 1,023 bytes
 abbrev pub left_of : Context → ℕ

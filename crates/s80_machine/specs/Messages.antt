@@ -9,13 +9,12 @@ use Rattle.s80_object.specs.declared.value.Value.{Value}
 use Rattle.s80_prims.specs.Classes.{class_of}
 use Rattle.s80_prims.specs.Known.{AreKnown, IsKnown}
 use Rattle.s80_machine.specs.declared.machine.Machine.{Machine}
-use Rattle.s80_machine.specs.World.{World, Key, doit, method, Context}
-use Rattle.s80_machine.specs.Lookup.{Found, Place, first_found, number}
-use Rattle.s80_machine.specs.Turn.{Turn}
+use Rattle.s80_machine.specs.World.{World, Key, doit, method}
+use Rattle.s80_machine.specs.Turn.{Context, Turn}
+use Rattle.s80_class.specs.Lookup.{Found, Place, first_found, number}
 use Rattle.s80_machine.specs.Step.{activated, by_primitive, code_for, found_turn, looked_up, method_turn, not_understood, performed, places_of}
-use Rattle.s80_machine.specs.Seen.{Given}
+use Rattle.s80_machine.specs.Seen.{Given, FoundCode}
 use Rattle.s80_machine.specs.Sites.{IsLiteralOf}
-use Rattle.s80_machine.specs.declared.lookup.Found.{Found as FoundCode}
 
 -- the receiver and the arguments of a message are known, and so is all that objects hold
 pub record IsKnownMessage (t : Table) (s : Objects) (r : Value) (vs : List Value) : Type 0 where
@@ -40,7 +39,7 @@ TopSends on k selector m =
 
 -- what was found is a method without a primitive
 abbrev pub IsPlain : Option FoundCode → Option FoundCode → Type 0
-IsPlain found (Some plain) = (found ≡ Some plain) × (plain.code.now.primitive ≡ 0)
+IsPlain found (Some plain) = (found ≡ Some plain) × (plain.entry.now.code.primitive ≡ 0)
 IsPlain found None = Unit {0}
 
 -- this is a method's code, which has room for these arguments

@@ -4,16 +4,12 @@ use Rattle.s80_class.specs.Table.{Table}
 use Rattle.s80_code.specs.declared.code.Code.{Code}
 use Rattle.s80_dict.specs.Table.{MethodsValue}
 use Rattle.s80_dict.specs.declared.dict.MethodEntry.{MethodEntry}
-use Rattle.s80_object.specs.Body.{words_of}
 use Rattle.s80_object.specs.declared.value.Value.TheVariants.{Nil}
-use Rattle.s80_prims.specs.declared.stop.End.{End}
 use Rattle.s80_prims.specs.declared.stop.Outcome.{Outcome}
-use Rattle.s80_machine.specs.World.{World, doit, first_world}
+use Rattle.s80_machine.specs.World.{doit, first_world}
 use Rattle.s80_machine.specs.Turn.{State, Turn, Goes, Ends, Stuck}
 use Rattle.s80_machine.specs.Step.{activated, turn}
-
-abbrev pub outcome_of : End → World → Outcome
-outcome_of end w = record { end = end; transcript = w.transcript; ticks = w.ticks; words = words_of w.objects.bodies; objects = w.objects }
+use Rattle.s80_machine.specs.Shared.{outcome_of}
 
 module _ (t : Table) (methods : MethodsValue (MethodEntry Code)) (code : Code) (budget : ℕ) where
   abbrev pub after : Turn → (State → Option Outcome) → Option Outcome

@@ -6,7 +6,9 @@ use Rattle.std.specs.Option.{option_map}
 use Rattle.std.specs.Str.{bytes_eq}
 use Rattle.s80_base.specs.declared.names.Side.{Side}
 use Rattle.s80_base.specs.declared.names.Side.TheVariants.{Instance, Class}
-use Rattle.s80_class.specs.Table.{Table}
+use Rattle.s80_class.specs.declared.found.Found.{Found as FoundEntry}
+use Rattle.s80_class.specs.Lookup.{Place}
+use Rattle.s80_class.specs.Table.{Table, number_of}
 use Rattle.s80_code.specs.declared.code.Code.{Code}
 use Rattle.s80_code.specs.declared.instruction.Instruction.{Instruction}
 use Rattle.s80_code.specs.Table.{decoded}
@@ -15,27 +17,25 @@ use Rattle.s80_dict.specs.declared.dict.MethodEntry.{MethodEntry}
 use Rattle.s80_object.specs.Literal.{added_once}
 use Rattle.s80_object.specs.declared.value.Value.{Value}
 use Rattle.s80_object.specs.declared.value.Value.TheVariants as value
-use Rattle.s80_prims.specs.Classes.{number_of}
 use Rattle.s80_prims.specs.declared.stop.End.{End}
 use Rattle.s80_prims.specs.declared.stop.End.TheVariants.{Stopped}
 use Rattle.s80_prims.specs.declared.stop.Stop.TheVariants.{CannotReturn}
-use Rattle.s80_machine.specs.declared.context.Frame.{Frame as Kept}
-use Rattle.s80_machine.specs.declared.context.Frame.TheVariants as kept
+use Rattle.s80_machine.specs.declared.context.Activation.{Activation as Kept}
+use Rattle.s80_machine.specs.declared.context.Activation.TheVariants as kept
 use Rattle.s80_machine.specs.declared.halt.Halt.{Halt}
 use Rattle.s80_machine.specs.declared.halt.Halt.TheVariants as halt
 use Rattle.s80_machine.specs.declared.kernel.Kernel.{Kernel}
-use Rattle.s80_machine.specs.declared.lookup.Found.{Found as FoundCode}
 use Rattle.s80_machine.specs.declared.methods.Activated.{Activated}
 use Rattle.s80_machine.specs.declared.variables.Variables.{Variables}
 use Rattle.s80_machine.specs.declared.activations.Block.{Block as KeptBlock}
-use Rattle.s80_machine.specs.World.{Key, doit, method, same_key, Variable, class_variable, outer, class_side, same_variable, first_value, Context, Frame, own, home, block, is_home}
-use Rattle.s80_machine.specs.Lookup.{Found, Place, number, numbers_up}
-use Rattle.s80_machine.specs.Turn.{Block, holds_block}
+use Rattle.s80_machine.specs.World.{Key, doit, method, same_key, Variable, class_variable, outer, class_side, same_variable, first_value, Activation, own, home, block}
+use Rattle.s80_machine.specs.Turn.{Context, is_home, holds_block}
+use Rattle.s80_machine.specs.Shared.{Block}
 
-abbrev pub frame_of : Kept → Frame
-frame_of (kept.Own temporaries) = own temporaries.items
-frame_of (kept.Home h) = home h
-frame_of (kept.Block b h) = block b h
+abbrev pub activation_of : Kept → Activation
+activation_of (kept.Own temporaries) = own temporaries.items
+activation_of (kept.Home h) = home h
+activation_of (kept.Block b h) = block b h
 
 -- ---- a change of the active context, which is there and has what is wanted, with an answer
 
@@ -90,20 +90,20 @@ message_taken count c = option_map (λ p. (with_stack c p.0, p.1)) (message_in c
 abbrev pub moved : ℕ → Context → Option (Context × Unit {0})
 moved place c = Some (record c { place = place }, tt)
 
-abbrev pub own_set : Context → Frame → ℕ → Value → Option (Context × Unit {0})
-own_set c (own temporaries) i v = if nat_lt i (length temporaries) then Some (record c { frame = own (slice_set temporaries i v) }, tt) else None
+abbrev pub own_set : Context → Activation → ℕ → Value → Option (Context × Unit {0})
+own_set c (own temporaries) i v = if nat_lt i (length temporaries) then Some (record c { activation = own (slice_set temporaries i v) }, tt) else None
 own_set c (home h) i v = None
 own_set c (block b h) i v = None
 
 abbrev pub temporary_set : ℕ → Value → Context → Option (Context × Unit {0})
-temporary_set i v c = own_set c c.frame i v
+temporary_set i v c = own_set c c.activation i v
 
--- one of the temporaries that a frame keeps has another value
+-- one of the temporaries that an activation keeps has another value
 abbrev pub IsOwnSet : List Value → ℕ → Value → List Value → Result (Unit {0}) Halt → Type 0
 IsOwnSet old i v new (Ok done) = (i < length old) × (new ≡ slice_set old i v)
 IsOwnSet old i v new (Err fault) = (length old ≤ i) × (fault ≡ halt.Stuck)
 
-abbrev pub IsTemporarySet : Frame → ℕ → Value → Frame → Result (Unit {0}) Halt → Type 0
+abbrev pub IsTemporarySet : Activation → ℕ → Value → Activation → Result (Unit {0}) Halt → Type 0
 IsTemporarySet (own old) i v (own new) result = IsOwnSet old i v new result
 IsTemporarySet (own old) i v _ result = ⊥
 IsTemporarySet (home h) i v new result = result ≡ Err halt.Stuck
@@ -163,22 +163,9 @@ pub record AreNumbers (t : Table) (k : Kernel) : Type 0 where
   pub string : IsNumber t (codes "String") k.string
   pub array : IsNumber t (codes "Array") k.array
 
--- ---- look-ups
-
--- the superclasses of a class, itself the first; none of no class
-abbrev pub numbers_from : Table → Option ℕ → List ℕ
-numbers_from t None = []
-numbers_from t (Some c) = numbers_up t c
-
--- the places of a side of these classes; behind those of the class side stands the class Class with its superclasses
-abbrev pub places_from : Table → Option ℕ → Side → List Place
-places_from t from Instance = map (λ n. (n, Instance)) (numbers_from t from)
-places_from t from Class = map (λ n. (n, Class)) (numbers_from t from) ++ map (λ n. (n, Instance)) (numbers_up t (number t (codes "Class")))
-
-abbrev pub IsFound : Option (Found (MethodEntry Code)) → Option FoundCode → Type 0
-IsFound None None = Unit {0}
-IsFound (Some f) (Some g) = (g.class ≡ f.class) × (g.side ≡ f.side) × (g.code.now ≡ f.entry.code)
-IsFound _ _ = ⊥
+-- a method that was found
+abbrev pub FoundCode : Type 0
+FoundCode = FoundEntry Code
 
 -- what a run is given
 pub record Given : Type 0 where

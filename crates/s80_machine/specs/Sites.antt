@@ -6,7 +6,7 @@ use Rattle.s80_dict.specs.declared.dict.MethodEntry.{MethodEntry}
 use Rattle.s80_machine.specs.declared.sites.Site.{Site}
 use Rattle.s80_machine.specs.declared.sites.Sites.{Sites}
 use Rattle.s80_machine.specs.World.{Key, method, same_key}
-use Rattle.s80_machine.specs.Lookup.{Found, first_found, places_up}
+use Rattle.s80_class.specs.Lookup.{Found, first_found, places_up}
 use Rattle.s80_machine.specs.Step.{code_for, selector_at}
 use Rattle.s80_machine.specs.Seen.{Given}
 

@@ -8,7 +8,7 @@ use Rattle.s80_base.specs.declared.names.Side.TheVariants.{Instance, Class}
 use Rattle.s80_kernel.specs.Rows.{is_kernel_class}
 use Rattle.s80_class.specs.Classes.{Name, inherited_of, is_bits}
 use Rattle.s80_class.specs.Known.{IsKnown as IsKnownTable}
-use Rattle.s80_class.specs.Table.{Table, IsClass}
+use Rattle.s80_class.specs.Table.{Table, IsClass, class_name}
 use Rattle.s80_code.specs.Entries.{constant, entries_of}
 use Rattle.s80_code.specs.declared.code.Code.{Code}
 use Rattle.s80_code.specs.declared.instruction.Instruction.{Instruction}
@@ -22,7 +22,7 @@ use Rattle.s80_object.specs.Literal.{is_object}
 use Rattle.s80_object.specs.Objects.{Made}
 use Rattle.s80_object.specs.declared.value.Value.{Value}
 use Rattle.s80_object.specs.declared.value.Value.TheVariants.{Object, Small}
-use Rattle.s80_prims.specs.Classes.{class_name, kind_of_class, variables_of}
+use Rattle.s80_prims.specs.Classes.{kind_of_class, variables_of}
 use Rattle.s80_prims.specs.Kept.{HasNumbers}
 use Rattle.s80_prims.specs.Known.{AreKnown, HasKernel, IsKnown}
 use Rattle.s80_prims.specs.declared.stop.End.{End}
@@ -32,9 +32,9 @@ use Rattle.s80_verify.specs.declared.stack.Stack.TheVariants.{OfHome, OfBlock}
 use Rattle.s80_verify.specs.Fault.{RunsAt}
 use Rattle.s80_verify.specs.Reach.{Begins, Reached}
 use Rattle.s80_verify.specs.Record.{HasDepths}
-use Rattle.s80_verify.specs.Selector.{IsSelectorOf}
-use Rattle.s80_machine.specs.World.{World, Key, doit, method, Variable, Context, Frame, own, home, block, receiver_variable}
-use Rattle.s80_machine.specs.Turn.{State, Turn, Goes, Ends, Stuck, holds_block}
+use Rattle.s80_lex.specs.Selector.{IsSelectorOf}
+use Rattle.s80_machine.specs.World.{World, Key, doit, method, Variable, Activation, own, home, block, receiver_variable}
+use Rattle.s80_machine.specs.Turn.{Context, State, Turn, Goes, Ends, Stuck, holds_block}
 use Rattle.s80_machine.specs.Step.{code_for}
 
 -- ---- what a run is given
@@ -83,7 +83,7 @@ pub record IsSetting (t : Table) (methods : MethodsValue (MethodEntry Code)) (co
 
 -- ---- what it keeps
 
-abbrev pub stack_kind : Frame → Stack
+abbrev pub stack_kind : Activation → Stack
 stack_kind (own temporaries) = OfHome
 stack_kind (home h) = OfHome
 stack_kind (block b h) = OfBlock
@@ -120,18 +120,18 @@ module _ (t : Table) (methods : MethodsValue (MethodEntry Code)) (code : Code) w
     pub count : length temporaries ≡ of.temporaries
 
   -- where an activation has its temporaries
-  abbrev pub IsFrameOf : World → Frame → ℕ → Value → Code → Type 0
-  IsFrameOf w (own temporaries) m r of = (length temporaries ≡ of.temporaries) × (All (IsKnown t w.objects) temporaries × (holds_block of ≡ false))
-  IsFrameOf w (home h) m r of = IsHomeOf w h m r of
-  IsFrameOf w (block b h) m r of =
+  abbrev pub IsActivationOf : World → Activation → ℕ → Value → Code → Type 0
+  IsActivationOf w (own temporaries) m r of = (length temporaries ≡ of.temporaries) × (All (IsKnown t w.objects) temporaries × (holds_block of ≡ false))
+  IsActivationOf w (home h) m r of = IsHomeOf w h m r of
+  IsActivationOf w (block b h) m r of =
       IsHomeOf w h m r of × ((start : ℕ) × (count : ℕ) × (slice_get w.objects.bodies b ≡ Some (block_body (Object h) start count)))
 
   -- an activation that waits for so many values; at a 200 it waits for none, and the number that the push before it left is on top
   pub record IsSoundContext (w : World) (awaited : ℕ) (c : Context) : Type 0 where
     pub of : Code
     pub method : IsMethod w c.method c.receiver of
-    pub frame : IsFrameOf w c.frame c.method c.receiver of
-    pub reached : Reached of c.place (stack_kind c.frame) (length c.stack + awaited)
+    pub activation : IsActivationOf w c.activation c.method c.receiver of
+    pub reached : Reached of c.place (stack_kind c.activation) (length c.stack + awaited)
     pub counted : (arguments start : ℕ) → Begins of c.place arguments start → (awaited ≡ 0) × HasCount arguments c.stack
     pub values : All (IsKnown t w.objects) c.stack
 

@@ -5,13 +5,14 @@ use Rattle.std.specs.FinMap as map_of
 use Rattle.std.specs.Option.{option_map, option_map_or}
 use Rattle.s80_base.specs.Literal.{LiteralTree}
 use Rattle.s80_base.specs.declared.names.Side.TheVariants.{Instance}
-use Rattle.s80_class.specs.Table.{Table}
+use Rattle.s80_class.specs.Table.{Table, class_name}
 use Rattle.s80_code.specs.declared.code.Code.{Code}
 use Rattle.s80_code.specs.declared.instruction.Instruction.{Instruction}
 use Rattle.s80_code.specs.declared.instruction.Instruction.TheVariants as instruction
 use Rattle.s80_code.specs.declared.instruction.Storage.{Storage}
 use Rattle.s80_code.specs.declared.instruction.Storage.TheVariants.{Receiver, Temporary, Constant, Variable}
 use Rattle.s80_code.specs.Entries.{entries_of}
+use Rattle.s80_code.specs.Special.{block_copy, special_arguments, special_selectors}
 use Rattle.s80_code.specs.Table.{decoded}
 use Rattle.s80_dict.specs.Table.{MethodsValue, methods_at}
 use Rattle.s80_dict.specs.declared.dict.MethodEntry.{MethodEntry}
@@ -22,16 +23,16 @@ use Rattle.s80_object.specs.Objects.{State as Objects, body_at, home_parts_of, w
 use Rattle.s80_object.specs.declared.value.Value.{Value}
 use Rattle.s80_object.specs.declared.value.Value.TheVariants.{Small, Nil, ClassRef, Object}
 use Rattle.s80_object.specs.declared.value.Value.TheVariants as value
-use Rattle.s80_prims.specs.Classes.{class_name, class_of}
+use Rattle.s80_prims.specs.Classes.{class_of}
 use Rattle.s80_prims.specs.Primitives.{primitive}
 use Rattle.s80_prims.specs.declared.applied.Applied.{Applied}
 use Rattle.s80_prims.specs.declared.applied.Applied.TheVariants.{Done, Fails, Stops}
 use Rattle.s80_prims.specs.declared.stop.Stop.TheVariants.{NonBoolean, BlockActive, NotUnderstood, ObjectsFull}
-use Rattle.s80_verify.specs.Effect.{special_arguments}
-use Rattle.s80_machine.specs.World.{World, Key, doit, method, Context, Frame, own, home, changed, home_in, is_active, number_in, numbered, reached, waiting, receiver_variable, temporary, variable_named, with_objects, with_receiver_variable, with_temporary, with_variable}
+use Rattle.s80_machine.specs.World.{World, Key, doit, method, Activation, own, home, changed, home_in, number_in, numbered, reached, receiver_variable, temporary, variable_named, with_objects, with_receiver_variable, with_temporary, with_variable}
+use Rattle.s80_machine.specs.Turn.{Context, is_active, waiting, State, Turn, Goes, Stuck, constant_in, deeper, deliver, given, goes_on, holds_block, message_off, place_at, popped, pushed_all, return_from, selector_in, stops, ticked}
 use Rattle.s80_machine.specs.World as world
-use Rattle.s80_machine.specs.Lookup.{Found, Place, first_found, number, places_up}
-use Rattle.s80_machine.specs.Turn.{State, Turn, Goes, Stuck, Block, at_once, block_with, constant_in, decided, deeper, deliver, fixed, given, goes_on, holds_block, is_value, message_off, place_at, popped, pushed_all, return_from, selector_in, special_selectors, stops, ticked, unary_in}
+use Rattle.s80_class.specs.Lookup.{Found, Place, first_found, number, places_up}
+use Rattle.s80_machine.specs.Shared.{Block, at_once, block_with, decided, fixed, is_value, unary_in}
 
 -- one more object, or the words would pass the limit
 abbrev pub with_room : World → BodyTree → (World → Turn) → Turn
@@ -56,13 +57,13 @@ module _ (t : Table) (methods : MethodsValue (MethodEntry Code)) (doit_code : Co
   abbrev pub with_home : Key → Value → List Value → List Context → World → Turn
   with_home key r temporaries below w =
       with_room w (body.home (number_in w key) r temporaries) (λ w1. Goes (record {
-        contexts = record { method = number_in w key; receiver = r; frame = home (length w.objects.bodies); place = 0; stack = [] } ∷ below;
+        contexts = record { method = number_in w key; receiver = r; activation = home (length w.objects.bodies); place = 0; stack = [] } ∷ below;
         world = w1;
       }))
 
   abbrev pub without_home : Key → Value → List Value → List Context → World → Turn
   without_home key r temporaries below w =
-      Goes (record { contexts = record { method = number_in w key; receiver = r; frame = own temporaries; place = 0; stack = [] } ∷ below; world = w })
+      Goes (record { contexts = record { method = number_in w key; receiver = r; activation = own temporaries; place = 0; stack = [] } ∷ below; world = w })
 
   abbrev pub started : Key → Code → Value → List Value → List Context → World → Turn
   started key code r temporaries below w =
@@ -77,7 +78,7 @@ module _ (t : Table) (methods : MethodsValue (MethodEntry Code)) (doit_code : Co
   abbrev pub block_started : Block → List Value → List Context → World → ℕ → ℕ × Value → Turn
   block_started b arguments below w h parts =
       Goes (record {
-        contexts = record { method = parts.0; receiver = parts.1; frame = world.block b.object h; place = b.start; stack = pushed_all arguments [] } ∷ below;
+        contexts = record { method = parts.0; receiver = parts.1; activation = world.block b.object h; place = b.start; stack = pushed_all arguments [] } ∷ below;
         world = w;
       })
 
@@ -163,7 +164,7 @@ module _ (t : Table) (methods : MethodsValue (MethodEntry Code)) (doit_code : Co
 
   -- the number of its arguments is on top, and the active context below
   abbrev pub copy_turn : Context → ℕ → List Context → World → List Value → Turn
-  copy_turn c next rest w (Small (pos count) ∷ _ ∷ stack) = given (home_in c.frame) (block_made c next rest w count stack)
+  copy_turn c next rest w (Small (pos count) ∷ _ ∷ stack) = given (home_in c.activation) (block_made c next rest w count stack)
   copy_turn c next rest w _ = Stuck
 
   -- ---- literals, variables and temporaries
@@ -183,7 +184,7 @@ module _ (t : Table) (methods : MethodsValue (MethodEntry Code)) (doit_code : Co
 
   abbrev pub push : Code → Context → ℕ → List Context → World → Storage → Turn
   push code c next rest w (Receiver i) = given (receiver_variable w c.receiver i) (λ v. goes_on c next (v ∷ c.stack) rest w)
-  push code c next rest w (Temporary i) = given (temporary w c.frame i) (λ v. goes_on c next (v ∷ c.stack) rest w)
+  push code c next rest w (Temporary i) = given (temporary w c.activation i) (λ v. goes_on c next (v ∷ c.stack) rest w)
   push code c next rest w (Constant k) =
       given (option_and_then constant_in (slice_get (entries_of code.literals) k)) (literal_pushed c next rest w k)
   push code c next rest w (Variable k) =
@@ -193,7 +194,7 @@ module _ (t : Table) (methods : MethodsValue (MethodEntry Code)) (doit_code : Co
   abbrev pub store : Code → Context → ℕ → List Context → World → Storage → Value → List Value → Turn
   store code c next rest w (Receiver i) v stack = given (with_receiver_variable w c.receiver i v) (goes_on c next stack rest)
   store code c next rest w (Temporary i) v stack =
-      given (with_temporary w c.frame i v) (λ p. goes_on (record c { frame = p.1 }) next stack rest p.0)
+      given (with_temporary w c.activation i v) (λ p. goes_on (record c { activation = p.1 }) next stack rest p.0)
   store code c next rest w (Constant k) v stack = Stuck
   store code c next rest w (Variable k) v stack =
       given (option_and_then variable_named (slice_get (entries_of code.literals) k)) (λ u. goes_on c next stack rest (with_variable w u v))
@@ -230,13 +231,13 @@ module _ (t : Table) (methods : MethodsValue (MethodEntry Code)) (doit_code : Co
   act code c next rest w (instruction.Store storage) = popped c.stack (λ v stack. store code c next rest w storage v (v ∷ stack))
   act code c next rest w (instruction.PopInto storage) = popped c.stack (store code c next rest w storage)
   act code c next rest w (instruction.PushFixed n) = given (slice_get (fixed c.receiver) n) (λ v. goes_on c next (v ∷ c.stack) rest w)
-  act code c next rest w (instruction.ReturnFixed n) = given (slice_get (fixed c.receiver) n) (λ v. return_from c.frame v rest w)
-  act code c next rest w instruction.ReturnTop = popped c.stack (λ v stack. return_from c.frame v rest w)
+  act code c next rest w (instruction.ReturnFixed n) = given (slice_get (fixed c.receiver) n) (λ v. return_from c.activation v rest w)
+  act code c next rest w instruction.ReturnTop = popped c.stack (λ v stack. return_from c.activation v rest w)
   act code c next rest w instruction.ReturnFromBlock = popped c.stack (λ v stack. deliver v rest w)
   act code c next rest w (instruction.Send count k) = message_off count [] c.stack (send_turn code c next rest w k)
   act code c next rest w (instruction.SendSuper count k) = message_off count [] c.stack (super_turn code c next rest w k)
   act code c next rest w (instruction.SendSpecial n) =
-      if n == 24 then copy_turn c next rest w c.stack else message_off (get_or special_arguments n 0) [] c.stack (special_turn n c next rest w)
+      if n == block_copy then copy_turn c next rest w c.stack else message_off (get_or special_arguments n 0) [] c.stack (special_turn n c next rest w)
   act code c next rest w instruction.Pop = popped c.stack (λ v stack. goes_on c next stack rest w)
   act code c next rest w instruction.Duplicate = popped c.stack (λ v stack. goes_on c next (v ∷ v ∷ stack) rest w)
   act code c next rest w instruction.PushContext = goes_on c next (value.Context ∷ c.stack) rest w

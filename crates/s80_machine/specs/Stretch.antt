@@ -7,8 +7,8 @@ use Rattle.s80_code.specs.declared.instruction.Storage.TheVariants.{Receiver, Te
 use Rattle.s80_code.specs.Table.{decoded}
 use Rattle.s80_object.specs.Objects.{State as Objects}
 use Rattle.s80_object.specs.declared.value.Value.{Value}
-use Rattle.s80_machine.specs.World.{World, Context, receiver_variable, temporary}
-use Rattle.s80_machine.specs.Turn.{Goes, State}
+use Rattle.s80_machine.specs.World.{World, receiver_variable, temporary}
+use Rattle.s80_machine.specs.Turn.{Context, Goes, State}
 use Rattle.s80_machine.specs.Step.{act, turn, turn_at}
 use Rattle.s80_machine.specs.Seen.{Given}
 
@@ -56,5 +56,5 @@ Reaches on (suc n) s t = (between : State) × Reaches on n s between × (turn on
 -- a variable of the receiver, where that is an object, or a temporary
 abbrev pub stored_in : World → Context → Storage → Option Value
 stored_in w c (Receiver i) = receiver_variable w c.receiver i
-stored_in w c (Temporary i) = temporary w c.frame i
+stored_in w c (Temporary i) = temporary w c.activation i
 stored_in w c _ = None

@@ -1,11 +1,11 @@
 -- What a run reads and changes, and the activations that are alive.
 use Rattle.std.specs.Prelude.{ℕ, suc, List, [], ◌==◌, ◌&&◌, Bool, true, false, length, slice_get, slice_set, nat_lt, codes, Option, Some, None, Result, Ok, Err, option_and_then, if◌then◌else◌}
 use Rattle.std.specs.Option.{option_map}
-use Rattle.std.specs.List.{list_any, position_or_len}
+use Rattle.std.specs.List.{position_or_len}
 use Rattle.std.specs.Str.{bytes_eq}
 use Rattle.s80_base.specs.declared.names.Side.{Side}
 use Rattle.s80_base.specs.declared.names.Side.TheVariants.{Instance}
-use Rattle.s80_class.specs.Table.{Table}
+use Rattle.s80_class.specs.Table.{Table, number_of}
 use Rattle.s80_code.specs.Entries.{EntryTree}
 use Rattle.s80_code.specs.Entries as entry
 use Rattle.s80_object.specs.Body.{BodyTree}
@@ -14,7 +14,6 @@ use Rattle.s80_object.specs.Objects.{State as Objects, fields_at, field_put, no_
 use Rattle.s80_object.specs.declared.value.ObjectFault.{ObjectFault}
 use Rattle.s80_object.specs.declared.value.Value.{Value}
 use Rattle.s80_object.specs.declared.value.Value.TheVariants as value
-use Rattle.s80_prims.specs.Classes.{number_of}
 use Rattle.s80_prims.specs.Primitives.{World as Reached, same_side}
 
 -- ---- methods and variables by name
@@ -92,43 +91,23 @@ changed w r = record w { objects = r.objects; transcript = r.transcript }
 
 -- whose activation: that of a method which keeps its temporaries itself; that of a method whose home is an object; that of a block, by its
 -- object and by its home's
-pub data Frame : Type 0 where
-  own : List Value → Frame
-  home : ℕ → Frame
-  block : ℕ → ℕ → Frame
+pub data Activation : Type 0 where
+  own : List Value → Activation
+  home : ℕ → Activation
+  block : ℕ → ℕ → Activation
 
--- the method's number, the receiver, the place of the next instruction, and the values on the stack, the top first
-pub record Context : Type 0 where
-  pub method : ℕ
-  pub receiver : Value
-  pub frame : Frame
-  pub place : ℕ
-  pub stack : List Value
+abbrev pub is_home_activation : ℕ → Activation → Bool
+is_home_activation h (own temporaries) = false
+is_home_activation h (home k) = h == k
+is_home_activation h (block b k) = false
 
--- it goes on at a place, with this stack and an answer on it
-abbrev pub waiting : Context → ℕ → List Value → Context
-waiting c place stack = record c { place = place; stack = stack }
-
-abbrev pub is_home_frame : ℕ → Frame → Bool
-is_home_frame h (own temporaries) = false
-is_home_frame h (home k) = h == k
-is_home_frame h (block b k) = false
-
--- the activation to which that home belongs
-abbrev pub is_home : ℕ → Context → Bool
-is_home h c = is_home_frame h c.frame
-
-abbrev pub is_frame_of_block : ℕ → Frame → Bool
-is_frame_of_block b (own temporaries) = false
-is_frame_of_block b (home h) = false
-is_frame_of_block b (block d h) = b == d
-
--- the block is active
-abbrev pub is_active : ℕ → List Context → Bool
-is_active b contexts = list_any (λ c. is_frame_of_block b c.frame) contexts
+abbrev pub is_activation_of_block : ℕ → Activation → Bool
+is_activation_of_block b (own temporaries) = false
+is_activation_of_block b (home h) = false
+is_activation_of_block b (block d h) = b == d
 
 -- the home's object, where it is one
-abbrev pub home_in : Frame → Option ℕ
+abbrev pub home_in : Activation → Option ℕ
 home_in (own temporaries) = None
 home_in (home h) = Some h
 home_in (block b h) = Some h
@@ -147,18 +126,18 @@ field_set w n i x =
 abbrev pub field_read : World → ℕ → ℕ → Option Value
 field_read w n i = option_and_then (λ fields. slice_get fields i) (fields_at w.objects (value.Object n))
 
-abbrev pub temporary : World → Frame → ℕ → Option Value
+abbrev pub temporary : World → Activation → ℕ → Option Value
 temporary w (own temporaries) i = slice_get temporaries i
 temporary w (home h) i = field_read w h i
 temporary w (block b h) i = field_read w h i
 
-abbrev pub in_frame : Frame → World → World × Frame
-in_frame frame w = (w, frame)
+abbrev pub in_activation : Activation → World → World × Activation
+in_activation activation w = (w, activation)
 
-abbrev pub with_temporary : World → Frame → ℕ → Value → Option (World × Frame)
+abbrev pub with_temporary : World → Activation → ℕ → Value → Option (World × Activation)
 with_temporary w (own temporaries) i x = if nat_lt i (length temporaries) then Some (w, own (slice_set temporaries i x)) else None
-with_temporary w (home h) i x = option_map (in_frame (home h)) (field_set w h i x)
-with_temporary w (block b h) i x = option_map (in_frame (block b h)) (field_set w h i x)
+with_temporary w (home h) i x = option_map (in_activation (home h)) (field_set w h i x)
+with_temporary w (block b h) i x = option_map (in_activation (block b h)) (field_set w h i x)
 
 -- a class's own variables are on the class side
 abbrev pub receiver_variable : World → Value → ℕ → Option Value

@@ -4,14 +4,15 @@ ghost use Rattle.s80_code.specs.declared.code.Code.{Code};
 ghost use Rattle.s80_object.specs.Body.{block, home, number_to};
 ghost use Rattle.s80_object.specs.Objects.{IsHome, Makes, body_at};
 ghost use Rattle.s80_object.specs.declared.value.Value.TheVariants.{Nil, Object};
-ghost use Rattle.s80_machine.specs.World.{Context, Key, World, number_in};
-ghost use Rattle.s80_machine.specs.Turn.{Goes, State, block_with, goes_on};
+ghost use Rattle.s80_machine.specs.Turn.{Context, Goes, State, goes_on};
+ghost use Rattle.s80_machine.specs.World.{Key, World, number_in};
+ghost use Rattle.s80_machine.specs.Shared.{block_with};
 ghost use Rattle.s80_machine.specs.Step.{block_activated, code_for, copy_turn, started, with_room};
 ghost use Rattle.s80_machine.specs.Came.{Came, Shows, TopHasHome, at_place, given_of};
 ghost use Rattle.s80_machine.specs.Seen.{Given, IsBlock, block_of};
 ghost use Rattle.s80_machine.specs.Acts.{TopCountsFew};
 
-use crate::context::{Context, Frame};
+use crate::context::{Activation, Context};
 use crate::contexts::emptied;
 use crate::halt::Halt;
 use crate::machine::{Machine, made};
@@ -53,7 +54,7 @@ impl<'a> Machine<'a> {
             self.begin(Context {
                 method,
                 receiver,
-                frame: Frame::Home(home),
+                activation: Activation::Home(home),
                 place: 0,
                 stack: emptied(arguments),
             })
@@ -63,7 +64,7 @@ impl<'a> Machine<'a> {
             self.begin(Context {
                 method,
                 receiver,
-                frame: Frame::Own(temporaries),
+                activation: Activation::Own(temporaries),
                 place: 0,
                 stack,
             })
@@ -119,7 +120,7 @@ impl<'a> Machine<'a> {
         self.begin(Context {
             method,
             receiver,
-            frame: Frame::Block {
+            activation: Activation::Block {
                 block: block.object,
                 home,
             },
@@ -141,7 +142,7 @@ impl<'a> Machine<'a> {
         self.contexts.pop()?;
         let count = argument_count(count).ok_or(Halt::Stuck)?;
         let active = self.contexts.active().ok_or(Halt::Stuck)?;
-        let home = active.frame.home().ok_or(Halt::Stuck)?;
+        let home = active.activation.home().ok_or(Halt::Stuck)?;
         let start = next.checked_add(2).ok_or(Halt::Stuck)?;
         self.push_block(home, start, count)
     }

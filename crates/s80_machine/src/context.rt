@@ -1,8 +1,9 @@
 // Activations.
 ghost use Rattle.std.specs.Prelude.{◌≡◌, []};
 ghost use Rattle.s80_machine.specs.Counted.{block_in};
-ghost use Rattle.s80_machine.specs.World.{home_in, is_home, is_home_frame};
-ghost use Rattle.s80_machine.specs.Seen.{DoesIn, IsOwnSet, IsTemporarySet, frame_of, message_taken, moved, popped, pushed, temporary_set, topped};
+ghost use Rattle.s80_machine.specs.World.{home_in, is_home_activation};
+ghost use Rattle.s80_machine.specs.Turn.{is_home};
+ghost use Rattle.s80_machine.specs.Seen.{DoesIn, IsOwnSet, IsTemporarySet, activation_of, message_taken, moved, popped, pushed, temporary_set, topped};
 
 use crate::halt::Halt;
 use s80_object::Value;
@@ -10,7 +11,7 @@ use std::marker::Model;
 
 /// Where an activation has its temporaries.
 #[derive(Debug, Drop)]
-pub(crate) enum Frame {
+pub(crate) enum Activation {
     /// It keeps them itself.
     Own(Vec<Value>),
     /// In its home, the object of this number.
@@ -19,44 +20,44 @@ pub(crate) enum Frame {
     Block { block: u32, home: u32 },
 }
 
-impl Frame {
+impl Activation {
     /// The home's object, where it is one.
     pub(crate) fn home(&self) -> Option<u32>
-        ensures { result ≡ home_in (frame_of self.now) }
+        ensures { result ≡ home_in (activation_of self.now) }
     {
         match self {
-            Frame::Own(_) => None,
-            Frame::Home(home) => Some(*home),
-            Frame::Block { home, .. } => Some(*home),
+            Activation::Own(_) => None,
+            Activation::Home(home) => Some(*home),
+            Activation::Block { home, .. } => Some(*home),
         }
     }
 
     /// Whether it is the activation of the method that has this home.
     fn is_home(&self, number: u32) -> bool
-        ensures { result ≡ is_home_frame number (frame_of self.now) }
+        ensures { result ≡ is_home_activation number (activation_of self.now) }
     {
         match self {
-            Frame::Home(home) => number == *home,
+            Activation::Home(home) => number == *home,
             _ => false,
         }
     }
 
     /// The block's object, where it is the activation of one.
     fn block(&self) -> Option<u32>
-        ensures { result ≡ block_in (frame_of self.now) }
+        ensures { result ≡ block_in (activation_of self.now) }
     {
         match self {
-            Frame::Block { block, .. } => Some(*block),
+            Activation::Block { block, .. } => Some(*block),
             _ => None,
         }
     }
 
     fn set_temporary(&mut self, i: u8, value: Value) -> Result<(), Halt>
-        ensures does { IsTemporarySet (frame_of self.old) i value (frame_of self.new) result }
-        ensures stays { block_in (frame_of self.new) ≡ block_in (frame_of self.old) }
+        ensures does { IsTemporarySet (activation_of self.old) i value (activation_of self.new) result }
+        ensures stays { block_in (activation_of self.new) ≡ block_in (activation_of self.old) }
     {
         match self {
-            Frame::Own(temporaries) => set(temporaries, usize::from(i), value),
+            Activation::Own(temporaries) => set(temporaries, usize::from(i), value),
             _ => Err(Halt::Stuck),
         }
     }
@@ -79,7 +80,7 @@ fn set(temporaries: &mut Vec<Value>, i: usize, value: Value) -> Result<(), Halt>
 pub(crate) struct Context {
     pub method: u32,
     pub receiver: Value,
-    pub frame: Frame,
+    pub activation: Activation,
     /// The place of the next instruction.
     pub place: u32,
     /// The last is on top.
@@ -88,12 +89,12 @@ pub(crate) struct Context {
 
 impl Model for Context {
     ghost use Rattle.std.specs.Prelude.{reverse};
-    ghost use Rattle.s80_machine.specs.Seen.{frame_of};
-    ghost use Rattle.s80_machine.specs.World.{Context as Activation};
+    ghost use Rattle.s80_machine.specs.Seen.{activation_of};
+    ghost use Rattle.s80_machine.specs.Turn.{Context as Active};
 
-    ghost Value = { Activation };
+    ghost Value = { Active };
 
-    ghost view = { λ c. record { method = c.method; receiver = c.receiver; frame = frame_of c.frame; place = c.place; stack = reverse c.stack.items } };
+    ghost view = { λ c. record { method = c.method; receiver = c.receiver; activation = activation_of c.activation; place = c.place; stack = reverse c.stack.items } };
 }
 
 impl Context {
@@ -101,20 +102,20 @@ impl Context {
     pub(crate) fn is_home(&self, number: u32) -> bool
         ensures { result ≡ is_home number self.now }
     {
-        self.frame.is_home(number)
+        self.activation.is_home(number)
     }
 
     /// The block's object, where it is the activation of one.
     pub(crate) fn block(&self) -> Option<u32>
-        ensures { result ≡ block_in self.now.frame }
+        ensures { result ≡ block_in self.now.activation }
     {
-        self.frame.block()
+        self.activation.block()
     }
 
     #[inline(always)]
     pub(crate) fn push(&mut self, value: Value) -> Result<(), Halt>
         ensures does { DoesIn (λ done. done) (pushed value self.old) self.new result }
-        ensures stays { block_in self.new.frame ≡ block_in self.old.frame }
+        ensures stays { block_in self.new.activation ≡ block_in self.old.activation }
     {
         self.stack.push(value)?;
         Ok(())
@@ -123,7 +124,7 @@ impl Context {
     #[inline(always)]
     pub(crate) fn pop(&mut self) -> Result<Value, Halt>
         ensures does { DoesIn (λ v. v) (popped self.old) self.new result }
-        ensures stays { block_in self.new.frame ≡ block_in self.old.frame }
+        ensures stays { block_in self.new.activation ≡ block_in self.old.activation }
     {
         match self.stack.pop() {
             Some(value) => Ok(value),
@@ -151,7 +152,7 @@ impl Context {
     ) -> Result<(Value, Vec<Value>), Halt>
         requires empty { arguments.items ≡ [] }
         ensures does { DoesIn (λ p. (p.0, p.1.items)) (message_taken count self.old) self.new result }
-        ensures stays { block_in self.new.frame ≡ block_in self.old.frame }
+        ensures stays { block_in self.new.activation ≡ block_in self.old.activation }
     {
         let Some(below) = self.stack.len().checked_sub(usize::from(count) + 1) else {
             return Err(Halt::Stuck);
@@ -166,7 +167,7 @@ impl Context {
     #[inline(always)]
     pub(crate) fn move_to(&mut self, place: u32) -> Result<(), Halt>
         ensures does { DoesIn (λ done. done) (moved place self.old) self.new result }
-        ensures stays { block_in self.new.frame ≡ block_in self.old.frame }
+        ensures stays { block_in self.new.activation ≡ block_in self.old.activation }
     {
         self.place = place;
         Ok(())
@@ -175,8 +176,8 @@ impl Context {
     /// Sets a temporary that it keeps itself.
     pub(crate) fn set_temporary(&mut self, i: u8, value: Value) -> Result<(), Halt>
         ensures does { DoesIn (λ done. done) (temporary_set i value self.old) self.new result }
-        ensures stays { block_in self.new.frame ≡ block_in self.old.frame }
+        ensures stays { block_in self.new.activation ≡ block_in self.old.activation }
     {
-        self.frame.set_temporary(i, value)
+        self.activation.set_temporary(i, value)
     }
 }

@@ -6,9 +6,9 @@ ghost use Rattle.s80_machine.specs.Counted.{count_of, one_of};
 ghost use Rattle.s80_machine.specs.Seen.{Does, IsEnded, IsUnwound, below_home, message_taken, moved, popped, pushed, temporary_set, topped};
 ghost use Rattle.s80_machine.specs.Seen.{Given, listing};
 ghost use Rattle.s80_machine.specs.Stretch.{LeadsFar, local};
-ghost use Rattle.s80_machine.specs.World.{is_active, Context as Activation};
+ghost use Rattle.s80_machine.specs.Turn.{is_active, Context as Active};
 
-use crate::context::{Context, Frame};
+use crate::context::{Activation, Context};
 use crate::halt::Halt;
 use s80_base::OutOfMemory;
 use s80_code::Instruction;
@@ -31,10 +31,10 @@ pub(crate) struct Contexts {
 
 impl Model for Contexts {
     ghost use Rattle.std.specs.Prelude.{List, reverse};
-    ghost use Rattle.s80_machine.specs.World.{Context as Activation};
+    ghost use Rattle.s80_machine.specs.Turn.{Context as Active};
     ghost use Rattle.s80_machine.specs.Counted.{AreCounted};
 
-    ghost Value = { List Activation };
+    ghost Value = { List Active };
 
     ghost view = { λ c. reverse c.contexts.items };
 
@@ -176,8 +176,8 @@ impl Contexts {
         ticks: &mut u64,
         budget: u64,
     )
-        ensures { (on : Given) (code : Code) (c : Activation) (rest : List Activation) → on.budget ≡ budget → entries.now ≡ listing code.bytes → self.old ≡ c ∷ rest
-            → (new : Activation) × (self.new ≡ new ∷ rest) × ((n : ℕ) × LeadsFar on code n (local c objects.old ticks.old) (local new objects.new ticks.new)) }
+        ensures { (on : Given) (code : Code) (c : Active) (rest : List Active) → on.budget ≡ budget → entries.now ≡ listing code.bytes → self.old ≡ c ∷ rest
+            → (new : Active) × (self.new ≡ new ∷ rest) × ((n : ℕ) × LeadsFar on code n (local c objects.old ticks.old) (local new objects.new ticks.new)) }
     {
         let Some(active) = self.contexts.last_mut() else {
             return;
@@ -250,7 +250,7 @@ fn keep_room(rooms: &mut Vec<Vec<Value>>, room: Vec<Value>) {
 #[inline(always)]
 fn keep_rooms(rooms: &mut Vec<Vec<Value>>, ended: Context) {
     keep_room(rooms, ended.stack);
-    if let Frame::Own(temporaries) = ended.frame {
+    if let Activation::Own(temporaries) = ended.activation {
         keep_room(rooms, temporaries);
     }
 }

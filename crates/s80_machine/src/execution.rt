@@ -2,7 +2,8 @@
 ghost use Rattle.std.specs.Prelude.{◌≡◌, ◌≢◌, IfOk, length};
 ghost use Rattle.s80_machine.specs.declared.halt.Halt.TheVariants.{Ended, Stuck};
 ghost use Rattle.s80_machine.specs.World.{World};
-ghost use Rattle.s80_machine.specs.Run.{RunsTo, outcome_of, start};
+ghost use Rattle.s80_machine.specs.Run.{RunsTo, start};
+ghost use Rattle.s80_machine.specs.Shared.{outcome_of};
 ghost use Rattle.s80_machine.specs.Sound.{IsSetting};
 ghost use Rattle.s80_machine.specs.Came.{AnswersKnown, Came, IsNew, IsReady, IsSet, ShowsWorld, given_of};
 

@@ -3,8 +3,8 @@ ghost use Rattle.std.specs.Prelude.{◌≡◌, IfOk, Some, option_and_then};
 ghost use Rattle.std.specs.Option.{option_map};
 ghost use Rattle.s80_base.specs.declared.names.Side.TheVariants.{Instance};
 ghost use Rattle.s80_object.specs.Objects.{body_at};
-ghost use Rattle.s80_class.specs.Table.{Table};
-ghost use Rattle.s80_prims.specs.Classes.{body_class, class_of, number_class, number_of};
+ghost use Rattle.s80_class.specs.Table.{Table, number_of};
+ghost use Rattle.s80_prims.specs.Classes.{body_class, class_of, number_class};
 ghost use Rattle.s80_prims.specs.Known.{HasKernel};
 ghost use Rattle.s80_machine.specs.Seen.{AreNumbers, class_place};
 

@@ -8,7 +8,6 @@ mod execution;
 mod halt;
 mod kernel;
 mod laws;
-mod lookup;
 mod machine;
 mod methods;
 mod selectors;
@@ -25,3 +24,4 @@ pub use laws::{
     a_run_ends, a_run_has_one_outcome, each_step_leaves_less, verified_code_is_never_stuck,
     worked_runs,
 };
+pub use s80_prims::{End, Outcome, Stop};

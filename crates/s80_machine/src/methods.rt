@@ -8,7 +8,7 @@ ghost use Rattle.s80_machine.specs.Seen.{IsActivated, Method, Numbers, key_bytes
 
 use indexmap::IndexSet;
 use s80_base::{OutOfMemory, Side, Text};
-use s80_code::{Code, Instruction, decode};
+use s80_code::{BLOCK_COPY, Code, Instruction, decode};
 use s80_verify::Verified;
 use std::alloc::Global;
 use std::marker::Model;
@@ -202,5 +202,5 @@ fn holds_block(code: &Code) -> bool
 fn begins_block(instruction: Instruction) -> bool
     ensures { result ≡ begins_block instruction }
 {
-    matches!(instruction, Instruction::SendSpecial(24))
+    matches!(instruction, Instruction::SendSpecial(BLOCK_COPY))
 }

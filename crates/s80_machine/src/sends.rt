@@ -1,37 +1,40 @@
 // Messages.
 ghost use Rattle.std.specs.Prelude.{◌≡◌, ◌∷◌, ◌==◌, ℕ, All, IfOk, IfSome, List, [], None, Some, get_or, length, slice_get, if◌then◌else◌};
 ghost use Rattle.std.specs.Option.{option_map};
-ghost use Rattle.s80_class.specs.Table.{IsClass};
+ghost use Rattle.s80_class.specs.Table.{IsClass, class_name};
 ghost use Rattle.s80_object.specs.declared.value.Value.{Value};
 ghost use Rattle.s80_prims.specs.Arithmetic.{truth};
-ghost use Rattle.s80_prims.specs.Classes.{class_name, class_of};
+ghost use Rattle.s80_prims.specs.Classes.{class_of};
 ghost use Rattle.s80_prims.specs.Known.{AreKnown, IsKnown};
 ghost use Rattle.s80_prims.specs.Primitives.{same};
 ghost use Rattle.s80_prims.specs.declared.stop.Stop.TheVariants.{NotUnderstood};
-ghost use Rattle.s80_verify.specs.Effect.{special_arguments};
-ghost use Rattle.s80_verify.specs.Selector.{IsSelectorOf, is_name};
+ghost use Rattle.s80_lex.specs.Selector.{IsSelectorOf, is_name};
 ghost use Rattle.s80_machine.specs.declared.machine.Machine.{Machine as MachineValue};
-ghost use Rattle.s80_machine.specs.World.{Context, Key, World, method, number_in, waiting};
-ghost use Rattle.s80_machine.specs.Lookup.{Place, places_up};
+ghost use Rattle.s80_machine.specs.Turn.{Context, waiting, State, message_off};
+ghost use Rattle.s80_machine.specs.World.{Key, World, method, number_in};
+ghost use Rattle.s80_class.specs.Lookup.{Place, places_up, IsFound};
 ghost use Rattle.s80_machine.specs.Sites.{IsLiteralOf};
 ghost use Rattle.s80_code.specs.declared.code.Code.{Code};
-ghost use Rattle.s80_machine.specs.Turn.{State, at_once, block_with, is_value, message_off, of_integers, unary_in};
+ghost use Rattle.s80_code.specs.Special.{special_arguments};
+ghost use Rattle.s80_machine.specs.Shared.{at_once, block_with, is_value, of_integers, unary_in};
 ghost use Rattle.s80_machine.specs.Step.{special_turn};
-ghost use Rattle.s80_machine.specs.Seen.{IsBlock, IsFound};
+ghost use Rattle.s80_machine.specs.Seen.{IsBlock};
 ghost use Rattle.s80_machine.specs.Came.{Came, IsGiven, IsReady, IsSet, Shows, ShowsWorld, TopIsKnown, above, at_place, given_of, places, sends};
 ghost use Rattle.s80_machine.specs.Messages.{IsKnownMessage, IsPlain, ReceiverIsKnown, Takes, TopSends, activates, finds, own_place, performs, places_in, refuses, runs, runs_method, runs_primitive, sends_one};
 
 use crate::activations::Block;
 use crate::halt::Halt;
-use crate::lookup::Found;
 use crate::machine::Machine;
-use crate::selectors::{integer_primitive, special_arguments};
+use crate::selectors::integer_primitive;
 use crate::setting::Setting;
 use crate::sites::Sending;
 use s80_base::{OutOfMemory, Side, Text};
+use s80_class::Found;
+use s80_code::special_arguments;
+use s80_lex::parameters_of;
 use s80_object::{Objects, Value};
 use s80_prims::{Applied, Stop, apply, arithmetic, same, truth};
-use s80_verify::parameters_of;
+use s80_verify::Verified;
 use std::alloc::Global;
 
 /// The primitive that activates a block.
@@ -136,22 +139,26 @@ impl<'a> Machine<'a> {
         &mut self,
         on: &Setting<'a>,
         sending: Sending,
-        found: Found<'a>,
+        found: Found<'a, Verified>,
         selector: &Text,
         receiver: Value,
         arguments: Vec<Value>,
     ) -> Result<(), Halt>
-        requires plain { found.code.now.primitive ≡ 0 }
+        requires plain { found.entry.now.code.primitive ≡ 0 }
         ensures { (s : State) → Shows (given_of on.now) self.old s
             → IsLiteralOf (given_of on.now) s.world.keys sending.method sending.literal selector.now
             → IsFound (finds (given_of on.now) selector.now (places_up on.now.classes.now sending.class sending.side)) (Some found.entry)
-            → Takes (given_of on.now) (method found.entry.class found.entry.side selector.now) found.entry.code.now arguments.items
-            → Came (given_of on.now) (activates (given_of on.now) (method found.entry.class found.entry.side selector.now) found.entry.code.now receiver arguments.items s.contexts s.world) self.new result }
+            → Takes (given_of on.now) (method found.entry.class found.entry.side selector.now) found.entry.entry.now.code arguments.items
+            → Came (given_of on.now) (activates (given_of on.now) (method found.entry.class found.entry.side selector.now) found.entry.entry.now.code receiver arguments.items s.contexts s.world) self.new result }
     {
         self.check_depth()?;
-        let number = self
-            .methods
-            .number(on.alloc, found.class, found.side, selector, found.code)?;
+        let number = self.methods.number(
+            on.alloc,
+            found.class,
+            found.side,
+            selector,
+            &found.entry.code,
+        )?;
         self.sites.note(on.alloc, sending, number)?;
         self.activate_method(on, number, receiver, arguments)
     }
@@ -252,7 +259,7 @@ impl<'a> Machine<'a> {
     fn run_found(
         &mut self,
         on: &Setting<'a>,
-        found: Option<Found<'a>>,
+        found: Option<Found<'a, Verified>>,
         selector: &Text,
         receiver: Value,
         arguments: Vec<Value>,
@@ -294,7 +301,7 @@ impl<'a> Machine<'a> {
     fn run_method(
         &mut self,
         on: &Setting<'a>,
-        found: Found<'a>,
+        found: Found<'a, Verified>,
         selector: &Text,
         receiver: Value,
         arguments: Vec<Value>,
@@ -302,10 +309,10 @@ impl<'a> Machine<'a> {
         requires setting { IsSet (given_of on.now) }
         requires known { IsKnownMessage on.now.classes.now self.old.objects receiver arguments.items }
         ensures { (c : Context) (rest : List Context) (w : World) → Shows (given_of on.now) self.old (record { contexts = c ∷ rest; world = w })
-            → Takes (given_of on.now) (method found.entry.class found.entry.side selector.now) found.entry.code.now arguments.items
-            → Came (given_of on.now) (runs_method (given_of on.now) (method found.entry.class found.entry.side selector.now) found.entry.code.now receiver arguments.items (c ∷ rest) w) self.new result }
+            → Takes (given_of on.now) (method found.entry.class found.entry.side selector.now) found.entry.entry.now.code arguments.items
+            → Came (given_of on.now) (runs_method (given_of on.now) (method found.entry.class found.entry.side selector.now) found.entry.entry.now.code receiver arguments.items (c ∷ rest) w) self.new result }
     {
-        match found.code.code().primitive {
+        match found.entry.code.code().primitive {
             ACTIVATES_BLOCK => match self.block_with(receiver, arguments.len()) {
                 Some(block) => self.activate_block(on, block, arguments),
                 None => self.activate_found(on, found, selector, receiver, arguments),
@@ -319,7 +326,7 @@ impl<'a> Machine<'a> {
     fn run_primitive(
         &mut self,
         on: &Setting<'a>,
-        found: Found<'a>,
+        found: Found<'a, Verified>,
         selector: &Text,
         receiver: Value,
         arguments: Vec<Value>,
@@ -327,12 +334,12 @@ impl<'a> Machine<'a> {
         requires setting { IsSet (given_of on.now) }
         requires known { IsKnownMessage on.now.classes.now self.old.objects receiver arguments.items }
         ensures { (c : Context) (rest : List Context) (w : World) → Shows (given_of on.now) self.old (record { contexts = c ∷ rest; world = w })
-            → Takes (given_of on.now) (method found.entry.class found.entry.side selector.now) found.entry.code.now arguments.items
-            → Came (given_of on.now) (runs_primitive (given_of on.now) (method found.entry.class found.entry.side selector.now) found.entry.code.now receiver arguments.items (c ∷ rest) w) self.new result }
+            → Takes (given_of on.now) (method found.entry.class found.entry.side selector.now) found.entry.entry.now.code arguments.items
+            → Came (given_of on.now) (runs_primitive (given_of on.now) (method found.entry.class found.entry.side selector.now) found.entry.entry.now.code receiver arguments.items (c ∷ rest) w) self.new result }
     {
         let applied = apply(
             on.alloc,
-            found.code.code().primitive,
+            found.entry.code.code().primitive,
             receiver,
             &arguments,
             on.classes,
@@ -350,30 +357,30 @@ impl<'a> Machine<'a> {
     fn activate_found(
         &mut self,
         on: &Setting<'a>,
-        found: Found<'a>,
+        found: Found<'a, Verified>,
         selector: &Text,
         receiver: Value,
         arguments: Vec<Value>,
     ) -> Result<(), Halt>
         ensures { (s : State) → Shows (given_of on.now) self.old s
-            → Takes (given_of on.now) (method found.entry.class found.entry.side selector.now) found.entry.code.now arguments.items
-            → Came (given_of on.now) (activates (given_of on.now) (method found.entry.class found.entry.side selector.now) found.entry.code.now receiver arguments.items s.contexts s.world) self.new result }
+            → Takes (given_of on.now) (method found.entry.class found.entry.side selector.now) found.entry.entry.now.code arguments.items
+            → Came (given_of on.now) (activates (given_of on.now) (method found.entry.class found.entry.side selector.now) found.entry.entry.now.code receiver arguments.items s.contexts s.world) self.new result }
     {
         self.check_depth()?;
         let (class, side) = (found.class, found.side);
         let method = self
             .methods
-            .number(on.alloc, class, side, selector, found.code)?;
+            .number(on.alloc, class, side, selector, &found.entry.code)?;
         self.activate_method(on, method, receiver, arguments)
     }
 }
 
 // The method that was found, where it has no primitive.
-fn plain(found: Option<Found<'_>>) -> Option<Found<'_>>
+fn plain(found: Option<Found<'_, Verified>>) -> Option<Found<'_, Verified>>
     ensures { IsPlain found.entry result }
 {
     let found = found?;
-    if found.code.code().primitive == 0 {
+    if found.entry.code.code().primitive == 0 {
         Some(found)
     } else {
         None
@@ -454,7 +461,7 @@ fn find<'a>(
     objects: &Objects,
     receiver: Value,
     selector: &Text,
-) -> Option<Found<'a>>
+) -> Option<Found<'a, Verified>>
     requires ready { IsReady on.now }
     requires setting { IsSet (given_of on.now) }
     requires objects { AreKnown on.now.classes.now objects.now }
@@ -500,13 +507,13 @@ fn not_understood_by(
 fn sent_by(
     alloc: Global,
     objects: &Objects,
-    found: Found<'_>,
+    found: Found<'_, Verified>,
     arguments: &[Value],
 ) -> Result<Option<Text>, OutOfMemory>
-    ensures is { IfOk result (λ unary. unary ≡ (if found.entry.code.now.primitive == 83 then unary_in objects.now arguments.now else None)) }
+    ensures is { IfOk result (λ unary. unary ≡ (if found.entry.entry.now.code.primitive == 83 then unary_in objects.now arguments.now else None)) }
     ensures unary { IfOk result (λ unary. IfSome unary (IsSelectorOf 0)) }
 {
-    if found.code.code().primitive == SENDS_MESSAGE {
+    if found.entry.code.code().primitive == SENDS_MESSAGE {
         unary(alloc, objects, arguments)
     } else {
         Ok(None)

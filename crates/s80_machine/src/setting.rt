@@ -2,18 +2,17 @@
 ghost use Rattle.std.specs.Prelude.{◌≡◌, drop, IfOk, length, slice_get, option_copied};
 ghost use Rattle.s80_class.specs.Known.{IsKnown};
 ghost use Rattle.s80_class.specs.Table.{IsClass, IsSuperclass};
+ghost use Rattle.s80_code.specs.Special.{special_selectors};
 ghost use Rattle.s80_prims.specs.Known.{HasKernel};
 ghost use Rattle.s80_prims.specs.Classes.{class_of};
-ghost use Rattle.s80_machine.specs.Lookup.{first_found, places_up};
-ghost use Rattle.s80_machine.specs.Seen.{IsFound, class_place, places_from};
-ghost use Rattle.s80_machine.specs.Turn.{special_selectors};
+ghost use Rattle.s80_class.specs.Lookup.{first_found, places_up, IsFound, places_from};
+ghost use Rattle.s80_machine.specs.Seen.{class_place};
 ghost use Rattle.s80_machine.specs.Came.{IsReady, given_of};
 
 use crate::kernel::Kernel;
-use crate::lookup::{Found, find_up};
 use crate::selectors::special_selectors;
 use s80_base::{Names, OutOfMemory, Side, Text};
-use s80_class::ClassTable;
+use s80_class::{ClassTable, Found, lookup_from};
 use s80_dict::MethodTable;
 use s80_object::{Objects, Value};
 use s80_verify::Verified;
@@ -78,7 +77,12 @@ impl<'a> Setting<'a> {
     }
 
     /// The method that a message to an instance of a side of a class finds.
-    pub(crate) fn find(&self, class: u32, side: Side, selector: &Text) -> Option<Found<'a>>
+    pub(crate) fn find(
+        &self,
+        class: u32,
+        side: Side,
+        selector: &Text,
+    ) -> Option<Found<'a, Verified>>
         requires ready { IsReady self.now }
         requires class { IsClass self.now.classes.now.names class }
         ensures { IsFound (first_found self.now.methods.now selector.now (places_up self.now.classes.now class side)) result }
@@ -87,7 +91,12 @@ impl<'a> Setting<'a> {
     }
 
     /// The method that a message to super finds, from a side of a class.
-    pub(crate) fn find_above(&self, class: u32, side: Side, selector: &Text) -> Option<Found<'a>>
+    pub(crate) fn find_above(
+        &self,
+        class: u32,
+        side: Side,
+        selector: &Text,
+    ) -> Option<Found<'a, Verified>>
         requires ready { IsReady self.now }
         requires class { IsClass self.now.classes.now.names class }
         ensures { IsFound (first_found self.now.methods.now selector.now (drop 1 (places_up self.now.classes.now class side))) result }
@@ -95,25 +104,23 @@ impl<'a> Setting<'a> {
         self.find_from(self.classes.at(class).superclass, side, selector)
     }
 
-    // On the class side the search goes on with the class Class.
-    fn find_from(&self, from: Option<u32>, side: Side, selector: &Text) -> Option<Found<'a>>
+    fn find_from(
+        &self,
+        from: Option<u32>,
+        side: Side,
+        selector: &Text,
+    ) -> Option<Found<'a, Verified>>
         requires ready { IsReady self.now }
         requires class { IsSuperclass self.now.classes.now.names from }
         ensures { IsFound (first_found self.now.methods.now selector.now (places_from self.now.classes.now from side)) result }
     {
-        let found = find_up(self.classes, self.methods, from, side, selector);
-        if found.is_some() {
-            return found;
-        }
-        match side {
-            Side::Instance => None,
-            Side::Class => find_up(
-                self.classes,
-                self.methods,
-                Some(self.kernel.class),
-                Side::Instance,
-                selector,
-            ),
-        }
+        lookup_from(
+            self.classes,
+            self.methods,
+            from,
+            side,
+            Some(self.kernel.class),
+            selector,
+        )
     }
 }

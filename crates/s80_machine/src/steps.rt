@@ -2,11 +2,13 @@
 ghost use Rattle.std.specs.Prelude.{◌≡◌, ◌≤◌, ◌∷◌, ℕ, All, List, None, Some, false, true, if◌then◌else◌, slice_get};
 ghost use Rattle.s80_code.specs.declared.code.Code.{Code};
 ghost use Rattle.s80_code.specs.declared.instruction.Instruction.TheVariants.{Duplicate, Jump, JumpOnFalse, JumpOnTrue, Pop, PopInto, PushFixed, ReturnFixed, ReturnFromBlock, ReturnTop, Send, SendSpecial, SendSuper, Store};
+ghost use Rattle.s80_code.specs.Special.{block_copy};
 ghost use Rattle.s80_object.specs.declared.value.Value.{Value};
 ghost use Rattle.s80_verify.specs.declared.stack.Stack.{Stack};
 ghost use Rattle.s80_verify.specs.Operands.{Sends, Suits};
-ghost use Rattle.s80_machine.specs.World.{Context, World};
-ghost use Rattle.s80_machine.specs.Turn.{State, decided, deliver, fixed, return_from};
+ghost use Rattle.s80_machine.specs.Turn.{Context, State, deliver, return_from};
+ghost use Rattle.s80_machine.specs.World.{World};
+ghost use Rattle.s80_machine.specs.Shared.{decided, fixed};
 ghost use Rattle.s80_machine.specs.Step.{jump, turn};
 ghost use Rattle.s80_machine.specs.Sound.{IsSound};
 ghost use Rattle.s80_machine.specs.Seen.{Given, IsUnwound};
@@ -14,19 +16,16 @@ ghost use Rattle.s80_machine.specs.Came.{Came, IsGiven, IsReady, IsSet, Shows, T
 ghost use Rattle.s80_machine.specs.Messages.{ReceiverIsKnown, TopRuns};
 ghost use Rattle.s80_machine.specs.Acts.{Acts, TopCountsFew, TopHasMethod, left_by};
 
-use crate::context::Frame;
+use crate::context::Activation;
 use crate::contexts::Contexts;
 use crate::halt::Halt;
 use crate::machine::Machine;
 use crate::setting::Setting;
 use crate::stores::selector_at;
-use s80_code::{Code, Instruction, Storage};
+use s80_code::{BLOCK_COPY, Code, Instruction, Storage};
 use s80_object::Value;
 use s80_prims::Stop;
 use std::alloc::Global;
-
-/// The number of the message that begins a real block.
-const BLOCK_COPY: u8 = 24;
 
 impl<'a> Machine<'a> {
     /// One instruction of the active context.
@@ -62,7 +61,7 @@ impl<'a> Machine<'a> {
         requires method { TopHasMethod self.old }
         requires near { next ≤ 1023 }
         requires suits { (at : ℕ) × (stack : Stack) × Suits code.now at stack instruction }
-        requires few { instruction ≡ SendSpecial 24 → TopCountsFew self.old }
+        requires few { instruction ≡ SendSpecial block_copy → TopCountsFew self.old }
         requires runs { TopRuns (given_of on.now) code.now self.old }
         ensures { Acts (given_of on.now) code.now next instruction self.old self.new result }
     {
@@ -185,7 +184,7 @@ impl<'a> Machine<'a> {
         requires known { TopIsKnown on.now.classes.now self.old }
         requires home { TopHasHome self.old }
         requires near { next ≤ 1023 }
-        requires few { number ≡ 24 → TopCountsFew self.old }
+        requires few { number ≡ block_copy → TopCountsFew self.old }
         ensures { (code : Code) → Acts (given_of on.now) code next (SendSpecial number) self.old self.new result }
     {
         if number == BLOCK_COPY {
@@ -265,7 +264,7 @@ impl<'a> Machine<'a> {
     #[inline(always)]
     fn return_from_method(&mut self, value: Value) -> Result<(), Halt>
         ensures { (on : Given) (c : Context) (rest : List Context) (w : World) → Shows on self.old (record { contexts = c ∷ rest; world = w })
-            → Came on (return_from c.frame value rest w) self.new result }
+            → Came on (return_from c.activation value rest w) self.new result }
     {
         end_method(self.alloc, &mut self.contexts)?;
         self.deliver(value)
@@ -287,11 +286,11 @@ impl<'a> Machine<'a> {
 // Ends the active context, and from a block all down to its home.
 #[inline(always)]
 fn end_method(alloc: Global, contexts: &mut Contexts) -> Result<(), Halt>
-    ensures { (c : Context) (rest : List Context) → contexts.old ≡ c ∷ rest → IsUnwound (left_by c.frame rest) contexts.old contexts.new result }
+    ensures { (c : Context) (rest : List Context) → contexts.old ≡ c ∷ rest → IsUnwound (left_by c.activation rest) contexts.old contexts.new result }
 {
     let active = contexts.active().ok_or(Halt::Stuck)?;
-    match active.frame {
-        Frame::Block { home, .. } => contexts.end_to_home(alloc, home),
+    match active.activation {
+        Activation::Block { home, .. } => contexts.end_to_home(alloc, home),
         _ => contexts.end(),
     }
 }

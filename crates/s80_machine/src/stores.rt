@@ -6,8 +6,8 @@ ghost use Rattle.s80_class.specs.Table.{Table};
 ghost use Rattle.s80_code.specs.Entries.{entries_of, entry_of};
 ghost use Rattle.s80_code.specs.declared.instruction.Storage.TheVariants.{Constant};
 ghost use Rattle.s80_object.specs.declared.value.Value.{Value};
-ghost use Rattle.s80_machine.specs.World.{Context, World, field_read, field_set, first_value, outer, outer_value, receiver_variable, temporary, variable_named, with_receiver_variable, with_temporary, with_variable};
-ghost use Rattle.s80_machine.specs.Turn.{constant_in, given, goes_on, selector_in};
+ghost use Rattle.s80_machine.specs.Turn.{Context, constant_in, given, goes_on, selector_in};
+ghost use Rattle.s80_machine.specs.World.{World, field_read, field_set, first_value, outer, outer_value, receiver_variable, temporary, variable_named, with_receiver_variable, with_temporary, with_variable};
 ghost use Rattle.s80_machine.specs.Seen.{Given};
 ghost use Rattle.s80_machine.specs.Came.{Came, IsReady, Shows, ShowsWorld, Stores, at_place, given_of, left_at, pushes, stores};
 
@@ -128,7 +128,7 @@ impl<'a> Machine<'a> {
 
     // A temporary of the active context.
     fn temporary(&self, i: u8) -> Option<Value>
-        ensures { (on : Given) (c : Context) (rest : List Context) (w : World) (next : ℕ) → Shows on self.now (at_place c next rest w) → result ≡ temporary w c.frame i }
+        ensures { (on : Given) (c : Context) (rest : List Context) (w : World) (next : ℕ) → Shows on self.now (at_place c next rest w) → result ≡ temporary w c.activation i }
     {
         self.contexts.active()?.temporary(&self.objects, i)
     }
@@ -136,10 +136,10 @@ impl<'a> Machine<'a> {
     #[inline(always)]
     fn set_temporary(&mut self, i: u8, value: Value) -> Result<(), Halt>
         ensures { (on : Given) (c : Context) (rest : List Context) (w : World) (next : ℕ) (stack : List Value) → Shows on self.old (left_at c next stack rest w)
-            → Came on (given (with_temporary w c.frame i value) (λ p. goes_on (record c { frame = p.1 }) next stack rest p.0)) self.new result }
+            → Came on (given (with_temporary w c.activation i value) (λ p. goes_on (record c { activation = p.1 }) next stack rest p.0)) self.new result }
     {
         let active = self.contexts.active().ok_or(Halt::Stuck)?;
-        match active.frame.home() {
+        match active.activation.home() {
             Some(home) => self.set_field(home, i, value),
             None => self.contexts.set_temporary(i, value),
         }

@@ -5,17 +5,17 @@ ghost use Rattle.s80_code.specs.declared.instruction.Instruction.TheVariants.{Du
 ghost use Rattle.s80_code.specs.declared.instruction.Storage.TheVariants.{Temporary};
 ghost use Rattle.s80_machine.specs.Counted.{block_in};
 ghost use Rattle.s80_machine.specs.World.{World, field_read, field_set, temporary, with_objects, with_temporary};
-ghost use Rattle.s80_machine.specs.Turn.{State, fixed, place_at};
-ghost use Rattle.s80_machine.specs.Seen.{Given, frame_of, listing};
+ghost use Rattle.s80_machine.specs.Turn.{State, place_at};
+ghost use Rattle.s80_machine.specs.Shared.{fixed};
+ghost use Rattle.s80_machine.specs.Seen.{Given, activation_of, listing};
 ghost use Rattle.s80_machine.specs.Came.{Shows};
 ghost use Rattle.s80_machine.specs.Stretch.{LeadsFar, Reaches, Tries, local, stored_in};
 
-use crate::context::{Context, Frame};
+use crate::context::{Activation, Context};
 use crate::machine::Machine;
-use crate::selectors::special_arguments;
 use crate::sends::one_at_once;
 use crate::steps::as_bool;
-use s80_code::{Instruction, Storage};
+use s80_code::{Instruction, Storage, special_arguments};
 use s80_object::{Objects, Value};
 
 impl<'a> Machine<'a> {
@@ -43,7 +43,7 @@ impl Context {
         ticks: &mut u64,
         budget: u64,
     )
-        ensures stays { block_in self.new.frame ≡ block_in self.old.frame }
+        ensures stays { block_in self.new.activation ≡ block_in self.old.activation }
         ensures goes { (on : Given) (code : Code) → on.budget ≡ budget → entries.now ≡ listing code.bytes
             → (n : ℕ) × LeadsFar on code n (local self.old objects.old ticks.old) (local self.new objects.new ticks.new) }
     {
@@ -70,7 +70,7 @@ impl Context {
         ticks: &mut u64,
         budget: u64,
     ) -> bool
-        ensures stays { block_in self.new.frame ≡ block_in self.old.frame }
+        ensures stays { block_in self.new.activation ≡ block_in self.old.activation }
         ensures tries { (on : Given) (code : Code) → on.budget ≡ budget
             → Tries on code instruction next (local self.old objects.old ticks.old) (local self.new objects.new ticks.new) result }
     {
@@ -93,7 +93,7 @@ impl Context {
 
     #[inline(always)]
     fn push_and_go(&mut self, value: Value, next: u32) -> bool
-        ensures stays { block_in self.new.frame ≡ block_in self.old.frame }
+        ensures stays { block_in self.new.activation ≡ block_in self.old.activation }
         ensures goes { MatchBool result (self.new ≡ record self.old { place = next; stack = value ∷ self.old.stack }) (self.new ≡ self.old) }
     {
         if self.stack.push(value).is_err() {
@@ -105,7 +105,7 @@ impl Context {
 
     #[inline(always)]
     fn push_stored(&mut self, objects: &Objects, storage: Storage, next: u32) -> bool
-        ensures stays { block_in self.new.frame ≡ block_in self.old.frame }
+        ensures stays { block_in self.new.activation ≡ block_in self.old.activation }
         ensures tries { (on : Given) (code : Code) (ticks : ℕ) → Tries on code (Push storage) next (local self.old objects.now ticks) (local self.new objects.now ticks) result }
     {
         let Some(value) = self.stored(objects, storage) else {
@@ -132,18 +132,18 @@ impl Context {
     /// A temporary.
     #[inline(always)]
     pub(crate) fn temporary(&self, objects: &Objects, i: u8) -> Option<Value>
-        ensures { (w : World) → w.objects ≡ objects.now → result ≡ temporary w self.now.frame i }
+        ensures { (w : World) → w.objects ≡ objects.now → result ≡ temporary w self.now.activation i }
     {
-        match &self.frame {
-            Frame::Own(temporaries) => temporaries.get(usize::from(i)).copied(),
-            Frame::Home(home) => field(objects, *home, i),
-            Frame::Block { home, .. } => field(objects, *home, i),
+        match &self.activation {
+            Activation::Own(temporaries) => temporaries.get(usize::from(i)).copied(),
+            Activation::Home(home) => field(objects, *home, i),
+            Activation::Block { home, .. } => field(objects, *home, i),
         }
     }
 
     #[inline(always)]
     fn push_fixed(&mut self, number: u8, next: u32) -> bool
-        ensures stays { block_in self.new.frame ≡ block_in self.old.frame }
+        ensures stays { block_in self.new.activation ≡ block_in self.old.activation }
         ensures tries { (on : Given) (code : Code) (objects : _) (ticks : ℕ) → Tries on code (PushFixed number) next (local self.old objects ticks) (local self.new objects ticks) result }
     {
         let Some(value) = self.fixed(number) else {
@@ -172,7 +172,7 @@ impl Context {
 
     #[inline(always)]
     fn push_again(&mut self, next: u32) -> bool
-        ensures stays { block_in self.new.frame ≡ block_in self.old.frame }
+        ensures stays { block_in self.new.activation ≡ block_in self.old.activation }
         ensures tries { (on : Given) (code : Code) (objects : _) (ticks : ℕ) → Tries on code Duplicate next (local self.old objects ticks) (local self.new objects ticks) result }
     {
         let Some(value) = self.stack.last().copied() else {
@@ -185,7 +185,7 @@ impl Context {
 
     #[inline(always)]
     fn drop_top(&mut self, next: u32) -> bool
-        ensures stays { block_in self.new.frame ≡ block_in self.old.frame }
+        ensures stays { block_in self.new.activation ≡ block_in self.old.activation }
         ensures tries { (on : Given) (code : Code) (objects : _) (ticks : ℕ) → Tries on code Pop next (local self.old objects ticks) (local self.new objects ticks) result }
     {
         if self.stack.pop().is_none() {
@@ -197,13 +197,13 @@ impl Context {
 
     #[inline(always)]
     fn store_top(&mut self, objects: &mut Objects, i: u8, next: u32) -> bool
-        ensures stays { block_in self.new.frame ≡ block_in self.old.frame }
+        ensures stays { block_in self.new.activation ≡ block_in self.old.activation }
         ensures tries { (on : Given) (code : Code) (ticks : ℕ) → Tries on code (Store (Temporary i)) next (local self.old objects.old ticks) (local self.new objects.new ticks) result }
     {
         let Some(value) = self.stack.last().copied() else {
             return false;
         };
-        if !self.frame.store(objects, i, value) {
+        if !self.activation.store(objects, i, value) {
             return false;
         }
         self.place = next;
@@ -212,13 +212,13 @@ impl Context {
 
     #[inline(always)]
     fn pop_into(&mut self, objects: &mut Objects, i: u8, next: u32) -> bool
-        ensures stays { block_in self.new.frame ≡ block_in self.old.frame }
+        ensures stays { block_in self.new.activation ≡ block_in self.old.activation }
         ensures tries { (on : Given) (code : Code) (ticks : ℕ) → Tries on code (PopInto (Temporary i)) next (local self.old objects.old ticks) (local self.new objects.new ticks) result }
     {
         let Some(value) = self.stack.last().copied() else {
             return false;
         };
-        if !self.frame.store(objects, i, value) {
+        if !self.activation.store(objects, i, value) {
             return false;
         }
         self.stack.pop();
@@ -229,7 +229,7 @@ impl Context {
     // Answers a special message of two values that has an answer at once.
     #[inline(always)]
     fn answer_at_once(&mut self, number: u8, next: u32) -> bool
-        ensures stays { block_in self.new.frame ≡ block_in self.old.frame }
+        ensures stays { block_in self.new.activation ≡ block_in self.old.activation }
         ensures tries { (on : Given) (code : Code) (objects : _) (ticks : ℕ) → Tries on code (SendSpecial number) next (local self.old objects ticks) (local self.new objects ticks) result }
     {
         if special_arguments(number) != 1 {
@@ -252,7 +252,7 @@ impl Context {
     // A jump back costs a tick.
     #[inline(always)]
     fn jump_or_back(&mut self, next: u32, distance: i32, ticks: &mut u64, budget: u64) -> bool
-        ensures stays { block_in self.new.frame ≡ block_in self.old.frame }
+        ensures stays { block_in self.new.activation ≡ block_in self.old.activation }
         ensures tries { (on : Given) (code : Code) (objects : _) → on.budget ≡ budget
             → Tries on code (Jump distance) next (local self.old objects ticks.old) (local self.new objects ticks.new) result }
     {
@@ -269,7 +269,7 @@ impl Context {
     // Jumps where the top is as wanted.
     #[inline(always)]
     fn jump_on(&mut self, wanted: bool, next: u32, distance: i32) -> bool
-        ensures stays { block_in self.new.frame ≡ block_in self.old.frame }
+        ensures stays { block_in self.new.activation ≡ block_in self.old.activation }
         ensures tries { (on : Given) (code : Code) (objects : _) (ticks : ℕ)
             → Tries on code (if wanted then JumpOnTrue distance else JumpOnFalse distance) next (local self.old objects ticks) (local self.new objects ticks) result }
     {
@@ -288,19 +288,19 @@ impl Context {
     }
 }
 
-impl Frame {
+impl Activation {
     // Sets a temporary, its own or its home's, or changes nothing.
     #[inline(always)]
     fn store(&mut self, objects: &mut Objects, i: u8, value: Value) -> bool
-        ensures stays { block_in (frame_of self.new) ≡ block_in (frame_of self.old) }
+        ensures stays { block_in (activation_of self.new) ≡ block_in (activation_of self.old) }
         ensures stores { MatchBool result
-            ((w : World) → with_temporary (with_objects w objects.old) (frame_of self.old) i value ≡ Some (with_objects w objects.new, frame_of self.new))
-            ((frame_of self.new ≡ frame_of self.old) × (objects.new ≡ objects.old)) }
+            ((w : World) → with_temporary (with_objects w objects.old) (activation_of self.old) i value ≡ Some (with_objects w objects.new, activation_of self.new))
+            ((activation_of self.new ≡ activation_of self.old) × (objects.new ≡ objects.old)) }
     {
         match self {
-            Frame::Own(temporaries) => store_own(temporaries, usize::from(i), value),
-            Frame::Home(home) => store_field(objects, *home, i, value),
-            Frame::Block { home, .. } => store_field(objects, *home, i, value),
+            Activation::Own(temporaries) => store_own(temporaries, usize::from(i), value),
+            Activation::Home(home) => store_field(objects, *home, i, value),
+            Activation::Block { home, .. } => store_field(objects, *home, i, value),
         }
     }
 }

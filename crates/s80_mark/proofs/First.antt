@@ -5,12 +5,13 @@ use Rattle.std.proofs.lemmas.List.{get_or-take}
 use Rattle.s80_disk.specs.declared.disk.FileId.TheVariants.{Mark, Log0, Log1}
 use Rattle.s80_disk.specs.Image.{Image, Wrote, Only}
 use Rattle.s80_disk.specs.Moments.{ComesFrom}
+use Rattle.s80_disk.specs.Untouched.{StillLeft}
 use Rattle.s80_mark.specs.declared.mark.MarkState.{MarkState}
 use Rattle.s80_mark.specs.declared.slots.Slot.TheVariants.{First, Second}
 use Rattle.s80_mark.specs.Mark.{later_open, valid_mark}
 use Rattle.s80_mark.specs.Slots.{mark_in}
 use Rattle.s80_mark.specs.Writes.{IsFilled}
-use Rattle.s80_mark.specs.Stays.{StillLeft, Anything}
+use Rattle.s80_mark.specs.Stays.{Anything}
 use Rattle.s80_mark.specs.Found.{AreLogsEmpty}
 use Rattle.s80_mark.specs.Init.{StaysEmpty, SyncsFirst, KeepNothing, StaysWithout}
 use Rattle.s80_mark.proofs.Bytes.{closed}

@@ -3,7 +3,8 @@ use Rattle.std.proofs.Common.{◌≡◌, ℕ, List, refl, ◌∙◌}
 use Rattle.s80_disk.specs.declared.disk.FileId.{FileId}
 use Rattle.s80_disk.specs.Image.{Image, Follows}
 use Rattle.s80_disk.specs.Moments.{ComesFrom}
-use Rattle.s80_mark.specs.Stays.{StillLeft, Anything}
+use Rattle.s80_disk.specs.Untouched.{StillLeft}
+use Rattle.s80_mark.specs.Stays.{Anything}
 
 module _ (file : FileId) (change : List ℕ → List ℕ → Type 0) (looser : List ℕ → List ℕ → Type 0) (implies : (old new : List ℕ) → change old new → looser old new) where
   -- less said of the change

@@ -4,10 +4,11 @@ use Rattle.std.specs.Prelude.{Some}
 use Rattle.s80_disk.specs.declared.disk.FileId.TheVariants.{Mark}
 use Rattle.s80_disk.specs.Image.{Image, Follows}
 use Rattle.s80_disk.specs.Moments.{Beside, LeavesOnly, ComesFrom}
-use Rattle.s80_disk.proofs.Run.{weaker, joined}
+use Rattle.s80_disk.specs.Untouched.{StillLeft}
+use Rattle.s80_disk.proofs.lemmas.Run.{weaker, joined}
 use Rattle.s80_mark.specs.declared.mark.MarkState.{MarkState}
 use Rattle.s80_mark.specs.Mark.{valid_mark}
-use Rattle.s80_mark.specs.Stays.{Anything, StillLeft}
+use Rattle.s80_mark.specs.Stays.{Anything}
 use Rattle.s80_mark.specs.Commit.{CanCommit, HasEither}
 use Rattle.s80_mark.proofs.Images.{comes_still, comes_through}
 

@@ -6,8 +6,9 @@ ghost use Rattle.s80_disk.specs.declared.disk.FileId.{FileId};
 ghost use Rattle.s80_disk.specs.declared.disk.FileId.TheVariants.{Mark, Log0, Log1};
 ghost use Rattle.s80_disk.specs.Image.{Only, Follows};
 ghost use Rattle.s80_disk.specs.Moments.{Beside, LeavesOnly, ComesFrom};
+ghost use Rattle.s80_disk.specs.Untouched.{IsUntouched};
 ghost use Rattle.s80_mark.specs.Mark.{format_two, valid_mark};
-ghost use Rattle.s80_mark.specs.Stays.{Anything, StillLeft};
+ghost use Rattle.s80_mark.specs.Stays.{Anything};
 ghost use Rattle.s80_mark.specs.Found.{AreLogsEmpty};
 ghost use Rattle.s80_mark.specs.Init.{EmptyLogs, StaysEmpty, SyncsFirst, KeepNothing, StaysWithout};
 
@@ -20,12 +21,7 @@ use s80_disk::{Disk, FileId, write_and_sync};
 fn sync_logs<D: Disk>(disk: &mut D) -> Result<(), Failed>
     ensures log0 { OnOk result (Only Log0 (D.reads disk.new Log0) (D.may_leave disk.new)) }
     ensures log1 { OnOk result (Only Log1 (D.reads disk.new Log1) (D.may_leave disk.new)) }
-    ensures same { (file : FileId) → D.reads disk.new file ≡ D.reads disk.old file }
-    ensures tells { D.tells disk.new ≡ D.tells disk.old }
-    ensures beside { D.beside disk.new ≡ D.beside disk.old }
-    ensures crash { (c : FileId → List ℕ) → D.may_leave disk.new c → D.may_leave disk.old c }
-    ensures any_moment { LeavesOnly D.moment D.left_since disk.old disk.new
-        (StillLeft (D.may_leave disk.old) (D.beside disk.old).told) }
+    ensures untouched { IsUntouched D.tells D.reads D.may_leave D.moment D.left_since D.beside D.disk_faults disk.old disk.new }
     ensures cause { HasCause (D.disk_faults disk.old) (D.disk_faults disk.new) result }
     ensures named { IfErr result (λ e. e.call ≡ Sync) }
 {

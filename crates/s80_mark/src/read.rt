@@ -1,10 +1,8 @@
 // The reading of the mark.
-ghost use Rattle.std.specs.Prelude.{◌≡◌, ◌⊎◌, ◌≤◌, ℕ, List, IsTrue, IfOk, IfErr};
+ghost use Rattle.std.specs.Prelude.{◌≡◌, ◌⊎◌, IsTrue, IfOk};
 ghost use Rattle.s80_base.specs.Causes.{HasCause, Rose, Names};
 ghost use Rattle.s80_base.specs.declared.outside.Call.TheVariants.{Length, Read};
-ghost use Rattle.s80_disk.specs.declared.disk.FileId.{FileId};
-ghost use Rattle.s80_disk.specs.Moments.{Beside, LeavesOnly};
-ghost use Rattle.s80_mark.specs.Stays.{StillLeft};
+ghost use Rattle.s80_disk.specs.Untouched.{IsUntouched};
 ghost use Rattle.s80_mark.specs.Found.{IsAnswer, IsLawfulFound, IfDisk, UnlessDisk, AreLogsEmpty, longer_log};
 
 use crate::mark::MarkState;
@@ -38,12 +36,7 @@ pub enum MarkFault {
 /// How long the longer log is.
 fn longer_log<D: Disk>(disk: &mut D) -> Result<u64, Failed>
     ensures value { IsTrue (D.tells disk.old) → IfOk result (λ count. count ≡ longer_log (D.reads disk.old)) }
-    ensures tells { D.tells disk.new ≡ D.tells disk.old }
-    ensures same { (file : FileId) → D.reads disk.new file ≡ D.reads disk.old file }
-    ensures crash { (c : FileId → List ℕ) → D.may_leave disk.new c → D.may_leave disk.old c }
-    ensures any_moment { LeavesOnly D.moment D.left_since disk.old disk.new
-        (StillLeft (D.may_leave disk.old) (D.beside disk.old).told) }
-    ensures beside { D.beside disk.new ≡ D.beside disk.old }
+    ensures untouched { IsUntouched D.tells D.reads D.may_leave D.moment D.left_since D.beside D.disk_faults disk.old disk.new }
     ensures cause { HasCause (D.disk_faults disk.old) (D.disk_faults disk.new) result }
     ensures named { Names Length result }
 {
@@ -56,20 +49,13 @@ fn longer_log<D: Disk>(disk: &mut D) -> Result<u64, Failed>
 pub fn read_mark<D: Disk>(disk: &mut D) -> Result<Found, MarkFault>
     ensures answer { IsTrue (D.tells disk.old) → IsAnswer (D.reads disk.old) result }
     ensures lawful { IfOk result IsLawfulFound }
-    ensures later { D.disk_faults disk.old ≤ D.disk_faults disk.new }
+    ensures untouched { IsUntouched D.tells D.reads D.may_leave D.moment D.left_since D.beside D.disk_faults disk.old disk.new }
     ensures cause { IfDisk result (λ _. Rose (D.disk_faults disk.old) (D.disk_faults disk.new)) }
     ensures faults_stay { UnlessDisk result (D.disk_faults disk.new ≡ D.disk_faults disk.old) }
     ensures named { IfDisk result (λ failed. (failed.call ≡ Length) ⊎ (failed.call ≡ Read)) }
     // Where both logs are empty, nothing else is read.
     ensures logs_alone { IsTrue (D.tells disk.old) → AreLogsEmpty (D.reads disk.old)
         → IfDisk result (λ failed. failed.call ≡ Length) }
-
-    ensures tells { D.tells disk.new ≡ D.tells disk.old }
-    ensures same { (file : FileId) → D.reads disk.new file ≡ D.reads disk.old file }
-    ensures crash { (c : FileId → List ℕ) → D.may_leave disk.new c → D.may_leave disk.old c }
-    ensures any_moment { LeavesOnly D.moment D.left_since disk.old disk.new
-        (StillLeft (D.may_leave disk.old) (D.beside disk.old).told) }
-    ensures beside { D.beside disk.new ≡ D.beside disk.old }
 {
     let longer = longer_log(disk).map_err(MarkFault::Disk)?;
     if longer == 0 {

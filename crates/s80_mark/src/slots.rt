@@ -1,13 +1,11 @@
 // The two slots of a mark file.
-ghost use Rattle.std.specs.Prelude.{◌≡◌, ◌≤◌, ℕ, List, IsTrue, IfOk, is_some};
+ghost use Rattle.std.specs.Prelude.{◌≡◌, ◌≤◌, IsTrue, IfOk, is_some};
 ghost use Rattle.s80_base.specs.Causes.{HasCause, Names};
 ghost use Rattle.s80_base.specs.declared.outside.Call.TheVariants.{Read};
-ghost use Rattle.s80_disk.specs.declared.disk.FileId.{FileId};
 ghost use Rattle.s80_disk.specs.declared.disk.FileId.TheVariants.{Mark};
-ghost use Rattle.s80_disk.specs.Moments.{Beside, LeavesOnly};
+ghost use Rattle.s80_disk.specs.Untouched.{IsUntouched};
 ghost use Rattle.s80_mark.specs.Mark.{later_open, is_later};
 ghost use Rattle.s80_mark.specs.Slots.{place_of, other_of, mark_in, slots_of, mark_at};
-ghost use Rattle.s80_mark.specs.Stays.{StillLeft};
 
 use crate::mark::{MARK_SIZE, MarkState};
 use s80_base::Failed;
@@ -72,12 +70,7 @@ impl Slots {
     pub(crate) fn read<D: Disk>(disk: &mut D) -> Result<Self, Failed>
         ensures value { IsTrue (D.tells disk.old)
             → IfOk result (λ slots. slots ≡ slots_of (D.reads disk.old Mark)) }
-        ensures tells { D.tells disk.new ≡ D.tells disk.old }
-        ensures same { (file : FileId) → D.reads disk.new file ≡ D.reads disk.old file }
-        ensures crash { (c : FileId → List ℕ) → D.may_leave disk.new c → D.may_leave disk.old c }
-        ensures any_moment { LeavesOnly D.moment D.left_since disk.old disk.new
-            (StillLeft (D.may_leave disk.old) (D.beside disk.old).told) }
-        ensures beside { D.beside disk.new ≡ D.beside disk.old }
+        ensures untouched { IsUntouched D.tells D.reads D.may_leave D.moment D.left_since D.beside D.disk_faults disk.old disk.new }
         ensures cause { HasCause (D.disk_faults disk.old) (D.disk_faults disk.new) result }
         ensures named { Names Read result }
     {

@@ -4,11 +4,12 @@ use Rattle.s80_code.specs.declared.instruction.Instruction.TheVariants.{Duplicat
 use Rattle.s80_code.specs.declared.instruction.Instruction.{Instruction}
 use Rattle.s80_code.specs.declared.instruction.Storage.TheVariants.{Temporary}
 use Rattle.s80_code.specs.Entries.{EntryTree}
+use Rattle.s80_code.specs.Special.{block_copy}
 use Rattle.s80_code.specs.Spelling.{Written}
 use Rattle.s80_scope.specs.declared.fit.position.Position.{Position}
 use Rattle.s80_scope.specs.declared.fit.position.Position.TheVariants.{Value, Effect}
-use Rattle.s80_agree.specs.Rows.{Ends, NilFor, One, Takes, jump_unless}
-use Rattle.s80_verify.proofs.PlaceLemmas.{goes_forward}
+use Rattle.s80_compile.specs.Rows.{Ends, NilFor, One, Takes, jump_unless}
+use Rattle.s80_verify.proofs.lemmas.PlaceLemmas.{goes_forward}
 use Rattle.s80_meaning.proofs.Headers.{over_start}
 use Rattle.s80_meaning.specs.Tree.{RealBlock, Tree, Trees, Sends, leaf, assign, value, send, cascade, real, two_arms, one_arm, shortcut, repeat, nothing, before, answer, answer_fixed, leave, no_trees, trees, no_sends, sends}
 use Rattle.s80_meaning.specs.Places.{At, AllAt, SendsAt}
@@ -52,7 +53,7 @@ module _ (bytes : List ℕ) where
       ahead (real n) position p q r =
           let a = forward bytes p PushContext r.push r.context in
           let b = one_ahead _ r.push r.copy r.parameters in
-          let c = forward bytes r.copy (SendSpecial 24) r.jump r.copies in
+          let c = forward bytes r.copy (SendSpecial block_copy) r.jump r.copies in
           let s = over_start bytes r.after r.jump r.start r.over in
           let e = end_ahead position r.after q r.ending in
           omega (arith, a, b, c, s.0, s.1, e)

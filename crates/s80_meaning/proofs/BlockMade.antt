@@ -5,9 +5,9 @@ use Rattle.s80_object.specs.Objects.{body_at, home_parts_of, with_body}
 use Rattle.s80_object.specs.declared.value.Value.{Value}
 use Rattle.s80_object.specs.declared.value.Value.TheVariants.{Object}
 use Rattle.s80_machine.specs.World.{World, Key, with_objects}
-use Rattle.s80_code.proofs.TableLemmas.{value}
-use Rattle.s80_machine.proofs.SoundLists.{same_number}
-use Rattle.s80_machine.specs.Turn.{Block, block_in, block_with, if_takes}
+use Rattle.s80_code.proofs.lemmas.TableLemmas.{value}
+use Rattle.s80_machine.proofs.lemmas.SoundLists.{same_number}
+use Rattle.s80_machine.specs.Shared.{Block, block_in, block_with, if_takes}
 use Rattle.s80_meaning.proofs.Extends.{homes_pushed}
 use Rattle.s80_meaning.proofs.Stays.{Facts, IsFine, IsPlaced, Later, key_of, placed_stays}
 use Rattle.s80_meaning.proofs.Variables.{Alike}

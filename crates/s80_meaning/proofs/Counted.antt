@@ -1,20 +1,13 @@
 -- Messages with as many arguments as their selectors have parameters, in numbered trees; and what the number of a special message says.
-use Rattle.std.proofs.Common.{◌≡◌, ap, sym, subst, refl, ℕ, suc, ◌+◌, ◌==◌, ◌⊎◌, inl, inr, List, [], ◌∷◌, ◌++◌, Bool, true, false, ◌&&◌, not, cond, get_or, Option, Some, None}
-use Rattle.std.specs.Prelude.{slice_get}
-use Rattle.std.specs.Option.{option_map, option_map_or, option_or}
-use Rattle.std.specs.Str.{bytes_eq}
-use Rattle.std.proofs.lemmas.Slice.Eq.{bytes_eq-Decides}
-use Rattle.s80_code.proofs.TableLemmas.{value}
-use Rattle.s80_scope.specs.FitLiterals.{arithmetic_selectors, common_selectors}
-use Rattle.s80_verify.specs.Effect.{special_arguments}
-use Rattle.s80_verify.specs.Selector.{IsSelectorOf}
+use Rattle.std.proofs.Common.{◌≡◌, ◌≢◌, sym, subst, ℕ, suc, ◌+◌, ◌==◌, List, ◌++◌, false, get_or, slice_get, Some, arith}
+use Rattle.std.proofs.lemmas.Bool.Decides.{nat_tests}
+use Rattle.s80_code.specs.Special.{special_selectors, special_arguments, block_copy, special_number}
+use Rattle.s80_code.proofs.lemmas.SpecialLemmas.{sent_is}
+use Rattle.s80_lex.specs.Selector.{IsSelectorOf}
 use Rattle.s80_core.specs.Core as core
 use Rattle.s80_core.specs.Core.{CoreTree, CoreTrees, SendTrees}
-use Rattle.s80_core.specs.Elaborate.{place_in}
-use Rattle.s80_core.specs.Measures.{common_number, special_number}
-use Rattle.s80_agree.specs.Sent.{IsWellSent, AllWellSent, SendsWellSent}
-use Rattle.s80_agree.proofs.DepthSelector.{special_fits}
-use Rattle.s80_machine.specs.Turn.{special_selectors}
+use Rattle.s80_compile.specs.Sent.{IsWellSent, AllWellSent, SendsWellSent}
+use Rattle.s80_compile.proofs.DepthSelector.{special_fits}
 use Rattle.s80_meaning.proofs.Bodies.{BodiesAre, bodies_append, body_at}
 use Rattle.s80_meaning.proofs.Numbered.{count_numbered}
 use Rattle.s80_meaning.specs.Tree as tree
@@ -97,69 +90,11 @@ sent_numbered c h = let a = sent_from c 0 h in (a.0, body_at Sent (blocks 0 c) a
 
 -- ---- messages with an instruction of their own
 
--- with this number a message has this selector, and it begins no block
-abbrev stands_there : List ℕ → ℕ → Bool
-stands_there word n = not (n == 24) && option_map_or (bytes_eq word) (slice_get special_selectors n) false
-
-abbrev all_stand : (ℕ → ℕ) → List (List ℕ) → Bool
-all_stand number [] = true
-all_stand number (word ∷ words) = stands_there word (number 0) && all_stand (λ k. number (suc k)) words
-
-arithmetic_stand : all_stand (λ k. k) arithmetic_selectors ≡ true
-arithmetic_stand = refl
-
-common_stand : all_stand common_number common_selectors ≡ true
-common_stand = refl
-
-both_hold : (x y : Bool) → (x && y) ≡ true → (x ≡ true) × (y ≡ true)
-both_hold true y e = (refl, e)
-both_hold false y e = cc
-
-not_so : (b : Bool) → not b ≡ true → b ≡ false
-not_so true e = cc
-not_so false e = refl
-
-one_further : (o : Option ℕ) (k : ℕ) → option_map suc o ≡ Some k → (j : ℕ) × (o ≡ Some j) × (suc j ≡ k)
-one_further None k e = cc
-one_further (Some j) k e = (j, refl, value e)
-
-placed : (words : List (List ℕ)) (number : ℕ → ℕ) (s : List ℕ) (k : ℕ) → all_stand number words ≡ true → place_in words s ≡ Some k → stands_there s (number k) ≡ true
-placed [] number s k all e = cc
-placed (word ∷ words) number s k all e =
-    let parts = both_hold (stands_there word (number 0)) (all_stand (λ k. number (suc k)) words) all in
-    by_test parts.0 (λ j. placed words (λ k. number (suc k)) s j parts.1) (bytes_eq s word) (bytes_eq-Decides s word).0 e
+pub special_is : (s : List ℕ) (n : ℕ) → special_number s ≡ Some n → ((n == block_copy) ≡ false) × (slice_get special_selectors n ≡ Some s)
+special_is s n e = let (here, other) = sent_is s n e in (differs n other, here)
   where
-    by_test : stands_there word (number 0) ≡ true
-        → ((j : ℕ) → place_in words s ≡ Some j → stands_there s (number (suc j)) ≡ true)
-        → (b : Bool) → (b ≡ true → s ≡ word) → cond b (Some 0) (option_map suc (place_in words s)) ≡ Some k
-        → stands_there s (number k) ≡ true
-    by_test first later true is e =
-        subst (λ (j : ℕ). stands_there s (number j) ≡ true) (value e)
-        (subst (λ (w : List ℕ). stands_there w (number 0) ≡ true) (sym (is refl)) first)
-    by_test first later false is e =
-        let (j, found, step) = one_further (place_in words s) k e in
-        subst (λ (j : ℕ). stands_there s (number j) ≡ true) step (later j found)
-
-either_found : (a b : Option ℕ) (number : ℕ) → option_or a (option_map common_number b) ≡ Some number
-    → (a ≡ Some number) ⊎ ((j : ℕ) × (b ≡ Some j) × (common_number j ≡ number))
-either_found (Some k) b number e = inl e
-either_found None None number e = cc
-either_found None (Some j) number e = inr (j, refl, value e)
-
-special_stands : (s : List ℕ) (n : ℕ) → special_number s ≡ Some n → stands_there s n ≡ true
-special_stands s n e = elim (either_found (place_in arithmetic_selectors s) (place_in common_selectors s) n e) [
-  | inl first ↦ placed arithmetic_selectors (λ k. k) s n arithmetic_stand first
-  | inr (j, second, is) ↦ subst (λ (k : ℕ). stands_there s k ≡ true) is (placed common_selectors common_number s j common_stand second)
-]
-
-same_word : (s : List ℕ) (o : Option (List ℕ)) → option_map_or (bytes_eq s) o false ≡ true → o ≡ Some s
-same_word s None e = cc
-same_word s (Some word) e = ap Some (sym ((bytes_eq-Decides s word).0 e))
-
-pub special_is : (s : List ℕ) (n : ℕ) → special_number s ≡ Some n → ((n == 24) ≡ false) × (slice_get special_selectors n ≡ Some s)
-special_is s n e =
-    let parts = both_hold (not (n == 24)) (option_map_or (bytes_eq s) (slice_get special_selectors n) false) (special_stands s n e) in
-    (not_so (n == 24) parts.0, same_word s (slice_get special_selectors n) parts.1)
+    differs : (x : ℕ) → x ≢ block_copy → (x == block_copy) ≡ false
+    differs x other = grind (arith, nat_tests)
 
 pub special_takes : (s : List ℕ) (n k : ℕ) → special_number s ≡ Some n → IsSelectorOf k s → get_or special_arguments n 0 ≡ k
 special_takes s n k e h = (special_fits s k n h e).0

@@ -2,8 +2,6 @@
 use Rattle.std.proofs.Common.{◌≡◌, ℕ, suc, ◌+◌, List, ◌++◌, Bool, true, false, Option, Some, None, if◌then◌else◌}
 use Rattle.std.specs.Prelude.{slice_get}
 use Rattle.s80_class.specs.Table.{Table}
-use Rattle.s80_dict.specs.Table.{MethodsValue}
-use Rattle.s80_dict.specs.declared.dict.MethodEntry.{MethodEntry}
 use Rattle.s80_tree.specs.Tree.{MethodParts}
 use Rattle.s80_scope.specs.declared.shape.Shape.{Shape}
 use Rattle.s80_object.specs.declared.value.Value.{Value}
@@ -13,11 +11,11 @@ use Rattle.s80_core.specs.Elaborate.{elaborated}
 use Rattle.s80_core.specs.Measures.{Finishes, LeavesBlocks, AllLeaveBlocks, SendsLeaveBlocks}
 use Rattle.s80_core.proofs.FitFinishes.{finished}
 use Rattle.s80_prims.specs.declared.stop.Stop.TheVariants.{CannotReturn}
-use Rattle.s80_machine.specs.World.{World, Frame, own, home}
+use Rattle.s80_machine.specs.World.{World, Activation, own, home}
 use Rattle.s80_machine.specs.World as world
-use Rattle.s80_machine.specs.Turn.{fixed}
+use Rattle.s80_machine.specs.Shared.{fixed}
 use Rattle.s80_meaning.proofs.Bodies.{BodiesAre, bodies_append, body_at}
-use Rattle.s80_meaning.specs.Meaning.{Out, Gives, Answers, Returns, Stopped, Unfinished, Here, Evaluator, and_then, ev, is_alive, returned, with_part}
+use Rattle.s80_meaning.specs.Meaning.{Out, Gives, Answers, Returns, Stopped, Unfinished, Here, Evaluator, Methods, and_then, ev, is_alive, returned, with_part}
 use Rattle.s80_meaning.specs.Tree.{Meant, RealBlock, Tree, leaf, assign, value, send, cascade, real, two_arms, one_arm, shortcut, repeat, nothing, before, answer, answer_fixed, leave, size, size_all, numbered, blocks, blocks_all, blocks_sends}
 
 -- a tree that never gives a value to what stands behind it
@@ -114,9 +112,9 @@ blocks_end m shape = body_at Ends (blocks 0 (elaborated m shape)) (ended_blocks 
 
 -- what gives no value
 abbrev Silent : Out Value → Type 0
-Silent o = (v : Value) (w : World) (f : Frame) → o ≡ Gives v w f → ⊥
+Silent o = (v : Value) (w : World) (f : Activation) → o ≡ Gives v w f → ⊥
 
-returned_silent : (f : Frame) (alive : List Frame) (x : Value) (u : World) → Silent (returned f alive x u)
+returned_silent : (f : Activation) (alive : List Activation) (x : Value) (u : World) → Silent (returned f alive x u)
 returned_silent (own temporaries) alive x u v w g e = cc
 returned_silent (home h) alive x u v w g e = cc
 returned_silent (world.block b h) alive x u v w g e = by_alive (is_alive h alive) e
@@ -126,7 +124,7 @@ returned_silent (world.block b h) alive x u v w g e = by_alive (is_alive h alive
     by_alive false e = cc
 
 -- what goes on to something that gives no value
-then_silent : (o : Out Value) (go : Value → World → Frame → Out Value) → ((x : Value) (u : World) (g : Frame) → Silent (go x u g)) → Silent (and_then o go)
+then_silent : (o : Out Value) (go : Value → World → Activation → Out Value) → ((x : Value) (u : World) (g : Activation) → Silent (go x u g)) → Silent (and_then o go)
 then_silent (Gives x u g) go h v w f e = h x u g v w f e
 then_silent (Answers x u) go h v w f e = cc
 then_silent (Returns k x u) go h v w f e = cc
@@ -137,8 +135,8 @@ part_silent : (o : Option Value) (go : Value → Out Value) → ((x : Value) →
 part_silent None go h v w f e = cc
 part_silent (Some x) go h v w f e = h x v w f e
 
-module _ (t : Table) (methods : MethodsValue (MethodEntry Meant)) (doit : Meant) (budget : ℕ) (next : Evaluator) where
-  pub never_gives : (e : Tree) → Ends e → (here : Here) (w : World) (f : Frame) (v : Value) (w1 : World) (f1 : Frame) → ev t methods doit budget next e here w f ≡ Gives v w1 f1 → ⊥
+module _ (t : Table) (methods : Methods) (doit : Meant) (budget : ℕ) (next : Evaluator) where
+  pub never_gives : (e : Tree) → Ends e → (here : Here) (w : World) (f : Activation) (v : Value) (w1 : World) (f1 : Activation) → ev t methods doit budget next e here w f ≡ Gives v w1 f1 → ⊥
   never_gives (before a b) h here w f = then_silent (ev t methods doit budget next a here w f) (λ x u g. ev t methods doit budget next b here u g) (λ x u g. never_gives b h here u g)
   never_gives (answer e) h here w f =
       then_silent (ev t methods doit budget next e here w f) (λ x u g. returned g here.alive x u) (λ x u g. returned_silent g here.alive x u)

@@ -21,7 +21,7 @@ use Rattle.s80_prims.specs.Arithmetic.{arithmetic}
 use Rattle.s80_prims.specs.Classes.{can_be_new, kind_of_class, variables_of}
 use Rattle.s80_prims.specs.Primitives.{Alone, Effect, WithOne, WithTwo, World as Reached, character_of, done, fails, gives, makes, names, new_indexed, new_plain, new_with, number_of_character, of_class, primitive, prints, put_at, put_character_at, put_done, puts, puts_character, rows_alone, rows_with_one, rows_with_two, stops, string_of, text_bytes, transcript_limit, two_numbers, with_text, writes}
 use Rattle.s80_prims.specs.Printed.{printed}
-use Rattle.s80_machine.proofs.SoundLists.{both_true, same_number}
+use Rattle.s80_machine.proofs.lemmas.SoundLists.{both_true, same_number}
 use Rattle.s80_meaning.proofs.Stays.{Extends, extends_then, same_extends}
 
 abbrev pub IsNoBlock : BodyTree → Type 0

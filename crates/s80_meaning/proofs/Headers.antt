@@ -1,6 +1,5 @@
 -- What a code's header and its blocks' jumps say: what a method names, which of these a literal is, and where a real block begins.
 use Rattle.std.proofs.Common.{◌≡◌, ℕ, zero, suc, ◌+◌, ◌-◌, ◌*◌, ◌/◌, ◌%◌, ◌<◌, ◌≤◌, ◌⊎◌, inl, inr, ℤ, pos, ◌+ℤ◌, ◌-ℤ◌, ◌*ℤ◌, List, [], ◌∷◌, ◌++◌, Bool, true, false, cond, not, drop, Option, Some, None, refl, sym, ap, ◌∙◌, subst, arith}
-use Rattle.std.proofs.Math.IntN.{pos-+ℤ-pos}
 use Rattle.std.specs.Prelude.{slice_get, if◌then◌else◌}
 use Rattle.std.specs.List.{All, Contains, list_any, position_or_len}
 use Rattle.std.specs.Option.{option_map_or}
@@ -13,17 +12,17 @@ use Rattle.s80_code.specs.declared.instruction.Instruction.{Instruction}
 use Rattle.s80_code.specs.declared.instruction.Instruction.TheVariants.{Jump}
 use Rattle.s80_code.specs.Entries.{EntryTree, constant, class_variable, outer, owner, extension, entries_of}
 use Rattle.s80_code.specs.Table.{Stands, decoded, formed, row, with_one}
-use Rattle.s80_code.proofs.SpellingLemmas.{first_byte}
-use Rattle.s80_agree.specs.Rows.{JumpsOver}
-use Rattle.s80_code.proofs.TableLemmas.{value, row_law}
-use Rattle.s80_verify.proofs.PlaceLemmas.{front_at}
+use Rattle.s80_code.proofs.lemmas.SpellingLemmas.{first_byte}
+use Rattle.s80_compile.specs.Rows.{JumpsOver}
+use Rattle.s80_code.proofs.lemmas.TableLemmas.{value, row_law}
+use Rattle.s80_verify.proofs.lemmas.PlaceLemmas.{front_at}
 use Rattle.s80_tree.specs.Tree.{MethodParts}
 use Rattle.s80_core.specs.Core as core
 use Rattle.s80_core.specs.Core.{VariableTree, LeafTree, CoreTree, CoreTrees, SendTrees}
 use Rattle.s80_core.specs.Measures.{entries, entries_all, entries_sends, leaf_entries, variable_entries, constant_entries, selector_entries, fixed_number, sent_number}
 use Rattle.s80_compile.specs.Same.{IsNamed, same_entry}
 use Rattle.s80_compile.proofs.Sameness.{entry_is_same, entry_looks_same}
-use Rattle.s80_agree.specs.Compiles.{AreFirsts, IsCodeOf, last_entries, is_extended, goes_to_super}
+use Rattle.s80_compile.specs.Compiles.{AreFirsts, IsCodeOf, last_entries, is_extended, goes_to_super}
 use Rattle.s80_meaning.specs.Tree.{firsts, place_of, meant_by}
 
 -- ---- the entries of a tree are such as code names
@@ -146,7 +145,7 @@ first_at seen (e ∷ es) fs (inr (fresh, (rest, are, more))) k x named is =
     (λ k is. first_at (seen ++ e ∷ []) es rest more k x named is)
     k (ap (λ (l : List EntryTree). slice_get l k) (sym are) ∙ is)
 
--- ---- literals in the frame
+-- ---- literals in the literal frame
 
 get_appended : (xs ys : List EntryTree) (k : ℕ) (y : EntryTree) → slice_get (xs ++ ys) k ≡ Some y → (slice_get xs k ≡ Some y) ⊎ ((m : ℕ) × (slice_get ys m ≡ Some y))
 get_appended [] ys k y is = inr (k, is)

@@ -1,9 +1,8 @@
 -- The code of a method holds a real block just where its tree has one.
-use Rattle.std.proofs.Common.{◌≡◌, ◌∙◌, ap, sym, subst, refl, ℕ, zero, suc, ◌+◌, ◌≤◌, ◌==◌, ◌⊎◌, inl, inr, ℤ, pos, List, [], ◌∷◌, ◌++◌, Bool, true, false, ◌||◌, ◌&&◌, not, cond, length, drop, Option, Some, None, arith}
+use Rattle.std.proofs.Common.{◌≡◌, ◌∙◌, ap, sym, subst, refl, ℕ, zero, suc, ◌+◌, ◌≤◌, ◌==◌, ℤ, pos, List, [], ◌∷◌, ◌++◌, Bool, true, false, ◌||◌, length, drop, Option, Some, None, arith}
 use Rattle.std.proofs.lemmas.List.{drop-drop, drop_all}
 use Rattle.std.specs.List.{list_any}
-use Rattle.std.specs.Option.{option_map, option_map_or, option_or}
-use Rattle.std.specs.Str.{bytes_eq}
+use Rattle.std.specs.Option.{option_map_or}
 use Rattle.s80_base.specs.Literal.{LiteralTree, small}
 use Rattle.s80_base.specs.declared.names.Side.{Side}
 use Rattle.s80_code.specs.declared.code.Code.{Code}
@@ -11,20 +10,19 @@ use Rattle.s80_code.specs.declared.instruction.Instruction.{Instruction}
 use Rattle.s80_code.specs.declared.instruction.Instruction.TheVariants.{PopInto, PushFixed, ReturnFixed, ReturnTop, ReturnFromBlock, SendSpecial, Pop, Duplicate, PushContext, Jump}
 use Rattle.s80_code.specs.declared.instruction.Storage.TheVariants.{Temporary}
 use Rattle.s80_code.specs.Entries.{EntryTree, entries_of}
+use Rattle.s80_code.specs.Special.{block_copy}
 use Rattle.s80_code.specs.Table.{Stands}
 use Rattle.s80_code.specs.Spelling.{Written}
-use Rattle.s80_code.proofs.TableLemmas.{value as same_value}
 use Rattle.s80_tree.specs.Tree.{MethodParts}
-use Rattle.s80_scope.specs.FitLiterals.{arithmetic_selectors, common_selectors}
 use Rattle.s80_scope.specs.declared.fit.position.Position.{Position}
 use Rattle.s80_scope.specs.declared.fit.position.Position.TheVariants.{Value, Effect}
 use Rattle.s80_core.specs.Core.{VariableTree, LeafTree, variable, constant, receiver, context, CoreTree, CoreTrees, SendTrees, leaf, assign, value, send, cascade, real_block, two_arms, one_arm, shortcut, repeat, nothing, before, answer, answer_fixed, leave, no_cores, cores, no_sends, sends, count}
-use Rattle.s80_core.specs.Elaborate.{place_in}
-use Rattle.s80_core.specs.Measures.{common_number, fixed_number, special_number, sent_number}
-use Rattle.s80_agree.specs.Compiles.{IsCodeOf}
-use Rattle.s80_agree.specs.Rows.{PushesConstant, Pushes, Stores, send_of, SendsBy, SendsTo, jump_unless, One, Ends, NilFor, JumpsTo, JumpsOver, Takes, shortcut_number, At, AllAt, SendsAt}
+use Rattle.s80_core.specs.Measures.{fixed_number, sent_number}
+use Rattle.s80_compile.specs.Compiles.{IsCodeOf}
+use Rattle.s80_compile.specs.Rows.{PushesConstant, Pushes, Stores, send_of, SendsBy, SendsTo, jump_unless, One, Ends, NilFor, JumpsTo, JumpsOver, Takes, shortcut_number, At, AllAt, SendsAt}
 use Rattle.s80_machine.specs.Turn.{begins_block, holds_block, instructions_in}
-use Rattle.s80_verify.proofs.PlaceLemmas.{goes_forward, ends_within}
+use Rattle.s80_verify.proofs.lemmas.PlaceLemmas.{goes_forward, ends_within}
+use Rattle.s80_meaning.proofs.Counted.{special_is}
 use Rattle.s80_meaning.specs.Tree.{RealBlock, size, size_all, blocks, blocks_all, blocks_sends}
 
 abbrev pub has_blocks : List RealBlock → Bool
@@ -33,63 +31,15 @@ has_blocks (b ∷ bs) = true
 
 -- ---- a message with an instruction of its own begins no block
 
--- none of the numbers of these words is 24
-abbrev all_apart : (ℕ → ℕ) → List (List ℕ) → Bool
-all_apart number [] = true
-all_apart number (word ∷ words) = not (number 0 == 24) && all_apart (λ k. number (suc k)) words
-
-arithmetic_apart : all_apart (λ k. k) arithmetic_selectors ≡ true
-arithmetic_apart = refl
-
-common_apart : all_apart common_number common_selectors ≡ true
-common_apart = refl
-
-both_hold : (x y : Bool) → (x && y) ≡ true → (x ≡ true) × (y ≡ true)
-both_hold true y e = (refl, e)
-both_hold false y e = cc
-
-not_held : (x : Bool) → not x ≡ true → x ≡ false
-not_held true e = cc
-not_held false e = refl
-
-one_further : (o : Option ℕ) (k : ℕ) → option_map suc o ≡ Some k → (j : ℕ) × (o ≡ Some j) × (suc j ≡ k)
-one_further None k e = cc
-one_further (Some j) k e = (j, refl, same_value e)
-
-placed_apart : (words : List (List ℕ)) (number : ℕ → ℕ) (s : List ℕ) (k : ℕ) → all_apart number words ≡ true → place_in words s ≡ Some k → (number k == 24) ≡ false
-placed_apart [] number s k all e = cc
-placed_apart (word ∷ words) number s k all e =
-    let parts = both_hold (not (number 0 == 24)) (all_apart (λ k. number (suc k)) words) all in
-    by_test (not_held (number 0 == 24) parts.0) (λ j. placed_apart words (λ k. number (suc k)) s j parts.1) (bytes_eq s word) e
-  where
-    by_test : (number 0 == 24) ≡ false → ((j : ℕ) → place_in words s ≡ Some j → (number (suc j) == 24) ≡ false)
-        → (b : Bool) → cond b (Some 0) (option_map suc (place_in words s)) ≡ Some k → (number k == 24) ≡ false
-    by_test first later true e = subst (λ (j : ℕ). (number j == 24) ≡ false) (same_value e) first
-    by_test first later false e =
-        let (j, found, step) = one_further (place_in words s) k e in
-        subst (λ (j : ℕ). (number j == 24) ≡ false) step (later j found)
-
-either_found : (a b : Option ℕ) (number : ℕ) → option_or a (option_map common_number b) ≡ Some number
-    → (a ≡ Some number) ⊎ ((j : ℕ) × (b ≡ Some j) × (common_number j ≡ number))
-either_found (Some k) b number e = inl e
-either_found None None number e = cc
-either_found None (Some j) number e = inr (j, refl, same_value e)
-
-special_apart : (s : List ℕ) (number : ℕ) → special_number s ≡ Some number → (number == 24) ≡ false
-special_apart s number e = elim (either_found (place_in arithmetic_selectors s) (place_in common_selectors s) number e) [
-  | inl first ↦ placed_apart arithmetic_selectors (λ k. k) s number arithmetic_apart first
-  | inr (j, second, is) ↦ subst (λ (k : ℕ). (k == 24) ≡ false) is (placed_apart common_selectors common_number s j common_apart second)
-]
-
-sent_apart : (to_super : Bool) (s : List ℕ) (number : ℕ) → sent_number to_super s ≡ Some number → (number == 24) ≡ false
+sent_apart : (to_super : Bool) (s : List ℕ) (number : ℕ) → sent_number to_super s ≡ Some number → (number == block_copy) ≡ false
 sent_apart true s number e = cc
-sent_apart false s number e = special_apart s number e
+sent_apart false s number e = (special_is s number e).0
 
 sent_plain : (to_super : Bool) (n number : ℕ) → begins_block (send_of to_super n number) ≡ false
 sent_plain true n number = refl
 sent_plain false n number = refl
 
-sends_plain : (entries : List EntryTree) (to_super : Bool) (s : List ℕ) (n : ℕ) (by : Option ℕ) (i : Instruction) → ((number : ℕ) → by ≡ Some number → (number == 24) ≡ false) → SendsBy entries to_super s n by i → begins_block i ≡ false
+sends_plain : (entries : List EntryTree) (to_super : Bool) (s : List ℕ) (n : ℕ) (by : Option ℕ) (i : Instruction) → ((number : ℕ) → by ≡ Some number → (number == block_copy) ≡ false) → SendsBy entries to_super s n by i → begins_block i ≡ false
 sends_plain entries to_super s n (Some number) i apart is = ap begins_block is ∙ apart number refl
 sends_plain entries to_super s n None i apart (number, is, found) = ap begins_block is ∙ sent_plain to_super n number
 
@@ -146,8 +96,8 @@ module _ (bytes : List ℕ) where
   plain : (i : Instruction) (p q : ℕ) (b : Bool) → begins_block i ≡ false → Written bytes p i q → Found q b → Found p b
   plain i p q b none w found = plain_there i p q b none w.stands found
 
-  begins : (p q : ℕ) (b : Bool) → Written bytes p (SendSpecial 24) q → Found q b → Found p true
-  begins p q b w found = step (SendSpecial 24) p q b w.stands found
+  begins : (p q : ℕ) (b : Bool) → Written bytes p (SendSpecial block_copy) q → Found q b → Found p true
+  begins p q b w found = step (SendSpecial block_copy) p q b w.stands found
 
   at_the_end : Found (length bytes) false
   at_the_end zero enough = refl

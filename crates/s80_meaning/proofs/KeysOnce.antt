@@ -2,7 +2,7 @@
 use Rattle.std.proofs.Common.{arith, ◌≡◌, ◌∙◌, ap, sym, subst, refl, ℕ, zero, suc, ◌+◌, inl, inr, not, cond, ◌||◌, List, [], ◌∷◌, ◌++◌, length, slice_get, Some, Bool, true, false, arith, if◌then◌else◌}
 use Rattle.std.specs.List.{list_any, position_or_len}
 use Rattle.s80_machine.specs.World.{World, Key, number_in, numbered, same_key}
-use Rattle.s80_machine.proofs.SoundLists.{get_either_last, keys_same, numbered_there, once_front}
+use Rattle.s80_machine.proofs.lemmas.SoundLists.{get_either_last, keys_same, numbered_there, once_front}
 use Rattle.s80_meaning.proofs.Stays.{Facts, IsFine, Later, made_stays, placed_stays}
 use Rattle.s80_meaning.proofs.Variables.{Alike}
 

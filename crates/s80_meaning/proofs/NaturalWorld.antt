@@ -11,12 +11,12 @@ use Rattle.s80_object.specs.declared.value.ObjectFault.{ObjectFault}
 use Rattle.s80_object.specs.declared.value.Value.{Value}
 use Rattle.s80_object.specs.declared.value.Value.TheVariants.{Symbol, ClassRef, Object}
 use Rattle.s80_prims.specs.Primitives.{World as Reached}
-use Rattle.s80_machine.specs.World.{World, Frame, changed, field_read, field_set, in_frame, ok_of, reached, receiver_variable, temporary, with_objects, with_receiver_variable, with_temporary}
+use Rattle.s80_machine.specs.World.{World, Activation, changed, field_read, field_set, in_activation, ok_of, reached, receiver_variable, temporary, with_objects, with_receiver_variable, with_temporary}
 use Rattle.s80_machine.specs.World as world
-use Rattle.s80_machine.specs.Turn.{Block, at_once, block_at, block_in, block_with, if_takes, unary_in}
+use Rattle.s80_machine.specs.Shared.{Block, at_once, block_at, block_in, block_with, if_takes, unary_in}
 use Rattle.s80_meaning.specs.Image.{placed, image, image_reached}
-use Rattle.s80_meaning.specs.Meaning.{read, same_frame, with_parameters, written}
-use Rattle.s80_meaning.proofs.Natural.{class_of_image, field_put_image, fields_at_image, get_map, placed_result, with_body_at_image}
+use Rattle.s80_meaning.specs.Meaning.{read, same_activation, with_parameters, written}
+use Rattle.s80_meaning.proofs.NaturalObjects.{class_of_image, field_put_image, fields_at_image, get_map, placed_result, with_body_at_image}
 
 map_map : {X Y Z V : Type 0} (f : X → Y) (g : Y → Z) (h : X → V) (k : V → Z) → ((x : X) → g (f x) ≡ k (h x)) → (o : Option X) → option_map g (option_map f o) ≡ option_map k (option_map h o)
 map_map f g h k e None = refl
@@ -49,25 +49,25 @@ module _ (at : Value → ℕ → ℕ) where
 
   -- ---- variables
 
-  abbrev pub image_pair : World × Frame → World × Frame
+  abbrev pub image_pair : World × Activation → World × Activation
   image_pair p = (image_world p.0, p.1)
 
-  pub temporary_image : (w : World) (f : Frame) (i : ℕ) → temporary (image_world w) f i ≡ temporary w f i
+  pub temporary_image : (w : World) (f : Activation) (i : ℕ) → temporary (image_world w) f i ≡ temporary w f i
   temporary_image w (world.own temporaries) i = refl
   temporary_image w (world.home h) i = field_read_image w h i
   temporary_image w (world.block b h) i = field_read_image w h i
 
-  own_image : (w : World) (test : Bool) (f : Frame) → (if test then Some (image_world w, f) else None) ≡ option_map image_pair (if test then Some (w, f) else None)
+  own_image : (w : World) (test : Bool) (f : Activation) → (if test then Some (image_world w, f) else None) ≡ option_map image_pair (if test then Some (w, f) else None)
   own_image w true f = refl
   own_image w false f = refl
 
-  in_frame_image : (f : Frame) (o : Option World) → option_map (in_frame f) (option_map image_world o) ≡ option_map image_pair (option_map (in_frame f) o)
-  in_frame_image f o = map_map image_world (in_frame f) (in_frame f) image_pair (λ w. refl) o
+  in_activation_image : (f : Activation) (o : Option World) → option_map (in_activation f) (option_map image_world o) ≡ option_map image_pair (option_map (in_activation f) o)
+  in_activation_image f o = map_map image_world (in_activation f) (in_activation f) image_pair (λ w. refl) o
 
-  pub with_temporary_image : (w : World) (f : Frame) (i : ℕ) (x : Value) → with_temporary (image_world w) f i x ≡ option_map image_pair (with_temporary w f i x)
+  pub with_temporary_image : (w : World) (f : Activation) (i : ℕ) (x : Value) → with_temporary (image_world w) f i x ≡ option_map image_pair (with_temporary w f i x)
   with_temporary_image w (world.own temporaries) i x = own_image w (nat_lt i (length temporaries)) (world.own (slice_set temporaries i x))
-  with_temporary_image w (world.home h) i x = ap (option_map (in_frame (world.home h))) (field_set_image w h i x) ∙ in_frame_image (world.home h) (field_set w h i x)
-  with_temporary_image w (world.block b h) i x = ap (option_map (in_frame (world.block b h))) (field_set_image w h i x) ∙ in_frame_image (world.block b h) (field_set w h i x)
+  with_temporary_image w (world.home h) i x = ap (option_map (in_activation (world.home h))) (field_set_image w h i x) ∙ in_activation_image (world.home h) (field_set w h i x)
+  with_temporary_image w (world.block b h) i x = ap (option_map (in_activation (world.block b h))) (field_set_image w h i x) ∙ in_activation_image (world.block b h) (field_set w h i x)
 
   pub receiver_variable_image : (w : World) (v : Value) (i : ℕ) → receiver_variable (image_world w) v i ≡ receiver_variable w v i
   receiver_variable_image w (Object n) i = field_read_image w n i
@@ -79,20 +79,20 @@ module _ (at : Value → ℕ → ℕ) where
   with_receiver_variable_image w (ClassRef c side.Instance) i x = refl
   with_receiver_variable_image w _ i x = refl
 
-  pub read_image : (w : World) (f : Frame) (r : Value) (v : VariableTree) → read (image_world w) f r v ≡ read w f r v
+  pub read_image : (w : World) (f : Activation) (r : Value) (v : VariableTree) → read (image_world w) f r v ≡ read w f r v
   read_image w f r (core.temporary i) = temporary_image w f i
   read_image w f r (core.instance i) = receiver_variable_image w r i
   read_image w f r (core.class_variable class name) = refl
   read_image w f r (core.outer name) = refl
 
-  pub written_image : (w : World) (f : Frame) (r : Value) (v : VariableTree) (x : Value) → written (image_world w) f r v x ≡ option_map image_pair (written w f r v x)
+  pub written_image : (w : World) (f : Activation) (r : Value) (v : VariableTree) (x : Value) → written (image_world w) f r v x ≡ option_map image_pair (written w f r v x)
   written_image w f r (core.temporary i) x = with_temporary_image w f i x
   written_image w f r (core.instance i) x =
-      ap (option_map (same_frame f)) (with_receiver_variable_image w r i x) ∙ map_map image_world (same_frame f) (same_frame f) image_pair (λ u. refl) (with_receiver_variable w r i x)
+      ap (option_map (same_activation f)) (with_receiver_variable_image w r i x) ∙ map_map image_world (same_activation f) (same_activation f) image_pair (λ u. refl) (with_receiver_variable w r i x)
   written_image w f r (core.class_variable class name) x = refl
   written_image w f r (core.outer name) x = refl
 
-  pub with_parameters_image : (w : World) (f : Frame) (first : ℕ) (vs : List Value) → with_parameters (image_world w) f first vs ≡ option_map image_world (with_parameters w f first vs)
+  pub with_parameters_image : (w : World) (f : Activation) (first : ℕ) (vs : List Value) → with_parameters (image_world w) f first vs ≡ option_map image_world (with_parameters w f first vs)
   with_parameters_image w f first [] = refl
   with_parameters_image w f first (v ∷ vs) =
       ap (option_and_then (λ w1. option_map (λ p. p.0) (with_temporary w1 f first v))) (with_parameters_image w f (suc first) vs) ∙ of (with_parameters w f (suc first) vs)
@@ -101,7 +101,7 @@ module _ (at : Value → ℕ → ℕ) where
           ≡ option_map image_world (option_and_then (λ w1. option_map (λ p. p.0) (with_temporary w1 f first v)) o)
       of None = refl
       of (Some u) =
-          let front : World × Frame → World = λ p. p.0 in
+          let front : World × Activation → World = λ p. p.0 in
           ap (option_map front) (with_temporary_image u f first v) ∙ map_map image_pair front front image_world (λ p. refl) (with_temporary u f first v)
 
   -- ---- what is answered at once, and blocks

@@ -8,8 +8,8 @@ use Rattle.s80_tree.specs.Tree.{MethodParts}
 use Rattle.s80_scope.specs.declared.fit.position.Position.{Position}
 use Rattle.s80_scope.specs.declared.fit.position.Position.TheVariants.{Value, Effect}
 use Rattle.s80_core.specs.Core.{CoreTree, CoreTrees, SendTrees, leaf, assign, value, send, cascade, real_block, two_arms, one_arm, shortcut, repeat, nothing, before, answer, answer_fixed, leave, no_cores, cores, no_sends, sends, count}
-use Rattle.s80_agree.specs.Rows as rows
-use Rattle.s80_agree.specs.Compiles.{IsCodeOf}
+use Rattle.s80_compile.specs.Rows as rows
+use Rattle.s80_compile.specs.Compiles.{IsCodeOf}
 use Rattle.s80_meaning.specs.Tree as tree
 use Rattle.s80_meaning.specs.Tree.{RealBlock, size, size_all, size_sends, numbered, numbered_all, numbered_sends, blocks, blocks_all, blocks_sends, meant_by}
 use Rattle.s80_meaning.specs.Places.{At, AllAt, SendsAt, BlockAt, MethodAt}

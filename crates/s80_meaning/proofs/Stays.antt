@@ -13,7 +13,7 @@ use Rattle.s80_meaning.specs.Image.{image, placed}
 abbrev pub key_of : World → Value → Option Key
 key_of w whole = option_and_then (λ (parts : ℕ × Value). slice_get w.keys parts.0) (option_and_then home_parts_of (body_at w.objects whole))
 
--- of each method: which entries of its frame are small constants, and how many parameters its blocks have; and the budget
+-- of each method: which entries of its activation are small constants, and how many parameters its blocks have; and the budget
 pub record Facts : Type 0 where
   pub small : Key → ℕ → Bool
   pub kept : Key → ℕ → Option ℕ

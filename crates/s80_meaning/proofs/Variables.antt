@@ -1,7 +1,7 @@
 -- Variables are read and written on both sides alike.
 use Rattle.std.proofs.Common.{arith, ◌≡◌, ◌∙◌, ap, sym, subst, refl, ℕ, List, [], inl, inr, slice_get, slice_set, length, nat_lt, Bool, true, false, Option, Some, None, Result, Ok, Err, option_map, option_and_then, if◌then◌else◌}
 use Rattle.s80_base.specs.declared.names.Side.TheVariants.{Instance, Class}
-use Rattle.s80_code.proofs.TableLemmas.{value}
+use Rattle.s80_code.proofs.lemmas.TableLemmas.{value}
 use Rattle.s80_object.specs.Body.{BodyTree}
 use Rattle.s80_object.specs.Literal.{Built, noted}
 use Rattle.s80_object.specs.Objects.{State as Objects, field_put, put_with, with_body_at}
@@ -10,15 +10,15 @@ use Rattle.s80_object.specs.declared.value.Value.{Value}
 use Rattle.s80_object.specs.declared.value.Value.TheVariants as is
 use Rattle.s80_core.specs.Core.{VariableTree}
 use Rattle.s80_core.specs.Core as core
-use Rattle.s80_machine.specs.World.{World, Key, Variable, class_side, class_variable, outer, Frame, own, home, block, field_read, field_set, ok_of, receiver_variable, temporary, with_objects, with_receiver_variable, with_variable}
+use Rattle.s80_machine.specs.World.{World, Key, Variable, class_side, class_variable, outer, Activation, own, home, block, field_read, field_set, ok_of, receiver_variable, temporary, with_objects, with_receiver_variable, with_variable}
 use Rattle.s80_meaning.specs.Meaning.{read, written}
 use Rattle.s80_meaning.specs.Image.{image}
-use Rattle.s80_meaning.proofs.Natural.{field_put_image, fields_at_image, placed_result, with_body_at_image}
+use Rattle.s80_meaning.proofs.NaturalObjects.{field_put_image, fields_at_image, placed_result, with_body_at_image}
 use Rattle.s80_meaning.proofs.Extends.{noted_bodies, noted_either}
 use Rattle.s80_meaning.proofs.Stays.{Facts, Extends, IsFine, IsMade, IsPlaced, Later, extends_later, extends_made, extends_placed, image_stays, place_in, later_then, placed_stays, same_later, shown}
 
 -- an activation as those see it who ask whether it is alive
-abbrev pub mark : Frame → Frame
+abbrev pub mark : Activation → Activation
 mark (own temporaries) = own []
 mark (home h) = home h
 mark (block b h) = block b h
@@ -31,7 +31,7 @@ module _ (starts : Key → ℕ → ℕ) where
   field_read_shown : (w : World) (n i : ℕ) → field_read (shown starts w) n i ≡ field_read w n i
   field_read_shown w n i = ap (option_and_then (λ fields. slice_get fields i)) (fields_at_image (place_in starts w) w.objects (is.Object n))
 
-  temporary_shown : (w : World) (f : Frame) (i : ℕ) → temporary (shown starts w) f i ≡ temporary w f i
+  temporary_shown : (w : World) (f : Activation) (i : ℕ) → temporary (shown starts w) f i ≡ temporary w f i
   temporary_shown w (own temporaries) i = refl
   temporary_shown w (home h) i = field_read_shown w h i
   temporary_shown w (block b h) i = field_read_shown w h i
@@ -42,7 +42,7 @@ module _ (starts : Key → ℕ → ℕ) where
   receiver_variable_shown w (is.ClassRef c Class) i = refl
   receiver_variable_shown w _ i = refl
 
-  pub read_shown : (w : World) (f : Frame) (r : Value) (v : VariableTree) → read (shown starts w) f r v ≡ read w f r v
+  pub read_shown : (w : World) (f : Activation) (r : Value) (v : VariableTree) → read (shown starts w) f r v ≡ read w f r v
   read_shown w f r (core.temporary i) = temporary_shown w f i
   read_shown w f r (core.instance i) = receiver_variable_shown w r i
   read_shown w f r (core.class_variable class name) = refl
@@ -120,10 +120,10 @@ module _ (starts : Key → ℕ → ℕ) (facts : Facts) where
             )
 
     -- what a write comes to on both sides
-    abbrev pub WritesAlike : World → Frame → Option (World × Frame) → World × Frame → Type 0
+    abbrev pub WritesAlike : World → Activation → Option (World × Activation) → World × Activation → Type 0
     WritesAlike w f machine p = (machine ≡ Some (shown starts p.0, p.1)) × Alike facts w p.0 × (mark p.1 ≡ mark f)
 
-    set_shown : (w : World) (n i : ℕ) (x : Value) (f : Frame) (p : World × Frame) → IsFine facts w → option_map (λ w. (w, f)) (field_set w n i x) ≡ Some p
+    set_shown : (w : World) (n i : ℕ) (x : Value) (f : Activation) (p : World × Activation) → IsFine facts w → option_map (λ w. (w, f)) (field_set w n i x) ≡ Some p
         → WritesAlike w f (option_map (λ w. (w, f)) (field_set (shown starts w) n i x)) p
     set_shown w n i x f p fine e = by_set (field_set w n i x) refl e
       where
@@ -132,29 +132,29 @@ module _ (starts : Key → ℕ → ℕ) (facts : Facts) where
         by_set (Some w1) set e =
             let r = field_set_shown w n i x w1 fine set in
             let same : (w1, f) ≡ p = value e in
-            (ap (option_map (λ w. (w, f))) r.0 ∙ ap (λ (p : World × Frame). Some (shown starts p.0, p.1)) same, (subst (λ (p : World × Frame). Alike facts w p.0) same r.1), (ap (λ (p : World × Frame). mark p.1) (sym same)))
+            (ap (option_map (λ w. (w, f))) r.0 ∙ ap (λ (p : World × Activation). Some (shown starts p.0, p.1)) same, (subst (λ (p : World × Activation). Alike facts w p.0) same r.1), (ap (λ (p : World × Activation). mark p.1) (sym same)))
 
-    -- nothing but the frame, or a variable outside, is another
-    aside_shown : (w w1 : World) (f g : Frame) (p : World × Frame) → Alike facts w w1 → mark g ≡ mark f → Some (w1, g) ≡ Some p → WritesAlike w f (Some (shown starts w1, g)) p
+    -- nothing but the activation, or a variable outside, is another
+    aside_shown : (w w1 : World) (f g : Activation) (p : World × Activation) → Alike facts w w1 → mark g ≡ mark f → Some (w1, g) ≡ Some p → WritesAlike w f (Some (shown starts w1, g)) p
     aside_shown w w1 f g p alike seen e =
         let same : (w1, g) ≡ p = value e in
-        (ap (λ (p : World × Frame). Some (shown starts p.0, p.1)) same, (subst (λ (p : World × Frame). Alike facts w p.0) same alike), (ap (λ (p : World × Frame). mark p.1) (sym same) ∙ seen))
+        (ap (λ (p : World × Activation). Some (shown starts p.0, p.1)) same, (subst (λ (p : World × Activation). Alike facts w p.0) same alike), (ap (λ (p : World × Activation). mark p.1) (sym same) ∙ seen))
 
-    own_shown : (w : World) (ts us : List Value) (b : Bool) (p : World × Frame) → IsFine facts w → (if b then Some (w, own us) else None) ≡ Some p → WritesAlike w (own ts) (if b then Some (shown starts w, own us) else None) p
+    own_shown : (w : World) (ts us : List Value) (b : Bool) (p : World × Activation) → IsFine facts w → (if b then Some (w, own us) else None) ≡ Some p → WritesAlike w (own ts) (if b then Some (shown starts w, own us) else None) p
     own_shown w ts us true p fine e = aside_shown w w (own ts) (own us) p (record { later = same_later w; fine = fine }) refl e
     own_shown w ts us false p fine e = cc
 
     variable_alike : (w : World) (v : Variable) (x : Value) → IsFine facts w → Alike facts w (with_variable w v x)
     variable_alike w v x fine = record { later = record { keys = λ n key e. e; homes = λ whole parts e. e; ticks = omega arith }; fine = record { placed = fine.placed; unique = fine.unique; made = fine.made; in_time = fine.in_time } }
 
-    receiver_shown : (w : World) (f : Frame) (r : Value) (i : ℕ) (x : Value) (p : World × Frame) → IsFine facts w → option_map (λ w. (w, f)) (with_receiver_variable w r i x) ≡ Some p
+    receiver_shown : (w : World) (f : Activation) (r : Value) (i : ℕ) (x : Value) (p : World × Activation) → IsFine facts w → option_map (λ w. (w, f)) (with_receiver_variable w r i x) ≡ Some p
         → WritesAlike w f (option_map (λ w. (w, f)) (with_receiver_variable (shown starts w) r i x)) p
     receiver_shown w f (is.Object n) i x p fine e = set_shown w n i x f p fine e
     receiver_shown w f (is.ClassRef c Instance) i x p fine e = aside_shown w (with_variable w (class_side c i) x) f f p (variable_alike w (class_side c i) x fine) refl e
     receiver_shown w f (is.ClassRef c Class) i x p fine e = cc
     receiver_shown w f _ i x p fine e = cc
 
-    pub written_shown : (w : World) (f : Frame) (r : Value) (v : VariableTree) (x : Value) (p : World × Frame) → IsFine facts w → written w f r v x ≡ Some p → WritesAlike w f (written (shown starts w) f r v x) p
+    pub written_shown : (w : World) (f : Activation) (r : Value) (v : VariableTree) (x : Value) (p : World × Activation) → IsFine facts w → written w f r v x ≡ Some p → WritesAlike w f (written (shown starts w) f r v x) p
     written_shown w (own ts) r (core.temporary i) x p fine e = own_shown w ts (slice_set ts i x) (nat_lt i (length ts)) p fine e
     written_shown w (home h) r (core.temporary i) x p fine e = set_shown w h i x (home h) p fine e
     written_shown w (block b h) r (core.temporary i) x p fine e = set_shown w h i x (block b h) p fine e

@@ -4,3 +4,4 @@ pub mod Worked
 pub mod Places
 pub mod Image
 pub mod Agreement
+pub mod Renamed

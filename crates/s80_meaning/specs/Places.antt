@@ -4,11 +4,12 @@ use Rattle.s80_base.specs.Literal.{small}
 use Rattle.s80_code.specs.declared.code.Code.{Code}
 use Rattle.s80_code.specs.declared.instruction.Instruction.TheVariants.{Duplicate, Pop, PushContext, PushFixed, ReturnFixed, ReturnFromBlock, ReturnTop, SendSpecial}
 use Rattle.s80_code.specs.Entries.{EntryTree, entries_of}
+use Rattle.s80_code.specs.Special.{block_copy}
 use Rattle.s80_code.specs.Spelling.{Written}
 use Rattle.s80_scope.specs.declared.fit.position.Position.{Position}
 use Rattle.s80_scope.specs.declared.fit.position.Position.TheVariants.{Value, Effect}
 use Rattle.s80_core.specs.Core.{constant}
-use Rattle.s80_agree.specs.Rows.{One, Both, Chooses, Ends, JumpsOver, Loops, NilFor, Pushes, SendsTo, Skips, Stores, Takes, shortcut_number}
+use Rattle.s80_compile.specs.Rows.{One, Both, Chooses, Ends, JumpsOver, Loops, NilFor, Pushes, SendsTo, Skips, Stores, Takes, shortcut_number}
 use Rattle.s80_meaning.specs.Tree.{Meant, RealBlock, Tree, Trees, Sends, leaf, assign, value, send, cascade, real, two_arms, one_arm, shortcut, repeat, nothing, before, answer, answer_fixed, leave, no_trees, trees, no_sends, sends, count}
 
 -- a real block where it stands as a value: it is made, and its code is jumped over
@@ -22,7 +23,7 @@ pub record MakesReal (bytes : List ℕ) (entries : List EntryTree) (blocks : Lis
   pub is_block : slice_get blocks b ≡ Some block
   pub context : Written bytes p PushContext push
   pub parameters : One bytes (Pushes entries (constant (small (pos block.parameters)))) push copy
-  pub copies : Written bytes copy (SendSpecial 24) jump
+  pub copies : Written bytes copy (SendSpecial block_copy) jump
   pub over : JumpsOver bytes after jump start
   pub starts_at : starts b ≡ start
   pub ending : Ends bytes position after q

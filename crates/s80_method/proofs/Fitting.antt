@@ -4,7 +4,7 @@ use Rattle.std.proofs.lemmas.Bool.Decides.{nat_tests}
 use Rattle.s80_base.specs.declared.names.Side.{Side}
 use Rattle.s80_tree.specs.Tree.{MethodParts}
 use Rattle.s80_syntax.specs.Text.{IsMethodOf}
-use Rattle.s80_syntax.proofs.OneReading.{one_method_of}
+use Rattle.s80_syntax.proofs.lemmas.OneReading.{one_method_of}
 use Rattle.s80_scope.specs.declared.fit.Fit.{Fit}
 use Rattle.s80_scope.specs.declared.fit.Fit.TheVariants as fits
 use Rattle.s80_scope.specs.declared.fit.FitKind.{FitKind}
@@ -14,7 +14,7 @@ use Rattle.s80_scope.specs.Fit.{fit, measures, cut_measures}
 use Rattle.s80_scope.specs.Walk.{cut}
 use Rattle.s80_scope.specs.declared.shape.Shape.{Shape}
 use Rattle.s80_code.specs.declared.code.Code.{Code}
-use Rattle.s80_agree.specs.Compiles.{Compiles}
+use Rattle.s80_compile.specs.Compiles.{Compiles}
 use Rattle.s80_class.specs.Classes.{Name, Classes}
 use Rattle.s80_change.specs.declared.source_check.SourceCheck.TheVariants.{Fits}
 use Rattle.s80_change.specs.Check.{IsCheckOf, too_large}

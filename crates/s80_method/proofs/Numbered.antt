@@ -10,8 +10,8 @@ use Rattle.s80_scope.specs.declared.shape.Binding.{Binding}
 use Rattle.s80_class.specs.declared.entry.ClassEntry.{ClassEntry}
 use Rattle.s80_class.specs.Classes.{Name, ClassRow, lineage, upwards}
 use Rattle.s80_class.specs.Table.{Table, IsNumberOf, IsEntryOf, row_of}
-use Rattle.s80_class.proofs.Rows.{name_is}
-use Rattle.s80_class.proofs.Walks.{left, left_more}
+use Rattle.s80_class.proofs.lemmas.Rows.{name_is}
+use Rattle.s80_class.proofs.lemmas.Walks.{left, left_more}
 use Rattle.s80_method.specs.Shape.{bindings_of}
 use Rattle.s80_method.specs.Line.{class_at, AreNumbersOf}
 

@@ -4,7 +4,7 @@ use Rattle.s80_base.specs.declared.names.Side.{Side}
 use Rattle.s80_tree.specs.Tree.{MethodParts}
 use Rattle.s80_syntax.specs.Text.{IsMethodOf}
 use Rattle.s80_code.specs.declared.code.Code.{Code}
-use Rattle.s80_agree.specs.Compiles.{Compiles}
+use Rattle.s80_compile.specs.Compiles.{Compiles}
 use Rattle.s80_class.specs.Classes.{Name, Classes}
 use Rattle.s80_class.specs.Table.{Table, IsNumberOf}
 use Rattle.s80_method.specs.Shape.{shape_of}

@@ -5,7 +5,7 @@ ghost use Rattle.s80_syntax.specs.Text.{IsMethodOf};
 ghost use Rattle.s80_scope.specs.Fit.{fit, measures};
 ghost use Rattle.s80_scope.specs.Names.{AreInOrder, uses_of};
 ghost use Rattle.s80_scope.specs.declared.fit.Fit.TheVariants.{Fits as TreeFits};
-ghost use Rattle.s80_agree.specs.Sent.{AreWellSent};
+ghost use Rattle.s80_compile.specs.Sent.{AreWellSent};
 ghost use Rattle.s80_verify.specs.Fault.{IsVerified};
 ghost use Rattle.s80_class.specs.Table.{IsClass, IsNumberOf};
 ghost use Rattle.s80_change.specs.Check.{IsCheckOf};
@@ -13,10 +13,9 @@ ghost use Rattle.s80_change.specs.declared.source_check.SourceCheck.TheVariants.
 ghost use Rattle.s80_method.specs.Code.{HasFewVariables, IsMethodCode};
 
 use crate::shape::shape_of;
-use s80_agree::trees_are_well_sent;
 use s80_base::{OutOfMemory, Side, Text};
 use s80_class::ClassTable;
-use s80_compile::compile;
+use s80_compile::{compile, trees_are_well_sent};
 use s80_scope::places_of_uses_rise;
 use s80_syntax::{MethodTree, ParseFault, no_fault_beside_a_tree, parse_method};
 use s80_verify::Verified;

@@ -1,14 +1,14 @@
 -- What items ask, one by one.
-use Rattle.std.proofs.Common.{◌≡◌, ◌⊎◌, inl, inr, ℕ, List, refl, sym, ap, ◌∙◌}
+use Rattle.std.proofs.Common.{◌≡◌, ◌⊎◌, inl, inr, ℕ, Bool, List, [], ◌∷◌, Result, Ok, Err, refl, sym, ap, subst, ◌∙◌}
 use Rattle.s80_chunk.specs.declared.item.Item.TheVariants as items
 use Rattle.s80_tree.specs.Tree.{DoItParts}
-use Rattle.s80_grammar.specs.Faults.{IsDoItText}
+use Rattle.s80_syntax.specs.Faults.{IsDoItText}
 use Rattle.s80_syntax.specs.Text.{IsDoItOf}
-use Rattle.s80_syntax.proofs.OneReading.{one_doit_of, doit_only_memory}
+use Rattle.s80_syntax.proofs.lemmas.OneReading.{one_doit_of, doit_only_memory}
 use Rattle.s80_change.specs.declared.change.Change.{Change}
 use Rattle.s80_change.specs.declared.change.Change.TheVariants.{Define, Method, DoIt}
 use Rattle.s80_change.specs.declared.source_check.SourceCheck.{SourceCheck}
-use Rattle.s80_change.proofs.TextOf.{one_definition_of}
+use Rattle.s80_change.proofs.lemmas.TextOf.{one_definition_of}
 use Rattle.s80_form.specs.declared.refusal.Refusal.{Refusal}
 use Rattle.s80_form.specs.declared.refusal.Refusal.TheVariants as refusals
 use Rattle.s80_change.specs.declared.head.SectionHead.{SectionHead}
@@ -22,8 +22,16 @@ use Rattle.s80_form.specs.declared.refusal.SyntaxKind.TheVariants as kinds
 use Rattle.s80_model.specs.declared.item.SessionItem.{SessionItem}
 use Rattle.s80_model.specs.declared.item.SessionItem.TheVariants.{Chunk, Unended, Query}
 use Rattle.s80_form.specs.Definition.{IsDefinitionOf, IsNoDefinition}
+use Rattle.s80_apply.specs.List.{add, state_of}
+use Rattle.s80_doit.specs.Answer.{EvaluatesTo}
 use Rattle.s80_doit.specs.DoIt.{Fits}
-use Rattle.s80_model.specs.Asked.{Ask, refuses, adds, evaluates, opens, refuses_head, adds_source, refuses_source, closes, tells, IsRefusedText, AsksPlain, IsRefusedHead, AsksHead, AsksMethod, Asks, but_for_runs}
+use Rattle.s80_model.specs.Asked.{Ask, refuses, adds, evaluates, opens, refuses_head, adds_source, refuses_source, closes, tells, IsRefusedText, AsksPlain, IsRefusedHead, AsksHead, AsksMethod, IsDefinitionIn}
+use Rattle.s80_model.specs.Replies.{AllAsk, AsksIn, IsEvaluated, IsSo, Work, work_after}
+use Rattle.s80_model.specs.Settings.{Settings}
+
+-- in the state of a list a text is told one thing
+abbrev pub OneTold : Type 0
+OneTold = (changes : List Change) (text : List ℕ) (budget : ℕ) (told other : List ℕ) (stopped also : Bool) → EvaluatesTo (state_of changes) text budget told stopped → EvaluatesTo (state_of changes) text budget other also → (other ≡ told) × (also ≡ stopped)
 
 -- no fault of a text is want of memory
 not_memory : (kind : SyntaxKind) (place : ℕ) → fault_of kind place ≡ faults.Memory → ⊥
@@ -82,28 +90,65 @@ one_change text (Method m) other h k = absurd h
 one_change text (Define d) (Method m) h k = absurd k
 one_change text (DoIt own) (Method m) h k = absurd k
 
--- with its run left out, what a plain text asks is that it is refused, or that it is added
-abbrev IsPlainly : List ℕ → Ask → Type 0
-IsPlainly text ask = ((refusal : Refusal) × (ask ≡ refuses refusal) × IsRefusedText text refusal) ⊎ ((change : Change) × (ask ≡ adds change) × Fits text × IsChangeIn text change)
+-- what is added as a definition is a change
+as_change : (text : List ℕ) (change : Change) → IsDefinitionIn text change → IsChangeIn text change
+as_change text (Define d) h = h
+as_change text (Method m) h = absurd h
+as_change text (DoIt own) h = absurd h
 
-plainly : (text : List ℕ) (ask : Ask) → AsksPlain text ask → IsPlainly text (but_for_runs ask)
-plainly text (refuses refusal) h = inl (refusal, refl, h)
-plainly text (adds (Define d)) h = inr (Define d, refl, h.0, h.1)
-plainly text (adds (Method m)) h = absurd h.1
-plainly text (adds (DoIt own)) h = absurd h.1
-plainly text (evaluates own ran told) h = inr (DoIt own, refl, h.0, (h.1, h.2))
-plainly text (opens head) h = absurd h
-plainly text (refuses_head refusal) h = absurd h
-plainly text (adds_source source check) h = absurd h
-plainly text (refuses_source refusal) h = absurd h
-plainly text closes h = absurd h
-plainly text (tells query) h = absurd h
+-- a text that is told something is no definition
+no_doit : (text own : List ℕ) (change : Change) → IsDefinitionIn text change → (own ≡ text) × IsNoDefinition text → {X : Type 0} → X
+no_doit text own (Define d) h k = absurd (k.1 d h)
+no_doit text own (Method m) h k = absurd h
+no_doit text own (DoIt other) h k = absurd h
 
-one_plain : (text : List ℕ) (one other : Ask) → IsPlainly text one → IsPlainly text other → one ≡ other
-one_plain text one other (inl (refusal, is, h)) (inl (again, also, k)) = is ∙ ap refuses (one_reason text refusal again h k) ∙ sym also
-one_plain text one other (inl (refusal, is, h)) (inr (change, also, fits, k)) = absurd (fits_only text refusal fits h)
-one_plain text one other (inr (change, is, fits, h)) (inl (refusal, also, k)) = absurd (fits_only text refusal fits k)
-one_plain text one other (inr (change, is, fits, h)) (inr (again, also, fit, k)) = is ∙ ap adds (one_change text change again h k) ∙ sym also
+-- what is told of a doIt is one thing, whether it is added or refused
+told_so : OneTold → (r : Result (List Change) Refusal) (text : List ℕ) (settings : Settings) (told other : List ℕ) (stopped also : Bool) → IsEvaluated r text settings told stopped → IsEvaluated r text settings other also → (other ≡ told) × (also ≡ stopped)
+told_so one (Ok changes) text settings told other stopped also h k = one changes text settings.budget told other stopped also h k
+told_so one (Err refusal) text settings told other stopped also h k = (k.0 ∙ sym h.0, k.1 ∙ sym h.1)
+
+evaluates_so : OneTold → (work : Work) (text own other : List ℕ) (told more : List ℕ) (stopped also : Bool) → own ≡ text → other ≡ text → IsSo work (evaluates own told stopped) → IsSo work (evaluates other more also) → evaluates other more also ≡ evaluates own told stopped
+evaluates_so one work text own other told more stopped also is too h k =
+    let P : List ℕ → Type 0 = λ t. IsSo work (evaluates t told stopped) in
+    let Q : List ℕ → Type 0 = λ t. IsSo work (evaluates t more also) in
+    let same = told_so one (add work.changes (DoIt text)) text work.settings told more stopped also (subst P is h) (subst Q too k) in
+    λ i. evaluates ((too ∙ sym is) i) (same.0 i) (same.1 i)
+
+-- a plain text asks one thing
+one_plain : OneTold → (work : Work) (text : List ℕ) (ask other : Ask) → AsksPlain text ask → IsSo work ask → AsksPlain text other → IsSo work other → other ≡ ask
+one_plain one work text (refuses refusal) (refuses again) h so k also = ap refuses (one_reason text again refusal k h)
+one_plain one work text (refuses refusal) (adds change) h so k also = absurd (fits_only text refusal k.0 h)
+one_plain one work text (refuses refusal) (evaluates own told stopped) h so k also = absurd (fits_only text refusal k.0 h)
+one_plain one work text (adds change) (refuses refusal) h so k also = absurd (fits_only text refusal h.0 k)
+one_plain one work text (adds change) (adds again) h so k also = ap adds (one_change text again change (as_change text again k.1) (as_change text change h.1))
+one_plain one work text (adds change) (evaluates own told stopped) h so k also = no_doit text own change h.1 (k.1, k.2)
+one_plain one work text (evaluates own told stopped) (refuses refusal) h so k also = absurd (fits_only text refusal h.0 k)
+one_plain one work text (evaluates own told stopped) (adds change) h so k also = no_doit text own change k.1 (h.1, h.2)
+one_plain one work text (evaluates own told stopped) (evaluates again more too) h so k also = evaluates_so one work text own again told more stopped too h.1 k.1 so also
+one_plain one work text (opens head) other h so k also = absurd h
+one_plain one work text (refuses_head refusal) other h so k also = absurd h
+one_plain one work text (adds_source source check) other h so k also = absurd h
+one_plain one work text (refuses_source refusal) other h so k also = absurd h
+one_plain one work text closes other h so k also = absurd h
+one_plain one work text (tells query) other h so k also = absurd h
+one_plain one work text (refuses reason) (opens head) h so k also = absurd k
+one_plain one work text (refuses reason) (refuses_head refusal) h so k also = absurd k
+one_plain one work text (refuses reason) (adds_source source check) h so k also = absurd k
+one_plain one work text (refuses reason) (refuses_source refusal) h so k also = absurd k
+one_plain one work text (refuses reason) closes h so k also = absurd k
+one_plain one work text (refuses reason) (tells query) h so k also = absurd k
+one_plain one work text (adds change) (opens head) h so k also = absurd k
+one_plain one work text (adds change) (refuses_head refusal) h so k also = absurd k
+one_plain one work text (adds change) (adds_source source check) h so k also = absurd k
+one_plain one work text (adds change) (refuses_source refusal) h so k also = absurd k
+one_plain one work text (adds change) closes h so k also = absurd k
+one_plain one work text (adds change) (tells query) h so k also = absurd k
+one_plain one work text (evaluates own told stopped) (opens head) h so k also = absurd k
+one_plain one work text (evaluates own told stopped) (refuses_head refusal) h so k also = absurd k
+one_plain one work text (evaluates own told stopped) (adds_source source check) h so k also = absurd k
+one_plain one work text (evaluates own told stopped) (refuses_source refusal) h so k also = absurd k
+one_plain one work text (evaluates own told stopped) closes h so k also = absurd k
+one_plain one work text (evaluates own told stopped) (tells query) h so k also = absurd k
 
 -- ---- heads
 
@@ -143,21 +188,21 @@ one_opening text (refuses_head refusal) (opens head) h k = absurd (no_fault text
 one_opening text (refuses_head refusal) (refuses_head other) h k = ap refuses_head (same_fault text refusal other (head_fault text refusal h) (head_fault text other k))
 one_opening text (opens head) (refuses refusal) h k = absurd k
 one_opening text (opens head) (adds change) h k = absurd k
-one_opening text (opens head) (evaluates own ran told) h k = absurd k
+one_opening text (opens head) (evaluates own told stopped) h k = absurd k
 one_opening text (opens head) (adds_source source check) h k = absurd k
 one_opening text (opens head) (refuses_source other) h k = absurd k
 one_opening text (opens head) closes h k = absurd k
 one_opening text (opens head) (tells query) h k = absurd k
 one_opening text (refuses_head refusal) (refuses other) h k = absurd k
 one_opening text (refuses_head refusal) (adds change) h k = absurd k
-one_opening text (refuses_head refusal) (evaluates own ran told) h k = absurd k
+one_opening text (refuses_head refusal) (evaluates own told stopped) h k = absurd k
 one_opening text (refuses_head refusal) (adds_source source check) h k = absurd k
 one_opening text (refuses_head refusal) (refuses_source other) h k = absurd k
 one_opening text (refuses_head refusal) closes h k = absurd k
 one_opening text (refuses_head refusal) (tells query) h k = absurd k
 one_opening text (refuses refusal) other h k = absurd h
 one_opening text (adds change) other h k = absurd h
-one_opening text (evaluates own ran told) other h k = absurd h
+one_opening text (evaluates own told stopped) other h k = absurd h
 one_opening text (adds_source source check) other h k = absurd h
 one_opening text (refuses_source refusal) other h k = absurd h
 one_opening text closes other h k = absurd h
@@ -170,7 +215,7 @@ method_asks : (text : List ℕ) (ask : Ask) → AsksMethod text ask → (check :
 method_asks text (adds_source source check) h = (check, ap (λ t. adds_source t check) h.0, h.1)
 method_asks text (refuses refusal) h = absurd h
 method_asks text (adds change) h = absurd h
-method_asks text (evaluates own ran told) h = absurd h
+method_asks text (evaluates own told stopped) h = absurd h
 method_asks text (opens head) h = absurd h
 method_asks text (refuses_head refusal) h = absurd h
 method_asks text (refuses_source refusal) h = absurd h
@@ -185,12 +230,25 @@ one_source text one other h k =
 
 -- ---- items
 
--- an item asks one thing, whatever the run of a doIt came to
-pub one_ask : (item : SessionItem) (one other : Ask) → Asks item one → Asks item other → but_for_runs one ≡ but_for_runs other
-one_ask (Chunk (items.Plain text)) one other h k = one_plain text (but_for_runs one) (but_for_runs other) (plainly text one h) (plainly text other k)
-one_ask (Chunk (items.Head text)) one other h k = ap but_for_runs (one_opening text one other h k)
-one_ask (Chunk (items.Method text)) one other h k = ap but_for_runs (one_source text one other h k)
-one_ask (Chunk items.SectionEnd) one other h k = ap but_for_runs (h ∙ sym k)
-one_ask (Chunk (items.TooLong role n)) one other h k = ap but_for_runs (h ∙ sym k)
-one_ask Unended one other h k = ap but_for_runs (h ∙ sym k)
-one_ask (Query query) one other h k = ap but_for_runs (h ∙ sym k)
+-- an item asks one thing
+pub one_ask : OneTold → (work : Work) (item : SessionItem) (ask other : Ask) → AsksIn work item ask → AsksIn work item other → other ≡ ask
+one_ask one work (Chunk (items.Plain text)) ask other h k = one_plain one work text ask other h.0 h.1 k.0 k.1
+one_ask one work (Chunk (items.Head text)) ask other h k = one_opening text other ask k.0 h.0
+one_ask one work (Chunk (items.Method text)) ask other h k = one_source text other ask k.0 h.0
+one_ask one work (Chunk items.SectionEnd) ask other h k = k.0 ∙ sym h.0
+one_ask one work (Chunk (items.TooLong role n)) ask other h k = k.0 ∙ sym h.0
+one_ask one work Unended ask other h k = k.0 ∙ sym h.0
+one_ask one work (Query query) ask other h k = k.0 ∙ sym h.0
+
+-- and so do items one after another
+pub all_ask_once : OneTold → (work : Work) (items : List SessionItem) (asks others : List Ask) → AllAsk work items asks → AllAsk work items others → others ≡ asks
+all_ask_once one work [] [] [] h k = refl
+all_ask_once one work [] [] (ask ∷ others) h k = absurd k
+all_ask_once one work [] (ask ∷ asks) others h k = absurd h
+all_ask_once one work (item ∷ items) [] others h k = absurd h
+all_ask_once one work (item ∷ items) (ask ∷ asks) [] h k = absurd k
+all_ask_once one work (item ∷ items) (ask ∷ asks) (again ∷ others) h k =
+    let same = one_ask one work item ask again h.0 k.0 in
+    let P : Ask → Type 0 = λ a. AllAsk (work_after work a) items others in
+    let rest = all_ask_once one (work_after work ask) items asks others h.1 (subst P same k.1) in
+    λ i. same i ∷ rest i

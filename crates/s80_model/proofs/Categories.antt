@@ -21,7 +21,7 @@ use Rattle.std.proofs.lemmas.Map.Text.{is_eq-slice_cmp}
 use Rattle.std.specs.BTreeMap.{insert_entry}
 use Rattle.s80_dict.specs.Dict.{Bytes, Methods}
 use Rattle.s80_apply.specs.State.{MethodRow}
-use Rattle.s80_apply.specs.Entries.{AreEntriesOf, Entry, row_in}
+use Rattle.s80_apply.specs.Entries.{AreEntriesOf, Entry, state_row}
 use Rattle.s80_model.specs.Entries.{AreLines, Lines, category_in, line_at, lines_of, shown, spaced, with_line}
 use Rattle.s80_lex.specs.Spelling.{quoted}
 use Rattle.s80_model.specs.Texts.{categories, category_at, category_lines, selectors_of}
@@ -272,7 +272,7 @@ no_lines f es is = record {
 
 -- ---- all lines
 
-category_same : (row : Option MethodRow) (entry : Option Entry) → option_map row_in entry ≡ row
+category_same : (row : Option MethodRow) (entry : Option Entry) → option_map state_row entry ≡ row
     → unwrap_or (option_map (λ (e : Entry). e.category) entry) [] ≡ unwrap_or (option_map (λ (r : MethodRow). r.category) row) []
 category_same row None is = ap (λ o. unwrap_or (option_map (λ (r : MethodRow). r.category) o) []) is
 category_same row (Some entry) is = ap (λ o. unwrap_or (option_map (λ (r : MethodRow). r.category) o) []) is

@@ -20,10 +20,10 @@ use Rattle.s80_base.specs.declared.names.Side.TheVariants.{Instance, Class}
 use Rattle.s80_dict.specs.Dict.{Methods}
 use Rattle.s80_dict.specs.Slots.{DictValue}
 use Rattle.s80_dict.specs.Table.{MethodsValue, dict_at, methods_at}
-use Rattle.s80_apply.specs.State.{MethodRow, State}
-use Rattle.s80_apply.specs.Entries.{AreEntriesOf, Entry, row_in}
-use Rattle.s80_apply.specs.System.{HasNumber, IsSystemOf, SystemState}
-use Rattle.s80_model.specs.Entries.{own_entry}
+use Rattle.s80_apply.specs.State.{MethodRow, State, is_kernel_method}
+use Rattle.s80_apply.specs.Entries.{AreEntriesOf, Entry, state_row}
+use Rattle.s80_apply.specs.System.{HasNumber, IsSystemOf, SystemState, TellOwn}
+use Rattle.s80_model.specs.Entries.{TellOwnOf, tells_own}
 use Rattle.s80_model.specs.Texts.{browsed, class_text, category_lines, definition_of, is_own, methods_text, own_classes, own_methods, own_methods_in, own_methods_of, recovered_text, string_line}
 
 take_of_length : {A : Type 0} (xs : List A) → take (length xs) xs ≡ xs
@@ -41,8 +41,8 @@ empty_list (x ∷ xs) e = absurd (omega arith)
 no_keys : map.keys (map.empty {X = MethodRow} {R = slice_cmp nat_cmp}) ≡ []
 no_keys = ap (list_map (λ e. e.0)) (empty_list (map.entries (map.empty {X = MethodRow} {R = slice_cmp nat_cmp})) (sym (map.len-entries (map.empty {X = MethodRow} {R = slice_cmp nat_cmp})) ∙ map.len-empty (slice_cmp nat_cmp) MethodRow))
 
-none_in_empty : own_methods_in map.empty ≡ 0
-none_in_empty = ap (λ keys. length (filter (λ selector. is_own (map.get (map.empty {X = MethodRow} {R = slice_cmp nat_cmp}) selector)) keys)) no_keys
+none_in_empty : (name : Name) (side : Side) → own_methods_in name side map.empty ≡ 0
+none_in_empty name side = ap (λ keys. length (filter (λ selector. is_own name side selector (map.get (map.empty {X = MethodRow} {R = slice_cmp nat_cmp}) selector)) keys)) no_keys
 
 -- ---- the counted
 
@@ -79,17 +79,19 @@ is_own_class name = not (is_kernel_class name)
 
 -- the methods that aren't the kernel's
 abbrev pub is_own_in : Methods Entry → List ℕ → Bool
-is_own_in entries selector = own_entry (map.get entries selector)
+is_own_in entries selector = tells_own (map.get entries selector)
 
-own_same : (row : Option MethodRow) (entry : Option Entry) → option_map row_in entry ≡ row → own_entry entry ≡ is_own row
-own_same row None is = ap is_own is
-own_same row (Some entry) is = ap is_own is
+own_same : (name : Name) (side : Side) (selector : List ℕ) (row : Option MethodRow) (entry : Option Entry) → option_map state_row entry ≡ row
+    → ((e : Entry) → entry ≡ Some e → e.from_kernel ≡ is_kernel_method name side selector (state_row e)) → tells_own entry ≡ is_own name side selector row
+own_same name side selector row None is tells = ap (is_own name side selector) is
+own_same name side selector row (Some entry) is tells = ap not (tells entry refl) ∙ ap (is_own name side selector) is
 
-pub own_in_rows : (entries : Methods Entry) (rows : Methods MethodRow) (names : List (List ℕ)) (count : ℕ) → AreEntriesOf entries rows → names ≡ map.keys entries
-    → IsCounted (is_own_in entries) names (length names) count → count ≡ own_methods_in rows
-own_in_rows entries rows names count are names_is counted =
+pub own_in_rows : (name : Name) (side : Side) (entries : Methods Entry) (rows : Methods MethodRow) (names : List (List ℕ)) (count : ℕ) → AreEntriesOf entries rows → TellOwnOf name side entries → names ≡ map.keys entries
+    → IsCounted (is_own_in entries) names (length names) count → count ≡ own_methods_in name side rows
+own_in_rows name side entries rows names count are tell names_is counted =
     counted.0 ∙ ap (λ l. length (filter (is_own_in entries) l)) (take_of_length names ∙ names_is ∙ are.keys)
-    ∙ ap length (filter_same (is_own_in entries) (λ selector. is_own (map.get rows selector)) (λ selector. own_same (map.get rows selector) (map.get entries selector) (are.each selector)) (map.keys rows))
+    ∙ ap length (filter_same (is_own_in entries) (λ selector. is_own name side selector (map.get rows selector))
+    (λ selector. own_same name side selector (map.get rows selector) (map.get entries selector) (are.each selector) (λ e there. tell selector e there)) (map.keys rows))
 
 -- ---- the methods of all classes
 
@@ -98,12 +100,12 @@ sum_of None s a b is e = absurd (cc)
 sum_of (Some x) s a b is e = sym (ap (λ r. unwrap_or r 0) e) ∙ is.1
 
 own_methods_more : (state : State) (done : List Name) (name : Name)
-    → own_methods_of state (done ++ name ∷ []) ≡ own_methods_of state done + (own_methods_in (state.methods name Instance) + own_methods_in (state.methods name Class))
+    → own_methods_of state (done ++ name ∷ []) ≡ own_methods_of state done + (own_methods_in name Instance (state.methods name Instance) + own_methods_in name Class (state.methods name Class))
 own_methods_more state [] name = omega arith
 own_methods_more state (first ∷ done) name = let behind = own_methods_more state done name in omega (arith, behind)
 
 pub next_own : (state : State) (names : List Name) (i : ℕ) (name : Name) (count more next : ℕ) → count ≡ own_methods_of state (take i names) → slice_get names i ≡ Some name
-    → more ≡ own_methods_in (state.methods name Instance) + own_methods_in (state.methods name Class) → next ≡ count + more → next ≡ own_methods_of state (take (i + 1) names)
+    → more ≡ own_methods_in name Instance (state.methods name Instance) + own_methods_in name Class (state.methods name Class) → next ≡ count + more → next ≡ own_methods_of state (take (i + 1) names)
 next_own state names i name count more next is at more_is next_is =
     next_is ∙ (λ j. is j + more_is j) ∙ sym (own_methods_more state (take i names) name)
     ∙ ap (own_methods_of state) (sym (take_more names i [] (slice_get_within names i name at) ∙ ap (λ n. take i names ++ n ∷ []) (get_or_from_slice_get names i name [] at)))
@@ -115,12 +117,11 @@ own_of_all state system names count of_state names_is is =
 
 -- a class that isn't there has no methods
 pub none_own : (state : State) (system : SystemState) (name : Name) → IsSystemOf system state → map.get system.table.classes name ≡ None
-    → 0 ≡ own_methods_in (state.methods name Instance) + own_methods_in (state.methods name Class)
+    → 0 ≡ own_methods_in name Instance (state.methods name Instance) + own_methods_in name Class (state.methods name Class)
 none_own state system name of_state none =
     let none_there : map.get state.classes name ≡ None = ap (λ classes. map.get classes name) (sym of_state.classes) ∙ none in
-    let empty : own_methods_in map.empty ≡ 0 = none_in_empty in
-    let instance : own_methods_in (state.methods name Instance) ≡ 0 = ap own_methods_in (of_state.others name Instance none_there) ∙ empty in
-    let class : own_methods_in (state.methods name Class) ≡ 0 = ap own_methods_in (of_state.others name Class none_there) ∙ empty in
+    let instance : own_methods_in name Instance (state.methods name Instance) ≡ 0 = ap (own_methods_in name Instance) (of_state.others name Instance none_there) ∙ none_in_empty name Instance in
+    let class : own_methods_in name Class (state.methods name Class) ≡ 0 = ap (own_methods_in name Class) (of_state.others name Class none_there) ∙ none_in_empty name Class in
     omega (arith, instance, class)
 
 -- the entries of a class's dictionary are those of its methods
@@ -130,6 +131,12 @@ pub dictionary_is : (state : State) (system : SystemState) (number : ℕ) (name 
 dictionary_is state system number name side methods dict of_state has methods_is dict_is =
     subst (λ d. AreEntriesOf d (state.methods name side)) (sym (ap (λ d. d.methods) dict_is ∙ ap (λ m. methods_at m number side) methods_is))
     (of_state.methods number name side has.named)
+
+-- and they tell which of these are the kernel's own
+pub dictionary_tells : (system : SystemState) (number : ℕ) (name : Name) (side : Side) (methods : MethodsValue Entry) (dict : DictValue Entry)
+    → TellOwn system.table system.methods → HasNumber system name number → methods ≡ system.methods → dict ≡ dict_at methods number side → TellOwnOf name side dict.methods
+dictionary_tells system number name side methods dict own has methods_is dict_is = λ selector entry there.
+    own number side selector entry (sym (ap (λ d. map.get d.methods selector) dict_is ∙ ap (λ m. map.get (methods_at m number side) selector) methods_is) ∙ there) name has.named
 
 pub number_within : (system : SystemState) (number : ℕ) (name : Name) (methods : MethodsValue Entry) → methods ≡ system.methods → HasNumber system name number → number < length methods.sides
 number_within system number name methods methods_is has =

@@ -1,10 +1,10 @@
 -- What an item asks, whatever the list and the section in which it stands.
-use Rattle.std.specs.Prelude.{◌≡◌, ◌⊎◌, ℕ, List, Some}
+use Rattle.std.specs.Prelude.{◌≡◌, ◌⊎◌, ℕ, Bool, List, Some}
 use Rattle.s80_chunk.specs.declared.item.Role.{Role}
 use Rattle.s80_chunk.specs.declared.item.Role.TheVariants as roles
 use Rattle.s80_chunk.specs.declared.item.Item.TheVariants as items
 use Rattle.s80_tree.specs.Tree.{DoItParts}
-use Rattle.s80_grammar.specs.Faults.{IsDoItText}
+use Rattle.s80_syntax.specs.Faults.{IsDoItText}
 use Rattle.s80_syntax.specs.Text.{IsDoItOf}
 use Rattle.s80_change.specs.declared.change.Change.{Change}
 use Rattle.s80_change.specs.declared.change.Change.TheVariants.{Define, Method, DoIt}
@@ -17,7 +17,6 @@ use Rattle.s80_change.specs.declared.head.SectionHead.{SectionHead}
 use Rattle.s80_change.specs.Check.{IsCheckOf, IsSyntaxRefusal, as_method, size_refusal}
 use Rattle.s80_change.specs.Head.{IsHeadOf}
 use Rattle.s80_doit.specs.DoIt.{Fits}
-use Rattle.s80_machine.specs.Came.{RanValue}
 use Rattle.s80_model.specs.declared.item.Query.{Query as SessionQuery}
 use Rattle.s80_model.specs.declared.item.SessionItem.{SessionItem}
 use Rattle.s80_model.specs.declared.item.SessionItem.TheVariants.{Chunk, Unended, Query}
@@ -27,8 +26,8 @@ pub data Ask : Type 0 where
   refuses : Refusal → Ask
   -- a definition is added
   adds : Change → Ask
-  -- a doIt of this text is added and evaluated; its run came to this, and so it is told
-  evaluates : List ℕ → RanValue → List ℕ → Ask
+  -- a doIt of this text is added and evaluated; what it comes to is told so, and it is stopped or not
+  evaluates : List ℕ → List ℕ → Bool → Ask
   -- a section of this head begins
   opens : SectionHead → Ask
   -- a section begins whose head is refused so
@@ -57,7 +56,7 @@ IsDefinitionIn text (DoIt own) = ⊥
 abbrev pub AsksPlain : List ℕ → Ask → Type 0
 AsksPlain text (refuses refusal) = IsRefusedText text refusal
 AsksPlain text (adds change) = Fits text × IsDefinitionIn text change
-AsksPlain text (evaluates own ran told) = Fits text × (own ≡ text) × IsNoDefinition text
+AsksPlain text (evaluates own told stopped) = Fits text × (own ≡ text) × IsNoDefinition text
 AsksPlain text _ = ⊥
 
 -- ---- heads
@@ -94,8 +93,3 @@ Asks (Chunk items.SectionEnd) ask = ask ≡ closes
 Asks (Chunk (items.TooLong role n)) ask = ask ≡ ask_of_too_long role n
 Asks Unended ask = ask ≡ refuses refusals.Unended
 Asks (Query query) ask = ask ≡ tells query
-
--- what is asked, with the run of a doIt left out
-abbrev pub but_for_runs : Ask → Ask
-but_for_runs (evaluates text ran told) = adds (DoIt text)
-but_for_runs ask = ask

@@ -14,24 +14,21 @@ use Rattle.s80_model.specs.declared.reply.Reply.TheVariants.{Silent, Accepted, R
 use Rattle.s80_model.specs.declared.section.Section.{Section}
 use Rattle.s80_model.specs.declared.section.Section.TheVariants as sections
 use Rattle.s80_model.specs.Section.{section_or}
+use Rattle.s80_model.specs.Settings.{Settings}
 use Rattle.s80_model.specs.Told.{told}
 use Rattle.s80_model.specs.declared.item.SessionItem.{SessionItem}
-use Rattle.s80_doit.specs.DoIt.{AreGiven, IsRunOf, is_stopped}
-use Rattle.s80_machine.specs.Came.{RanValue}
-use Rattle.s80_print.specs.Outcome.{outcome_text}
-use Rattle.s80_apply.specs.System.{IsSystemOf, SystemState}
+use Rattle.s80_doit.specs.Answer.{EvaluatesTo}
 use Rattle.s80_model.specs.Asked.{Ask, Asks, refuses, adds, evaluates, opens, refuses_head, adds_source, refuses_source, closes, tells}
 
--- the list of changes, the section in which the next item stands, how many ticks a doIt may take, and the run of the last that was evaluated
+-- the list of changes, the section in which the next item stands, and the settings
 pub record Work : Type 0 where
   pub changes : List Change
   pub section : Section
-  pub budget : ℕ
-  pub last_run : Option RanValue
+  pub settings : Settings
 
 -- before the first item of an input
-abbrev pub begun : ℕ → List Change → Work
-begun budget changes = record { changes = changes; section = sections.Top; budget = budget; last_run = None }
+abbrev pub begun : Settings → List Change → Work
+begun settings changes = record { changes = changes; section = sections.Top; settings = settings }
 
 abbrev pub reply_to_adding : Result (List Change) Refusal → Reply
 reply_to_adding (Ok changes) = Accepted
@@ -43,28 +40,15 @@ list_or (Err refusal) before = before
 
 -- ---- doIts
 
--- once it is added, a doIt is answered with what its run came to
-abbrev pub reply_to_evaluating : Result (List Change) Refusal → RanValue → List ℕ → Reply
-reply_to_evaluating (Ok changes) ran told = Evaluated (told ++ 10 ∷ []) (is_stopped ran.outcome.end)
-reply_to_evaluating (Err refusal) ran told = Refused refusal
+-- once it is added, a doIt is answered with what it comes to
+abbrev pub reply_to_evaluating : Result (List Change) Refusal → List ℕ → Bool → Reply
+reply_to_evaluating (Ok changes) told stopped = Evaluated (told ++ 10 ∷ []) stopped
+reply_to_evaluating (Err refusal) told stopped = Refused refusal
 
--- the run of the last doIt that was evaluated: of this one, where it is added
-abbrev pub run_or : Result (List Change) Refusal → RanValue → Option RanValue → Option RanValue
-run_or (Ok changes) ran before = Some ran
-run_or (Err refusal) ran before = before
-
--- among classes and methods of the list with the doIt, the run of its text's code under the budget came to this, and is told so
-pub record IsEvaluatedIn (changes : List Change) (text : List ℕ) (budget : ℕ) (ran : RanValue) (told : List ℕ) : Type 0 where
-  pub system : SystemState
-  pub is : IsSystemOf system (state_of changes)
-  pub given : AreGiven system
-  pub run : IsRunOf system text budget ran
-  pub told_is : told ≡ outcome_text system.table ran.outcome
-
--- the same where the doIt is added; a refused one isn't evaluated
-abbrev pub IsEvaluated : Result (List Change) Refusal → List ℕ → ℕ → RanValue → List ℕ → Type 0
-IsEvaluated (Ok changes) text budget ran told = IsEvaluatedIn changes text budget ran told
-IsEvaluated (Err refusal) text budget ran told = Unit {0}
+-- Where it is added, it is evaluated in the state that the list with it makes, under the budget. Of a refused one nothing is told.
+abbrev pub IsEvaluated : Result (List Change) Refusal → List ℕ → Settings → List ℕ → Bool → Type 0
+IsEvaluated (Ok changes) text settings told stopped = EvaluatesTo (state_of changes) text settings.budget told stopped
+IsEvaluated (Err refusal) text settings told stopped = (told ≡ []) × (stopped ≡ false)
 
 -- ---- sections
 
@@ -106,7 +90,7 @@ reply_in_section sections.Refused refusal = Silent
 abbrev pub reply_to : Work → Ask → Reply
 reply_to work (refuses refusal) = Refused refusal
 reply_to work (adds change) = reply_to_adding (add work.changes change)
-reply_to work (evaluates text ran told) = reply_to_evaluating (add work.changes (changes.DoIt text)) ran told
+reply_to work (evaluates text told stopped) = reply_to_evaluating (add work.changes (changes.DoIt text)) told stopped
 reply_to work (opens head) = reply_to_head (refusal_of_head work.changes head)
 reply_to work (refuses_head refusal) = Refused refusal
 reply_to work (adds_source source check) = reply_to_source work.changes work.section source check
@@ -118,9 +102,7 @@ reply_to work (tells query) = told (state_of work.changes) (length work.changes)
 abbrev pub work_after : Work → Ask → Work
 work_after work (refuses refusal) = work
 work_after work (adds change) = record work { changes = list_or (add work.changes change) work.changes }
-work_after work (evaluates text ran told) =
-    let added = add work.changes (changes.DoIt text) in
-    record work { changes = list_or added work.changes; last_run = run_or added ran work.last_run }
+work_after work (evaluates text told stopped) = record work { changes = list_or (add work.changes (changes.DoIt text)) work.changes }
 work_after work (opens head) = record work { section = section_of head (refusal_of_head work.changes head) }
 work_after work (refuses_head refusal) = record work { section = sections.Refused }
 work_after work (adds_source source check) = record work { changes = list_after_source work.changes work.section source check }
@@ -128,9 +110,9 @@ work_after work (refuses_source refusal) = work
 work_after work closes = record work { section = sections.Top }
 work_after work (tells query) = work
 
--- what is asked is so in this work: a run is that of its doIt
+-- what is asked is so in this work: a doIt is told what it comes to
 abbrev pub IsSo : Work → Ask → Type 0
-IsSo work (evaluates text ran told) = IsEvaluated (add work.changes (changes.DoIt text)) text work.budget ran told
+IsSo work (evaluates text told stopped) = IsEvaluated (add work.changes (changes.DoIt text)) text work.settings told stopped
 IsSo work _ = Unit {0}
 
 -- what an item asks in this work, and what items ask, one by one

@@ -5,6 +5,7 @@ use Rattle.std.specs.FinMap as map
 use Rattle.std.specs.Str.{bytes_eq}
 use Rattle.std.specs.Ordering.{nat_cmp}
 use Rattle.std.specs.Cmp.Lexicographic.{slice_cmp}
+use Rattle.s80_base.specs.declared.names.Side.{Side}
 use Rattle.s80_base.specs.declared.names.Side.TheVariants.{Instance, Class}
 use Rattle.s80_dict.specs.Dict.{Methods}
 use Rattle.s80_lex.specs.Spelling.{quoted}
@@ -12,24 +13,24 @@ use Rattle.s80_kernel.specs.Rows.{is_kernel_class}
 use Rattle.s80_form.specs.declared.definition.Definition.{Definition}
 use Rattle.s80_form.specs.Definition.{definition_text, joined}
 use Rattle.s80_class.specs.Classes.{Name, ClassRow, Classes}
-use Rattle.s80_apply.specs.State.{MethodRow, State}
+use Rattle.s80_apply.specs.State.{MethodRow, State, is_kernel_method}
 
 -- how many classes there are beside the kernel's
 abbrev pub own_classes : Classes → ℕ
 own_classes classes = length (filter (λ name. not (is_kernel_class name)) (map.keys classes))
 
--- whether a selector has a method that isn't the kernel's in category and source
-abbrev pub is_own : Option MethodRow → Bool
-is_own None = false
-is_own (Some row) = not row.from_kernel
+-- whether a selector has a method on one side of a class that isn't the kernel's in category and source
+abbrev pub is_own : Name → Side → List ℕ → Option MethodRow → Bool
+is_own name side selector None = false
+is_own name side selector (Some row) = not (is_kernel_method name side selector row)
 
-abbrev pub own_methods_in : Methods MethodRow → ℕ
-own_methods_in methods = length (filter (λ selector. is_own (map.get methods selector)) (map.keys methods))
+abbrev pub own_methods_in : Name → Side → Methods MethodRow → ℕ
+own_methods_in name side methods = length (filter (λ selector. is_own name side selector (map.get methods selector)) (map.keys methods))
 
 -- how many such methods there are on both sides of some classes
 abbrev pub own_methods_of : State → List Name → ℕ
 own_methods_of state [] = 0
-own_methods_of state (name ∷ names) = (own_methods_in (state.methods name Instance) + own_methods_in (state.methods name Class)) + own_methods_of state names
+own_methods_of state (name ∷ names) = (own_methods_in name Instance (state.methods name Instance) + own_methods_in name Class (state.methods name Class)) + own_methods_of state names
 
 abbrev pub own_methods : State → ℕ
 own_methods state = own_methods_of state (map.keys state.classes)

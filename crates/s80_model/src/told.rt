@@ -1,11 +1,13 @@
 // What is told of all classes.
 ghost use Rattle.std.specs.Prelude.{◌≡◌, ◌+◌, ◌++◌, IfOk};
+ghost use Rattle.s80_base.specs.declared.names.Side.{Side};
 ghost use Rattle.std.specs.FinMap as map;
 ghost use Rattle.s80_base.specs.declared.names.Side.TheVariants.{Instance, Class};
 ghost use Rattle.s80_apply.specs.State.{State};
 ghost use Rattle.s80_apply.specs.Entries.{AreEntriesOf};
 ghost use Rattle.s80_apply.specs.System.{IsSystemOf};
-ghost use Rattle.s80_model.specs.Entries.{own_entry};
+ghost use Rattle.s80_class.specs.Classes.{Name};
+ghost use Rattle.s80_model.specs.Entries.{TellOwnOf, tells_own};
 ghost use Rattle.s80_model.specs.Texts.{classes_text, own_classes, own_methods, own_methods_in, recovered_text};
 
 use s80_apply::System;
@@ -43,7 +45,7 @@ fn own_methods(alloc: Global, system: &System) -> Result<usize, OutOfMemory>
 
 /// How many such methods a class has on both sides.
 fn own_methods_of(alloc: Global, system: &System, name: &Text) -> Result<usize, OutOfMemory>
-    ensures { (state : State) → IsSystemOf system.now state → IfOk result (λ count. count ≡ own_methods_in (state.methods name.now Instance) + own_methods_in (state.methods name.now Class)) }
+    ensures { (state : State) → IsSystemOf system.now state → IfOk result (λ count. count ≡ own_methods_in name.now Instance (state.methods name.now Instance) + own_methods_in name.now Class (state.methods name.now Class)) }
 {
     let Some(number) = system.find(name) else {
         return Ok(0);
@@ -54,9 +56,10 @@ fn own_methods_of(alloc: Global, system: &System, name: &Text) -> Result<usize, 
     Ok(count.checked_add(more).ok_or(OutOfMemory)?)
 }
 
-/// How many methods of a dictionary aren't the kernel's.
+/// How many methods of a dictionary aren't the kernel's, where its entries tell it.
 fn own_methods_in(alloc: Global, methods: &MethodDict<Verified>) -> Result<usize, OutOfMemory>
-    ensures { (rows : _) → AreEntriesOf methods.now.methods rows → IfOk result (λ count. count ≡ own_methods_in rows) }
+    ensures { (name : Name) (side : Side) (rows : _) → AreEntriesOf methods.now.methods rows → TellOwnOf name side methods.now.methods
+        → IfOk result (λ count. count ≡ own_methods_in name side rows) }
 {
     let selectors = methods.selectors_sorted(alloc)?;
     let mut count = 0;
@@ -68,9 +71,9 @@ fn own_methods_in(alloc: Global, methods: &MethodDict<Verified>) -> Result<usize
     Ok(count)
 }
 
-/// Whether the method of a selector isn't the kernel's.
+/// Whether the entry of a selector tells that its method isn't the kernel's.
 fn is_own(methods: &MethodDict<Verified>, selector: &Text) -> bool
-    ensures { result ≡ own_entry (map.get methods.now.methods selector.now) }
+    ensures { result ≡ tells_own (map.get methods.now.methods selector.now) }
 {
     match methods.get(selector) {
         Some(entry) => !entry.from_kernel,

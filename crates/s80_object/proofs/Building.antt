@@ -11,7 +11,7 @@ use Rattle.s80_base.specs.declared.literal.Literals.{Literals, out-Literals}
 use Rattle.s80_base.specs.declared.literal.NumberKind.{NumberKind}
 use Rattle.s80_base.specs.declared.text.OutOfMemory.{OutOfMemory}
 use Rattle.s80_base.specs.Literal.{LiteralTree, LiteralTrees, small, character, str, symbol, array, true_literal, false_literal, nil_literal, number, no_literals, literals, literals_list, literal_of, literals_of, literals_from, literal_layer, literals_layer}
-use Rattle.s80_base.proofs.Lists.{literals_open}
+use Rattle.s80_base.proofs.lemmas.Lists.{literals_open}
 use Rattle.s80_object.specs.declared.objects.literal.Marks.{Marks}
 use Rattle.s80_object.specs.declared.value.ObjectFault.{ObjectFault}
 use Rattle.s80_object.specs.declared.value.ObjectFault.TheVariants.{Full, Memory}
@@ -20,7 +20,7 @@ use Rattle.s80_object.specs.Body.{BodyTree, pointers, bytes, words_of, word_limi
 use Rattle.s80_object.specs.Objects.{State, Opaque}
 use Rattle.s80_object.specs.Literal.{Built, built, built_all, made, named, opaque_number, is_opaque, with_first, is_object, noted, made_before, PushesFirst, PushesLiteral}
 use Rattle.s80_object.specs.Steps.{AreMarks, IsBefore, left_of, words_in, words_in_all}
-use Rattle.s80_object.proofs.Left.{literals_left, literals_next, literals_done}
+use Rattle.s80_base.proofs.lemmas.LiteralLists.{literals_left, literals_next, literals_done}
 use Rattle.s80_object.proofs.Words.{words_of-append}
 
 -- ---- lists

@@ -1,21 +1,12 @@
--- Room, and lists of literals by what is left of them.
-use Rattle.std.proofs.Common.{◌≡◌, ◌∙◌, ℕ, ◌+◌, ◌-◌, ◌≤◌, ◌<◌, arith, List, ◌∷◌, length, map, drop, get_or, Option, Some, None, SomeIff, sym, ap}
+-- Room for what is left of a list of literals.
+use Rattle.std.proofs.Common.{◌≡◌, ◌∙◌, ℕ, ◌+◌, ◌-◌, ◌≤◌, ◌<◌, arith, List, length, map, get_or, Option, Some, None, SomeIff, sym, ap}
 use Rattle.std.proofs.lemmas.Bool.Decides.{nat_tests}
-use Rattle.std.proofs.lemmas.List.{drop_all, drop_more}
-use Rattle.s80_base.specs.Literal.{LiteralTrees, literal_of, literals_of, literals_from, literals_list, literals, no_literals}
+use Rattle.s80_base.specs.Literal.{LiteralTrees, literal_of, literals_of, literals_from, literals_list, literals}
 use Rattle.s80_base.specs.declared.literal.Literal.{Literal}
 use Rattle.s80_base.specs.declared.literal.Literals.{Literals, out-Literals}
-use Rattle.s80_base.proofs.Lists.{literals_open, literals_out, length_map}
+use Rattle.s80_base.proofs.lemmas.Lists.{literals_open, literals_out, length_map}
+use Rattle.s80_base.proofs.lemmas.LiteralLists.{literals_left, literals_next, literals_done}
 use Rattle.s80_object.specs.Steps.{left_of, words_in, words_in_all}
-
-abbrev pub literals_left : List Literal → ℕ → LiteralTrees
-literals_left xs i = literals_from (map literal_of (drop i xs))
-
-pub literals_next : (xs : List Literal) (i : ℕ) (x : Literal) → i < length xs → x ≡ get_or xs i x → literals_left xs i ≡ literals (literal_of x) (literals_left xs (i + 1))
-literals_next xs i x within is = ap (λ l. literals_from (map literal_of l)) (drop_more xs i x within ∙ ap (λ y. y ∷ drop (i + 1) xs) (sym is))
-
-pub literals_done : (xs : List Literal) (i : ℕ) → length xs ≤ i → literals_left xs i ≡ no_literals
-literals_done xs i past = ap (λ l. literals_from (map literal_of l)) (drop_all i xs past)
 
 module _ (room a b : ℕ) where
   pub left_some : (left : ℕ) → left_of room a ≡ Some left → left_of room (a + b) ≡ left_of left b

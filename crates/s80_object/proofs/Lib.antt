@@ -1,5 +1,5 @@
+pub mod lemmas
 pub mod Words
-pub mod Kept
 pub mod Left
 pub mod Building
 pub mod Homes

@@ -5,7 +5,7 @@ use Rattle.std.proofs.lemmas.Option.{slice_get-map}
 use Rattle.std.specs.Option.{option_map, option_map_or}
 use Rattle.s80_base.specs.declared.names.Side.TheVariants as side
 use Rattle.s80_form.specs.declared.definition.Kind.TheVariants as kind
-use Rattle.s80_class.specs.Table.{Table, IsClass}
+use Rattle.s80_class.specs.Table.{Table, IsClass, number_of}
 use Rattle.s80_object.specs.Body.{BodyTree, pointers, bytes, words, home, block, blank, kind_of}
 use Rattle.s80_object.specs.Objects.{State, body_at, text_of}
 use Rattle.s80_object.specs.declared.value.BodyKind.{BodyKind}
@@ -13,7 +13,7 @@ use Rattle.s80_object.specs.declared.value.BodyKind.TheVariants as body
 use Rattle.s80_object.specs.declared.value.Value.{Value}
 use Rattle.s80_object.specs.declared.value.Value.TheVariants.{Small, Symbol, ClassRef, Object}
 use Rattle.s80_prims.specs.declared.applied.Applied.{Applied}
-use Rattle.s80_prims.specs.Classes.{can_be_new, kind_of_class, number_of}
+use Rattle.s80_prims.specs.Classes.{can_be_new, kind_of_class}
 use Rattle.s80_prims.specs.Known.{AreKnown, BodyIsKnown}
 use Rattle.s80_prims.specs.Primitives.{Effect, World, at_place, makes, new_with, of_class, prints, readable, readable_bytes, primitive, string_of}
 use Rattle.s80_prims.specs.Printed.{printed}

@@ -7,9 +7,9 @@ use Rattle.std.proofs.lemmas.Bool.{or_right}
 use Rattle.std.specs.FinMap as map
 use Rattle.s80_kernel.specs.Rows.{is_kernel_class}
 use Rattle.s80_class.specs.Classes.{Name, ClassRow, Classes, IsLine, IsValid, lineage, is_under, descends}
-use Rattle.s80_class.specs.Table.{Table, IsClass, IsNumberOf}
-use Rattle.s80_class.proofs.Lines.{Entry, passes, apart_passed, eq_not, lineage_line}
-use Rattle.s80_prims.specs.Classes.{class_name, is_kind_of, number_of}
+use Rattle.s80_class.specs.Table.{Table, IsClass, IsNumberOf, class_name, number_of}
+use Rattle.s80_class.proofs.lemmas.Lines.{Entry, passes, apart_passed, eq_not, lineage_line}
+use Rattle.s80_prims.specs.Classes.{is_kind_of}
 use Rattle.s80_prims.specs.Known.{HasKernel}
 
 pub none_is_some : {X : Type 0} {x : X} → None ≡ Some x → ⊥

@@ -13,7 +13,7 @@ use Rattle.s80_form.specs.declared.definition.Kind.{Kind}
 use Rattle.s80_form.specs.declared.definition.Kind.TheVariants as kind
 use Rattle.s80_kernel.specs.Rows as rows
 use Rattle.s80_class.specs.Classes.{Name}
-use Rattle.s80_class.specs.Table.{Table, IsClass}
+use Rattle.s80_class.specs.Table.{Table, IsClass, number_of}
 use Rattle.s80_object.specs.Body.{BodyTree, pointers, bytes, words, home, block, blank, bytes_of, cost, items_of, number_to, words_of, word_limit}
 use Rattle.s80_object.specs.Literal.{added_once, named}
 use Rattle.s80_object.specs.Objects.{State, body_at, item_put, items_at, number_kind_of, placed, with_body, with_body_at}
@@ -26,7 +26,7 @@ use Rattle.s80_prims.specs.declared.applied.Applied.{Applied}
 use Rattle.s80_prims.specs.declared.applied.Applied.TheVariants.{Done, Fails, Stops}
 use Rattle.s80_prims.specs.declared.stop.Stop.TheVariants.{Error, ObjectsFull, TranscriptFull}
 use Rattle.s80_prims.specs.Arithmetic.{Row, arithmetic, divided, exact, floor_quotient, floor_rest, is_less, is_zero, ranged, rows as number_rows, shifted, truth}
-use Rattle.s80_prims.specs.Classes.{body_class, can_be_new, class_of, kernel_class, kind_of_class, number_class, number_of, variables_of}
+use Rattle.s80_prims.specs.Classes.{body_class, can_be_new, class_of, kernel_class, kind_of_class, number_class, variables_of}
 use Rattle.s80_prims.specs.Kept.{AnswersKnown, HasNumbers, KeepsKnown}
 use Rattle.s80_prims.specs.Known.{AreKnown, BodyIsKnown, IsKnown}
 use Rattle.s80_prims.specs.Primitives.{Alone, Effect, WithOne, WithTwo, World, at_place, character_of, done, fails, gives, makes, names, new_indexed, new_plain, new_with, number_of_character, of_class, primitive, prints, put_at, put_character_at, put_done, puts, puts_character, readable, readable_bytes, rows_alone, rows_with_one, rows_with_two, same, stops, string_of, symbol_text, text_bytes, two_numbers, with_text, writes, transcript_limit}

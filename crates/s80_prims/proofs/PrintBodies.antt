@@ -6,7 +6,7 @@ use Rattle.std.proofs.lemmas.List.{append-nil, take_all}
 use Rattle.std.proofs.lemmas.List.Elements.{All-head, All-tail}
 use Rattle.std.proofs.lemmas.Option.{slice_get-get_or}
 use Rattle.std.proofs.lemmas.Result.{on_ok_weaker}
-use Rattle.s80_class.specs.Table.{Table, IsClass}
+use Rattle.s80_class.specs.Table.{Table, IsClass, class_name}
 use Rattle.s80_object.specs.Body.{BodyTree, pointers, bytes, words, home, block, bytes_of, items_of, kind_of}
 use Rattle.s80_object.specs.Objects.{State, body_at, home_parts_of, item, items_at, read_at, text_of}
 use Rattle.s80_object.specs.declared.value.BodyKind.{BodyKind}
@@ -16,7 +16,7 @@ use Rattle.s80_object.specs.declared.value.ObjectFault.TheVariants as fault
 use Rattle.s80_object.specs.declared.value.Value.{Value}
 use Rattle.s80_object.specs.declared.value.Value.TheVariants as value
 use Rattle.s80_prims.specs.declared.front.Front.{Front}
-use Rattle.s80_prims.specs.Classes.{body_class, class_name, is_kind_of, kernel_class}
+use Rattle.s80_prims.specs.Classes.{body_class, is_kind_of, kernel_class}
 use Rattle.s80_prims.specs.Front.{Holds, Writes}
 use Rattle.s80_prims.specs.Known.{AreKnown, BodyIsKnown, IsKnown}
 use Rattle.s80_prims.specs.Printed.{array_text, body_text, bytes_text, element, is_array, plain, plain_body, whole, with_article}

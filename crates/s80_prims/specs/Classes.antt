@@ -1,34 +1,21 @@
 -- Classes as values are seen with: by their numbers in the table.
-use Rattle.std.specs.Prelude.{ℕ, suc, List, [], ◌∷◌, Bool, not, codes, Option, Some, None, unwrap_or, if◌then◌else◌}
+use Rattle.std.specs.Prelude.{ℕ, List, [], ◌∷◌, Bool, not, codes, Option, Some, None, unwrap_or}
 use Rattle.std.specs.List.{list_any}
-use Rattle.std.specs.Option.{option_map, option_map_or}
-use Rattle.std.specs.Str.{bytes_eq}
+use Rattle.std.specs.Option.{option_map_or}
 use Rattle.s80_base.specs.declared.literal.NumberKind.{NumberKind}
 use Rattle.s80_base.specs.declared.literal.NumberKind.TheVariants.{LargePositive, LargeNegative, Float}
 use Rattle.s80_base.specs.declared.names.Side.TheVariants as side
 use Rattle.s80_form.specs.declared.definition.Kind.{Kind}
 use Rattle.s80_class.specs.Classes.{Name, inherited_of, is_under}
-use Rattle.s80_class.specs.Table.{Table, name_of}
+use Rattle.s80_class.specs.Table.{Table, class_name, number_of}
 use Rattle.s80_object.specs.Body.{BodyTree, pointers, bytes, words, home, block}
 use Rattle.s80_object.specs.Objects.{State, body_at, number_kind_of}
 use Rattle.s80_object.specs.declared.value.Value.{Value}
 use Rattle.s80_object.specs.declared.value.Value.TheVariants as value
 
--- the number of the class of this name
-abbrev pub onto_number : Name → Option Name → Option ℕ → Option ℕ
-onto_number word None rest = option_map suc rest
-onto_number word (Some name) rest = if bytes_eq name word then Some 0 else option_map suc rest
-
-abbrev pub number_of : List (Option Name) → Name → Option ℕ
-number_of [] word = None
-number_of (n ∷ names) word = onto_number word n (number_of names word)
-
 -- a class of the kernel as a value
 abbrev pub kernel_class : Table → Name → Value
 kernel_class t word = value.ClassRef (unwrap_or (number_of t.names word) 0) side.Instance
-
-abbrev pub class_name : Table → ℕ → Name
-class_name t c = unwrap_or (name_of t.names c) []
 
 -- the class of this number is one of that name or descends from it
 abbrev pub is_kind_of : Table → ℕ → Name → Bool

@@ -5,7 +5,7 @@ use Rattle.s80_base.specs.declared.names.Side.{Side}
 use Rattle.s80_base.specs.declared.names.Side.TheVariants as side
 use Rattle.s80_form.specs.declared.definition.Kind.{Kind}
 use Rattle.s80_form.specs.declared.definition.Kind.TheVariants as kind
-use Rattle.s80_class.specs.Table.{Table}
+use Rattle.s80_class.specs.Table.{Table, number_of}
 use Rattle.s80_object.specs.Body.{BodyTree, bytes, pointers, blank, bytes_of, cost, words_of, word_limit}
 use Rattle.s80_object.specs.Literal.{named}
 use Rattle.s80_object.specs.Objects.{State, body_at, item_put, items_at, put_with, text_of, with_body, with_body_at}
@@ -19,7 +19,7 @@ use Rattle.s80_prims.specs.declared.applied.Applied.TheVariants.{Done, Fails, St
 use Rattle.s80_prims.specs.declared.stop.Stop.{Stop}
 use Rattle.s80_prims.specs.declared.stop.Stop.TheVariants.{Error, ObjectsFull, TranscriptFull}
 use Rattle.s80_prims.specs.Arithmetic.{arithmetic, ranged, truth}
-use Rattle.s80_prims.specs.Classes.{can_be_new, class_of, is_kind_of, kind_of_class, number_of, variables_of}
+use Rattle.s80_prims.specs.Classes.{can_be_new, class_of, is_kind_of, kind_of_class, variables_of}
 use Rattle.s80_prims.specs.Printed.{printed}
 
 -- objects, and what was written

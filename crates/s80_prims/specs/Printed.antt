@@ -7,12 +7,12 @@ use Rattle.s80_base.specs.declared.names.Side.{Side}
 use Rattle.s80_base.specs.declared.names.Side.TheVariants as side
 use Rattle.s80_lex.specs.Spelling.{quoted}
 use Rattle.s80_class.specs.Classes.{Name}
-use Rattle.s80_class.specs.Table.{Table}
+use Rattle.s80_class.specs.Table.{Table, class_name}
 use Rattle.s80_object.specs.Body.{BodyTree, pointers, bytes, words, home, block, items_of}
 use Rattle.s80_object.specs.Objects.{State, body_at, text_of}
 use Rattle.s80_object.specs.declared.value.Value.{Value}
 use Rattle.s80_object.specs.declared.value.Value.TheVariants as value
-use Rattle.s80_prims.specs.Classes.{class_name, class_number, is_kind_of}
+use Rattle.s80_prims.specs.Classes.{class_number, is_kind_of}
 
 abbrev pub begins_with_vowel : Name → Bool
 begins_with_vowel [] = false

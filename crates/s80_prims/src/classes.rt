@@ -5,11 +5,11 @@ ghost use Rattle.std.specs.Option.{option_map_or};
 ghost use Rattle.s80_kernel.specs.Rows.{is_kernel_class};
 ghost use Rattle.s80_class.specs.Classes.{IsValid};
 ghost use Rattle.s80_class.specs.Counted.{counted};
-ghost use Rattle.s80_class.specs.Table.{IsClass, IsNumberOf};
+ghost use Rattle.s80_class.specs.Table.{IsClass, IsNumberOf, number_of};
 ghost use Rattle.s80_object.specs.Objects.{body_at};
 ghost use Rattle.s80_object.specs.declared.value.Value.TheVariants as value;
 ghost use Rattle.s80_base.specs.declared.names.Side.TheVariants as side;
-ghost use Rattle.s80_prims.specs.Classes.{body_class, can_be_new, class_of, is_kind_of, kernel_class, kind_of_class, number_class, number_of, variables_of};
+ghost use Rattle.s80_prims.specs.Classes.{body_class, can_be_new, class_of, is_kind_of, kernel_class, kind_of_class, number_class, variables_of};
 ghost use Rattle.s80_prims.specs.Known.{HasKernel, IsKnown};
 
 use s80_base::{NumberKind, OutOfMemory, Side, Text};

@@ -1,10 +1,9 @@
 // The printed form of values.
 ghost use Rattle.std.specs.Prelude.{◌≡◌, ◌<◌, ◌+◌, ◌^◌, [], IfOk, IsSome, OnOk, Some, length, option_and_then, slice_get, unwrap_or};
 ghost use Rattle.std.specs.Option.{option_map};
-ghost use Rattle.s80_class.specs.Table.{IsClass};
+ghost use Rattle.s80_class.specs.Table.{IsClass, class_name};
 ghost use Rattle.s80_object.specs.Body.{bytes_of, kind_of};
 ghost use Rattle.s80_object.specs.Objects.{body_at, items_at, text_of};
-ghost use Rattle.s80_prims.specs.Classes.{class_name};
 ghost use Rattle.s80_prims.specs.Front.{Holds, Writes};
 ghost use Rattle.s80_prims.specs.Known.{AreKnown, HasKernel, IsKnown};
 ghost use Rattle.s80_prims.specs.Printed.{array_text, begins_with_vowel, bytes_text, class_text, element, plain, printed, whole, with_article};

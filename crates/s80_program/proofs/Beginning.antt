@@ -6,7 +6,8 @@ use Rattle.s80_chunk.specs.Chunks.Reads.{stop}
 use Rattle.s80_change.specs.declared.change.Change.{Change}
 use Rattle.s80_disk.specs.Image.{Image}
 use Rattle.s80_disk.specs.Moments.{LeavesOnly}
-use Rattle.s80_disk.proofs.Run.{joined, weaker}
+use Rattle.s80_disk.proofs.lemmas.Run.{joined, weaker}
+use Rattle.s80_disk.specs.Shown.{Shown}
 use Rattle.s80_keeper.specs.declared.start.Damage.{Damage}
 use Rattle.s80_change.specs.Block.{blocks}
 use Rattle.s80_disk.specs.declared.disk.FileId.{FileId}
@@ -15,21 +16,21 @@ use Rattle.s80_log.specs.Log.{log_file}
 use Rattle.s80_keeper.specs.Keeper.{KeeperState, Knows}
 use Rattle.s80_keeper.specs.Standing.{StandsFor, ReadsFor}
 use Rattle.s80_keeper.specs.Start.{IsDamage, StartLeaves}
-use Rattle.s80_keeper.proofs.Damages.{damaged_has_log}
+use Rattle.s80_keeper.proofs.lemmas.Damages.{damaged_has_log}
 use Rattle.s80_keeper.proofs.OneList.{some_log}
-use Rattle.s80_keeper.proofs.Standing.{stands_leaves}
+use Rattle.s80_keeper.proofs.lemmas.Standing.{stands_leaves}
 use Rattle.s80_session.specs.declared.end.SessionEnd.{SessionEnd}
 use Rattle.s80_session.specs.declared.end.SessionEnd.TheVariants as ends
 use Rattle.s80_session.specs.Putting.{IsAsBefore}
 use Rattle.s80_model.specs.declared.item.SessionItem.{SessionItem}
 use Rattle.s80_session.specs.declared.session.Session.{Session}
 use Rattle.s80_session.specs.Session.{keeper_of}
-use Rattle.s80_session.specs.Run.{Shown, HasKept}
+use Rattle.s80_session.specs.Run.{HasKept}
 use Rattle.s80_session.specs.Working.{IsAt, Starts, IsSessionStart}
-use Rattle.s80_session.proofs.Keeping.{keeps_stands}
-use Rattle.s80_session.proofs.Lasting.{keeps_at_start}
+use Rattle.s80_session.proofs.lemmas.Keeping.{keeps_stands}
+use Rattle.s80_session.proofs.lemmas.Lasting.{keeps_at_start}
 use Rattle.s80_program.specs.declared.status.Status.TheVariants as status
-use Rattle.s80_program.specs.Command.{default_budget}
+use Rattle.s80_program.specs.Command.{default_settings}
 use Rattle.s80_program.specs.Ending.{IsDiskEnd, status_after}
 use Rattle.s80_program.specs.Leaves.{StartsWith, LeavesFor, KeepsFor, TellsDamage, beginning}
 
@@ -75,7 +76,7 @@ lost_at_start item (ends.Damaged damage) may_leave now changes input before is l
 lost_at_start item ends.TooLong may_leave now changes input before is left taken = absurd is
 
 -- the session doesn't start
-pub no_session : (item : Option SessionItem) (end : SessionEnd) (may_leave : Image → Type 0) (now : Shown) (changes : List Change) (input before : List ℕ) → Starts (Err end) may_leave now default_budget changes before → now.left ≡ Some input → now.taken ≡ Some before → LeavesFor item (status_after (Err end)) may_leave now changes input before
+pub no_session : (item : Option SessionItem) (end : SessionEnd) (may_leave : Image → Type 0) (now : Shown) (changes : List Change) (input before : List ℕ) → Starts (Err end) may_leave now default_settings changes before → now.left ≡ Some input → now.taken ≡ Some before → LeavesFor item (status_after (Err end)) may_leave now changes input before
 no_session None ends.Memory may_leave now changes input before h left taken = inl (record {
   asks = [];
   first = ([], inl ([], input, stop refl refl, refl), tt);
@@ -140,12 +141,9 @@ damage_found files (ends.Read failed) is h = absurd h
 damage_found files (ends.Write failed) is h = absurd h
 damage_found files ends.TooLong is h = absurd h
 
--- what is shown stays but for the files
-pub shown_but_files : (old now : Shown) → now ≡ old → now ≡ record old { files = now.files }
-shown_but_files old now same = let P : Shown → Type 0 = λ o. o ≡ record old { files = o.files } in subst P (sym same) refl
-
-pub shown_through : (old mid now : Shown) → mid ≡ old → now ≡ record mid { files = now.files } → now ≡ record old { files = now.files }
-shown_through old mid now same here = let P : Shown → Type 0 = λ o. now ≡ record o { files = now.files } in subst P same here
+-- where each file reads as before, nothing that is shown changes
+pub unchanged : (old mid now : Shown) → mid ≡ old → now ≡ record mid { files = now.files } → ((file : FileId) → now.files file ≡ mid.files file) → now ≡ old
+unchanged old mid now chosen is same = is ∙ (λ i. record mid { files = λ file. same file i }) ∙ chosen
 
 -- what the files have of the keeper's log, where the mark alone was written
 log_or_log : (b : Bool) → (if b then Log0 else Log1) ≢ Mark
@@ -159,5 +157,6 @@ pub knows_on : (files now : Image) (keeper : KeeperState) (changes : List Change
 knows_on files now keeper changes same h = record {
   log = ap (take keeper.log.end) (same (log_file keeper.log.number) (no_mark keeper.log.number)) ∙ h.log;
   system = h.system;
+  places = h.places;
   count = h.count;
 }

@@ -1,47 +1,48 @@
 -- The status of work that ended so.
-use Rattle.std.proofs.Common.{◌≡◌, ◌≢◌, inl, inr, ℕ, List, [], ◌∷◌, ◌++◌, refl, sym, ap, subst, ◌∙◌, Result, Ok, Err, Option, Some, Bool, true, false, arith}
+use Rattle.std.proofs.Common.{◌≡◌, ◌≢◌, inl, inr, ℕ, List, [], ◌∷◌, ◌++◌, refl, sym, ap, subst, ◌∙◌, Result, Ok, Err, Option, None, Some, Bool, true, false}
 use Rattle.std.proofs.lemmas.List.{append-nil}
-use Rattle.std.specs.Prelude.{◌||◌, ◌≤◌, length}
+use Rattle.std.specs.Prelude.{◌||◌}
 use Rattle.s80_change.specs.declared.change.Change.{Change}
-use Rattle.s80_base.specs.Causes.{Rose}
 use Rattle.s80_disk.specs.Image.{Image}
+use Rattle.s80_disk.specs.Shown.{Shown, Faults}
 use Rattle.s80_session.specs.declared.end.SessionEnd.{SessionEnd}
 use Rattle.s80_session.specs.declared.end.SessionEnd.TheVariants as ends
 use Rattle.s80_machine.specs.Came.{RanValue}
 use Rattle.s80_model.specs.declared.item.SessionItem.{SessionItem}
 use Rattle.s80_model.specs.declared.item.SessionItem.TheVariants.{Chunk, Unended, Query}
 use Rattle.s80_model.specs.Asked.{Ask, evaluates}
-use Rattle.s80_session.specs.Ending.{Faults, NoFewer, HasReason, EndsForReason, EndsForReasonOrDamage, StartsForReason, Counts, CountsFor, MeetsNoDamage, SourceCounts}
+use Rattle.s80_session.specs.Ending.{HasReason, EndsForReason, EndsForReasonOrDamage, StartsForReason, Counts, CountsFor, MeetsNoDamage, SourceCounts}
 use Rattle.s80_model.specs.declared.item.Query.TheVariants as queries
 use Rattle.s80_model.specs.Replies.{work_after, reply_text, is_trouble}
-use Rattle.s80_session.specs.Session.{keeper_of, troubled_of}
-use Rattle.s80_session.specs.Run.{Shown, Ends, Finished}
+use Rattle.s80_session.specs.Session.{Was, keeper_of, troubled_of}
+use Rattle.s80_session.specs.Run.{Ends, Finished}
 use Rattle.s80_session.specs.Working.{IsAt, Stepped}
 use Rattle.s80_session.specs.declared.session.Session.{Session}
-use Rattle.s80_session.proofs.Keeping.{keeps_stands}
+use Rattle.s80_session.proofs.lemmas.Keeping.{keeps_stands}
 use Rattle.s80_program.specs.declared.status.Status.TheVariants as status
 use Rattle.s80_program.specs.Ending.{IsDiskEnd, StatusHasReason, status_after}
 use Rattle.s80_program.specs.Leaves.{AsksFirst, IsAnswered, ItemLeaves, RunLeaves, TellsDamage, beginning, first_reply, list_after}
 
 -- a run that came to its end
-done_so : (may_leave : Image → Type 0) (now : Shown) (troubled : Bool) (ran : Option RanValue) (changes : List Change) (input before : List ℕ) → Finished may_leave now (beginning changes) input before troubled ran → RunLeaves (status_after (Ok troubled)) may_leave now changes input before
+done_so : (may_leave : Image → Type 0) (now : Shown) (troubled : Bool) (ran : Option RanValue) (changes : List Change) (input before : List ℕ) → Finished may_leave now (beginning changes) input before troubled None ran → RunLeaves (status_after (Ok troubled)) may_leave now changes input before
 done_so may_leave now true ran changes input before h = (ran, h)
 done_so may_leave now false ran changes input before h = (ran, h)
 
-pub run_done : {T : Type 0} (done : T) (may_leave : Image → Type 0) (now : Shown) (past troubled : Bool) (ran : Option RanValue) (changes : List Change) (input before : List ℕ) → past ≡ false → Ends (Ok done) may_leave now past troubled ran (beginning changes) input before → RunLeaves (status_after (Ok troubled)) may_leave now changes input before
-run_done done may_leave now past troubled ran changes input before calm h =
-    let P : Bool → Type 0 = λ b. Finished may_leave now (beginning changes) input before b ran in
-    let same : troubled ≡ h.0 = h.1 ∙ ap (λ b. b || h.0) calm in
-    done_so may_leave now troubled ran changes input before (subst P (sym same) h.2)
+pub run_done : {T : Type 0} (done : T) (may_leave : Image → Type 0) (now : Shown) (was is_now : Was) (changes : List Change) (input before : List ℕ) → was.troubled ≡ false → was.last_run ≡ None → Ends (Ok done) may_leave now was is_now (beginning changes) input before → RunLeaves (status_after (Ok is_now.troubled)) may_leave now changes input before
+run_done done may_leave now was is_now changes input before calm no_run h =
+    let P : Bool → Type 0 = λ b. Finished may_leave now (beginning changes) input before b was.last_run is_now.last_run in
+    let Q : Option RanValue → Type 0 = λ o. Finished may_leave now (beginning changes) input before is_now.troubled o is_now.last_run in
+    let same : is_now.troubled ≡ h.0 = h.1 ∙ ap (λ b. b || h.0) calm in
+    done_so may_leave now is_now.troubled is_now.last_run changes input before (subst Q no_run (subst P (sym same) h.2))
 
 -- a run that broke off
-pub run_ended : (T : Type 0) (end : SessionEnd) (may_leave : Image → Type 0) (now : Shown) (past troubled : Bool) (ran : Option RanValue) (changes : List Change) (input before : List ℕ) → Ends {T = T} (Err end) may_leave now past troubled ran (beginning changes) input before → RunLeaves (status_after (Err end)) may_leave now changes input before
-run_ended T ends.Memory may_leave now past troubled ran changes input before h = h
-run_ended T (ends.Read failed) may_leave now past troubled ran changes input before h = h
-run_ended T (ends.Write failed) may_leave now past troubled ran changes input before h = h
-run_ended T (ends.Disk failed) may_leave now past troubled ran changes input before h = h
-run_ended T (ends.Damaged damage) may_leave now past troubled ran changes input before h = absurd h
-run_ended T ends.TooLong may_leave now past troubled ran changes input before h = h
+pub run_ended : (T : Type 0) (end : SessionEnd) (may_leave : Image → Type 0) (now : Shown) (was is_now : Was) (changes : List Change) (input before : List ℕ) → Ends {T = T} (Err end) may_leave now was is_now (beginning changes) input before → RunLeaves (status_after (Err end)) may_leave now changes input before
+run_ended T ends.Memory may_leave now was is_now changes input before h = h
+run_ended T (ends.Read failed) may_leave now was is_now changes input before h = h
+run_ended T (ends.Write failed) may_leave now was is_now changes input before h = h
+run_ended T (ends.Disk failed) may_leave now was is_now changes input before h = h
+run_ended T (ends.Damaged damage) may_leave now was is_now changes input before h = absurd h
+run_ended T ends.TooLong may_leave now was is_now changes input before h = h
 
 answered_ask : (may_leave : Image → Type 0) (now : Shown) (session : Session) (changes : List Change) (ask : Ask) (before : List ℕ) → IsAt may_leave now session (work_after (beginning changes) ask) (before ++ reply_text (first_reply changes ask)) → IsAnswered may_leave now changes ask before
 answered_ask may_leave now session changes ask before h = record {
@@ -54,14 +55,14 @@ ask_done : (may_leave : Image → Type 0) (now : Shown) (session : Session) (was
 ask_done may_leave now session was true changes item ask before asked is h calm = (ask, asked, answered_ask may_leave now session changes ask before h, let P : Bool → Type 0 = λ b. true ≡ (b || is_trouble (first_reply changes ask)) in sym (subst P calm is))
 ask_done may_leave now session was false changes item ask before asked is h calm = (ask, asked, answered_ask may_leave now session changes ask before h, let P : Bool → Type 0 = λ b. false ≡ (b || is_trouble (first_reply changes ask)) in sym (subst P calm is))
 
-pub item_done : (may_leave : Image → Type 0) (now : Shown) (session : Session) (was : Bool) (changes : List Change) (item : SessionItem) (before : List ℕ) → Stepped {T = Unit {0}} (Ok tt) may_leave now session was (beginning changes) before item → was ≡ false → ItemLeaves (status_after (Ok (troubled_of session))) may_leave now changes item before
-item_done may_leave now session was changes item before h calm = ask_done may_leave now session was (troubled_of session) changes item h.0 before h.1 h.2 h.3 calm
+pub item_done : (may_leave : Image → Type 0) (now : Shown) (session : Session) (was : Was) (changes : List Change) (item : SessionItem) (before : List ℕ) → Stepped {T = Unit {0}} (Ok tt) may_leave now session was (beginning changes) before item → was.troubled ≡ false → ItemLeaves (status_after (Ok (troubled_of session))) may_leave now changes item before
+item_done may_leave now session was changes item before h calm = ask_done may_leave now session was.troubled (troubled_of session) changes item h.0 before h.1 h.2 h.4 calm
 
 -- an item that broke off
-pub item_ended : (T : Type 0) (end : SessionEnd) (may_leave : Image → Type 0) (now : Shown) (session : Session) (was : Bool) (changes : List Change) (item : SessionItem) (before : List ℕ) → Stepped {T = T} (Err end) may_leave now session was (beginning changes) before item → ItemLeaves (status_after (Err end)) may_leave now changes item before
+pub item_ended : (T : Type 0) (end : SessionEnd) (may_leave : Image → Type 0) (now : Shown) (session : Session) (was : Was) (changes : List Change) (item : SessionItem) (before : List ℕ) → Stepped {T = T} (Err end) may_leave now session was (beginning changes) before item → ItemLeaves (status_after (Err end)) may_leave now changes item before
 item_ended T ends.Memory may_leave now session was changes item before (inl h) = inl (record { stands = keeps_stands now.tells now.files may_leave (keeper_of session) changes h.keeps; taken = h.taken ∙ ap Some (sym (append-nil before)) })
-item_ended T ends.Memory may_leave now session was changes item before (inr (text, ran, told, asked, h)) =
-    inr (text, ran, told, asked, keeps_stands now.tells now.files may_leave (keeper_of session) (list_after changes (evaluates text ran told)) h.keeps, h.taken)
+item_ended T ends.Memory may_leave now session was changes item before (inr (text, told, stopped, asked, h)) =
+    inr (text, told, stopped, asked, keeps_stands now.tells now.files may_leave (keeper_of session) (list_after changes (evaluates text told stopped)) h.keeps, h.taken)
 item_ended T (ends.Disk failed) may_leave now session was changes item before h = h
 item_ended T (ends.Write failed) may_leave now session was changes item before (ask, asked, count, h) = (ask, asked, count, keeps_stands now.tells now.files may_leave (keeper_of session) (list_after changes ask) h.keeps, h.taken)
 item_ended T (ends.Read failed) may_leave now session was changes item before h = absurd h
@@ -71,24 +72,24 @@ item_ended T ends.TooLong may_leave now session was changes item before h = absu
 -- ---- reasons
 
 or_damage : (T U : Type 0) (end : SessionEnd) (before now : Faults) → EndsForReason {T = T} before now (Err end) → EndsForReasonOrDamage {T = U} before now (Err end)
-or_damage T U ends.Memory before now h = tt
+or_damage T U ends.Memory before now h = h
 or_damage T U (ends.Read failed) before now h = h
 or_damage T U (ends.Write failed) before now h = h
 or_damage T U (ends.Disk failed) before now h = h
-or_damage T U (ends.Damaged damage) before now h = tt
-or_damage T U ends.TooLong before now h = tt
+or_damage T U (ends.Damaged damage) before now h = absurd h
+or_damage T U ends.TooLong before now h = h
 
 any_value : (T U : Type 0) (end : SessionEnd) (before now : Faults) → EndsForReasonOrDamage {T = T} before now (Err end) → EndsForReasonOrDamage {T = U} before now (Err end)
-any_value T U ends.Memory before now h = tt
+any_value T U ends.Memory before now h = h
 any_value T U (ends.Read failed) before now h = h
 any_value T U (ends.Write failed) before now h = h
 any_value T U (ends.Disk failed) before now h = h
-any_value T U (ends.Damaged damage) before now h = tt
-any_value T U ends.TooLong before now h = tt
+any_value T U (ends.Damaged damage) before now h = h
+any_value T U ends.TooLong before now h = h
 
 -- a run's counts are those of what may meet a damage
 pub run_counts : (T : Type 0) (r : Result T SessionEnd) (before now : Faults) → Counts before now r → SourceCounts before now r
-run_counts T (Ok done) before now h = record { later = h.later; reason = tt }
+run_counts T (Ok done) before now h = record { later = h.later; reason = h.reason }
 run_counts T (Err end) before now h = record { later = h.later; reason = or_damage T T end before now h.reason }
 
 pub no_damage : (T : Type 0) (r : Result T SessionEnd) (before now : Faults) → Counts before now r → MeetsNoDamage r
@@ -110,7 +111,7 @@ item_counts T (Chunk item) r before now h = run_counts T r before now h
 item_counts T Unended r before now h = run_counts T r before now h
 
 pub item_counts_ok : (T U : Type 0) (done : T) (value : U) (before now : Faults) → SourceCounts before now (Ok done) → SourceCounts before now (Ok value)
-item_counts_ok T U done value before now h = record { later = h.later; reason = tt }
+item_counts_ok T U done value before now h = record { later = h.later; reason = h.reason }
 
 pub item_counts_err : (T U : Type 0) (end : SessionEnd) (before now : Faults) → SourceCounts {T = T} before now (Err end) → SourceCounts {T = U} before now (Err end)
 item_counts_err T U end before now h = record { later = h.later; reason = any_value T U end before now h.reason }
@@ -124,12 +125,12 @@ no_damage_err T U (ends.Damaged damage) h = h
 no_damage_err T U ends.TooLong h = tt
 
 pub reason_err : (end : SessionEnd) (before now : Faults) → HasReason before now end → StatusHasReason before now (status_after (Err end))
-reason_err ends.Memory before now h = tt
+reason_err ends.Memory before now h = h
 reason_err (ends.Read failed) before now h = h
 reason_err (ends.Write failed) before now h = h
 reason_err (ends.Disk failed) before now h = h
-reason_err (ends.Damaged damage) before now h = tt
-reason_err ends.TooLong before now h = tt
+reason_err (ends.Damaged damage) before now h = absurd h
+reason_err ends.TooLong before now h = h
 
 pub undamaged : (r : Result Bool SessionEnd) → MeetsNoDamage r → status_after r ≡ status.Damaged → ⊥
 undamaged (Ok false) h is = cc is
@@ -168,27 +169,31 @@ disk_tells (ends.Write failed) disk = absurd disk
 disk_tells (ends.Damaged damage) disk = absurd disk
 disk_tells ends.TooLong disk = absurd disk
 
--- reasons since an earlier moment
-rose_earlier : (first before now : ℕ) → first ≤ before → Rose before now → Rose first now
-rose_earlier first before now le rose = omega (arith, le, rose)
+started_reason : (end : SessionEnd) (before now : Faults) → StartsForReason {T = Session} before now (Err end) → StatusHasReason before now (status_after (Err end))
+started_reason ends.Memory before now h = h
+started_reason (ends.Disk failed) before now h = h
+started_reason (ends.Damaged damage) before now h = h
+started_reason (ends.Read failed) before now h = absurd h
+started_reason (ends.Write failed) before now h = absurd h
+started_reason ends.TooLong before now h = absurd h
 
-pub starts_reason : (end : SessionEnd) (first before now : Faults) → NoFewer first before → StartsForReason {T = Session} before now (Err end) → StatusHasReason first now (status_after (Err end))
-starts_reason ends.Memory first before now le h = tt
-starts_reason (ends.Disk failed) first before now le h = rose_earlier first.disk before.disk now.disk le.disk h
-starts_reason (ends.Damaged damage) first before now le h = tt
-starts_reason (ends.Read failed) first before now le h = absurd h
-starts_reason (ends.Write failed) first before now le h = absurd h
-starts_reason ends.TooLong first before now le h = absurd h
+ended_reason : (r : Result Bool SessionEnd) (before now : Faults) → EndsForReasonOrDamage before now r → StatusHasReason before now (status_after r)
+ended_reason (Ok false) before now h = h
+ended_reason (Ok true) before now h = h
+ended_reason (Err ends.Memory) before now h = h
+ended_reason (Err (ends.Read failed)) before now h = h
+ended_reason (Err (ends.Write failed)) before now h = h
+ended_reason (Err (ends.Disk failed)) before now h = h
+ended_reason (Err (ends.Damaged damage)) before now h = h
+ended_reason (Err ends.TooLong) before now h = h
 
-pub later_reason : (r : Result Bool SessionEnd) (first before now : Faults) → NoFewer first before → EndsForReasonOrDamage before now r → StatusHasReason first now (status_after r)
-later_reason (Ok false) first before now le h = tt
-later_reason (Ok true) first before now le h = tt
-later_reason (Err ends.Memory) first before now le h = tt
-later_reason (Err (ends.Read failed)) first before now le h = rose_earlier first.read before.read now.read le.read h
-later_reason (Err (ends.Write failed)) first before now le h = rose_earlier first.write before.write now.write le.write h
-later_reason (Err (ends.Disk failed)) first before now le h = rose_earlier first.disk before.disk now.disk le.disk h
-later_reason (Err (ends.Damaged damage)) first before now le h = tt
-later_reason (Err ends.TooLong) first before now le h = tt
+-- reasons since an earlier moment, after which no call had failed
+pub starts_reason : (end : SessionEnd) (first before now : Faults) → before ≡ first → StartsForReason {T = Session} before now (Err end) → StatusHasReason first now (status_after (Err end))
+starts_reason end first before now same h =
+    let P : Faults → Type 0 = λ f. StatusHasReason f now (status_after (Err end)) in
+    subst P same (started_reason end before now h)
 
-pub no_fewer : (first before now : Faults) → NoFewer first before → NoFewer before now → NoFewer first now
-no_fewer first before now p q = record { read = omega (arith, p.read, q.read); write = omega (arith, p.write, q.write); disk = omega (arith, p.disk, q.disk) }
+pub later_reason : (r : Result Bool SessionEnd) (first before now : Faults) → before ≡ first → EndsForReasonOrDamage before now r → StatusHasReason first now (status_after r)
+later_reason r first before now same h =
+    let P : Faults → Type 0 = λ f. StatusHasReason f now (status_after r) in
+    subst P same (ended_reason r before now h)

@@ -4,7 +4,7 @@ use Rattle.std.proofs.lemmas.List.{append-nil}
 use Rattle.s80_chunk.specs.declared.item.Item.{Item}
 use Rattle.s80_chunk.specs.declared.item.Role.TheVariants.{Plain}
 use Rattle.s80_chunk.specs.Chunks.{Reads, IsBlank, item_of}
-use Rattle.s80_chunk.proofs.Reading.{one_reading}
+use Rattle.s80_chunk.proofs.lemmas.Reading.{one_reading}
 use Rattle.s80_chunk.proofs.Stopping.{reads_prefix}
 use Rattle.s80_change.specs.declared.change.Change.{Change}
 use Rattle.s80_disk.specs.Image.{Image}
@@ -12,16 +12,16 @@ use Rattle.s80_machine.specs.Came.{RanValue}
 use Rattle.s80_model.specs.declared.item.SessionItem.{SessionItem}
 use Rattle.s80_model.specs.declared.item.SessionItem.TheVariants.{Chunk, Unended, Query}
 use Rattle.s80_model.specs.Asked.{Ask, evaluates}
-use Rattle.s80_session.specs.Ending.{Faults}
 use Rattle.s80_model.specs.Replies.{AllAsk, Work, reply_to, reply_text, work_after, work_after_all, replies}
-use Rattle.s80_session.specs.Run.{Shown, chunks, ItemsOf, FirstItemsOf, AsksOf, BrokeOff, FirstAsksOf, WholeAsksOf, Finished, Unanswered, Unevaluated, input_limit}
+use Rattle.s80_disk.specs.Shown.{Shown, Faults}
+use Rattle.s80_session.specs.Run.{chunks, ItemsOf, FirstItemsOf, AsksOf, BrokeOff, FirstAsksOf, WholeAsksOf, Finished, Unanswered, Unevaluated, input_limit}
 use Rattle.s80_session.proofs.Taking.{first_of}
 use Rattle.s80_program.specs.declared.status.Status.{Status}
 use Rattle.s80_program.specs.declared.status.Status.TheVariants as status
 use Rattle.s80_program.specs.Command.{Command, Run, Do, Tell, behind_separators}
 use Rattle.s80_program.specs.Ending.{NoFault, StatusHasReason, IsWhole}
 use Rattle.s80_program.specs.Leaves.{AllAsksFor, AsksFirst, IsAnswered, IsWithin, ItemLeaves, Leaves, LeavesFor, PutsFront, RunLeaves, beginning}
-use Rattle.s80_program.proofs.Again.{goes_on_asking}
+use Rattle.s80_program.proofs.Again.{OneAsk, goes_on_asking}
 
 chunks_append : (given more : List Item) → chunks (given ++ more) ≡ chunks given ++ chunks more
 chunks_append [] more = refl
@@ -64,18 +64,12 @@ whole_first work got left input asks (items, (given, rest, reads, none, is), ask
     let P : List SessionItem → Type 0 = λ l. FirstItemsOf input l in
     (items, subst P (sym is) (first_of false got left input given (rest, reads) input_is (λ e. cc)), asked)
 
--- where all items ask something, they can ask first what the first items do
-first_asks : (work : Work) (input : List ℕ) (asks all : List Ask) → FirstAsksOf work input asks → AsksOf work input all → (more : List Ask) × AsksOf work input (asks ++ more)
-first_asks work input asks all (items, first, asked) (list, whole, all_asked) =
+-- what the first items ask is the front of what all of them ask
+first_asks : OneAsk → (work : Work) (input : List ℕ) (asks all : List Ask) → FirstAsksOf work input asks → AsksOf work input all → (more : List Ask) × (all ≡ asks ++ more)
+first_asks one work input asks all (items, first, asked) (list, whole, all_asked) =
     let begins = first_items input items list first whole in
     let P : List SessionItem → Type 0 = λ l. AllAsk work l all in
-    let rest = goes_on_asking work items begins.0 asks all asked (subst P begins.1 all_asked) in
-    let Q : List SessionItem → Type 0 = λ l. AllAsk work l (asks ++ rest.0) in
-    (rest.0, (list, whole, subst Q (sym begins.1) rest.1))
-
--- all that is asked, so that these bytes were put, a front of the replies
-abbrev IsFront : Option SessionItem → Shown → List Change → List ℕ → List ℕ → Type 0
-IsFront item now changes input before = (again : List Ask) × AllAsksFor item changes input again × PutsFront now.taken changes before again
+    goes_on_asking one work items begins.0 asks all asked (subst P begins.1 all_asked)
 
 front_put : (now : Shown) (changes : List Change) (before : List ℕ) (asks more : List Ask) → now.taken ≡ Some (before ++ replies (beginning changes) asks) → PutsFront now.taken changes before (asks ++ more)
 front_put now changes before asks more taken = (replies (beginning changes) asks, replies (work_after_all (beginning changes) asks) more, taken, replies_append (beginning changes) asks more)
@@ -98,69 +92,83 @@ part_put now changes before asks last count more taken =
     )
 
 -- a run that answered the first of its items
-first_front : (now : Shown) (changes : List Change) (input before : List ℕ) (asks all : List Ask) → FirstAsksOf (beginning changes) input asks → now.taken ≡ Some (before ++ replies (beginning changes) asks) → AsksOf (beginning changes) input all → IsFront None now changes input before
-first_front now changes input before asks all first taken whole =
-    let rest = first_asks (beginning changes) input asks all first whole in
-    (asks ++ rest.0, rest.1, front_put now changes before asks rest.0 taken)
+first_front : OneAsk → (now : Shown) (changes : List Change) (input before : List ℕ) (asks all : List Ask) → FirstAsksOf (beginning changes) input asks → now.taken ≡ Some (before ++ replies (beginning changes) asks) → AsksOf (beginning changes) input all → PutsFront now.taken changes before all
+first_front one now changes input before asks all first taken whole =
+    let rest = first_asks one (beginning changes) input asks all first whole in
+    let P : List Ask → Type 0 = λ l. PutsFront now.taken changes before l in
+    subst P (sym rest.1) (front_put now changes before asks rest.0 taken)
 
-unanswered_front : (may_leave : Image → Type 0) (now : Shown) (changes : List Change) (input before : List ℕ) (all : List Ask) → Unanswered may_leave now (beginning changes) input before → AsksOf (beginning changes) input all → IsFront None now changes input before
-unanswered_front may_leave now changes input before all h whole =
-    let rest = first_asks (beginning changes) input (h.asks ++ h.last ∷ []) all h.first whole in
-    ((h.asks ++ h.last ∷ []) ++ rest.0, rest.1, part_put now changes before h.asks h.last h.count rest.0 h.taken)
+unanswered_front : OneAsk → (may_leave : Image → Type 0) (now : Shown) (changes : List Change) (input before : List ℕ) (all : List Ask) → Unanswered may_leave now (beginning changes) input before → AsksOf (beginning changes) input all → PutsFront now.taken changes before all
+unanswered_front one may_leave now changes input before all h whole =
+    let rest = first_asks one (beginning changes) input (h.asks ++ h.last ∷ []) all h.first whole in
+    let P : List Ask → Type 0 = λ l. PutsFront now.taken changes before l in
+    subst P (sym rest.1) (part_put now changes before h.asks h.last h.count rest.0 h.taken)
 
 -- the last doIt was kept, and not evaluated
-unevaluated_front : (may_leave : Image → Type 0) (now : Shown) (changes : List Change) (input before : List ℕ) (all : List Ask) → Unevaluated may_leave now (beginning changes) input before → AsksOf (beginning changes) input all → IsFront None now changes input before
-unevaluated_front may_leave now changes input before all h whole =
-    let last = evaluates h.text h.ran h.told in
-    let rest = first_asks (beginning changes) input (h.asks ++ last ∷ []) all h.first whole in
-    let P : List Ask → Type 0 = λ l. AsksOf (beginning changes) input l in
-    (h.asks ++ last ∷ rest.0, subst P (append_assoc h.asks (last ∷ []) rest.0) rest.1, front_put now changes before h.asks (last ∷ rest.0) h.taken)
+unevaluated_front : OneAsk → (may_leave : Image → Type 0) (now : Shown) (changes : List Change) (input before : List ℕ) (all : List Ask) → Unevaluated may_leave now (beginning changes) input before → AsksOf (beginning changes) input all → PutsFront now.taken changes before all
+unevaluated_front one may_leave now changes input before all h whole =
+    let last = evaluates h.text h.told h.stopped in
+    let rest = first_asks one (beginning changes) input (h.asks ++ last ∷ []) all h.first whole in
+    let P : List Ask → Type 0 = λ l. PutsFront now.taken changes before l in
+    subst P (sym (rest.1 ∙ append_assoc h.asks (last ∷ []) rest.0)) (front_put now changes before h.asks (last ∷ rest.0) h.taken)
 
-broke_off_front : (may_leave : Image → Type 0) (now : Shown) (changes : List Change) (input before : List ℕ) (all : List Ask) → BrokeOff may_leave now (beginning changes) input before ⊎ Unevaluated may_leave now (beginning changes) input before → AsksOf (beginning changes) input all → IsFront None now changes input before
-broke_off_front may_leave now changes input before all (inl h) whole = first_front now changes input before h.asks all h.first h.answered.taken whole
-broke_off_front may_leave now changes input before all (inr h) whole = unevaluated_front may_leave now changes input before all h whole
+broke_off_front : OneAsk → (may_leave : Image → Type 0) (now : Shown) (changes : List Change) (input before : List ℕ) (all : List Ask) → BrokeOff may_leave now (beginning changes) input before ⊎ Unevaluated may_leave now (beginning changes) input before → AsksOf (beginning changes) input all → PutsFront now.taken changes before all
+broke_off_front one may_leave now changes input before all (inl h) whole = first_front one now changes input before h.asks all h.first h.answered.taken whole
+broke_off_front one may_leave now changes input before all (inr h) whole = unevaluated_front one may_leave now changes input before all h whole
 
-finished_front : (may_leave : Image → Type 0) (now : Shown) (changes : List Change) (input before : List ℕ) (troubled : Bool) (ran : Option RanValue) → Finished may_leave now (beginning changes) input before troubled ran → IsFront None now changes input before
-finished_front may_leave now changes input before troubled ran h =
-    (h.asks, h.all, (replies (beginning changes) h.asks, [], h.answered.taken, sym (append-nil (replies (beginning changes) h.asks))))
+finished_front : OneAsk → (may_leave : Image → Type 0) (now : Shown) (changes : List Change) (input before : List ℕ) (all : List Ask) (troubled : Bool) (was ran : Option RanValue) → Finished may_leave now (beginning changes) input before troubled was ran → AsksOf (beginning changes) input all → PutsFront now.taken changes before all
+finished_front one may_leave now changes input before all troubled was ran h whole = first_front one now changes input before h.asks all (h.all.0, inr h.all.1, h.all.2) h.answered.taken whole
 
 -- whatever the status of a run, a front of all replies was put
-run_front : (s : Status) (may_leave : Image → Type 0) (now : Shown) (changes : List Change) (input before : List ℕ) (all : List Ask) → RunLeaves s may_leave now changes input before → AsksOf (beginning changes) input all → IsFront None now changes input before
-run_front status.Done may_leave now changes input before all h whole = finished_front may_leave now changes input before false h.0 h.1
-run_front status.DoneWithRefusals may_leave now changes input before all h whole = finished_front may_leave now changes input before true h.0 h.1
-run_front status.Usage may_leave now changes input before all h whole = absurd h
-run_front status.ReadFault may_leave now changes input before all h whole = first_front now changes input before h.asks all (whole_first (beginning changes) h.got h.left input h.asks h.whole h.input_is) h.answered.taken whole
-run_front status.WriteFault may_leave now changes input before all h whole = unanswered_front may_leave now changes input before all h whole
-run_front status.DiskFault may_leave now changes input before all h whole = first_front now changes input before h.asks all h.first h.taken whole
-run_front status.Damaged may_leave now changes input before all h whole = absurd h
-run_front status.OutOfMemory may_leave now changes input before all h whole = broke_off_front may_leave now changes input before all h whole
-run_front status.InputTooLong may_leave now changes input before all h whole = first_front now changes input before h.asks all (whole_first (beginning changes) h.got (h.next ∷ h.left) input h.asks h.whole h.input_is) h.answered.taken whole
+run_front : OneAsk → (s : Status) (may_leave : Image → Type 0) (now : Shown) (changes : List Change) (input before : List ℕ) (all : List Ask) → RunLeaves s may_leave now changes input before → AsksOf (beginning changes) input all → PutsFront now.taken changes before all
+run_front one status.Done may_leave now changes input before all h whole = finished_front one may_leave now changes input before all false None h.0 h.1 whole
+run_front one status.DoneWithRefusals may_leave now changes input before all h whole = finished_front one may_leave now changes input before all true None h.0 h.1 whole
+run_front one status.Usage may_leave now changes input before all h whole = absurd h
+run_front one status.ReadFault may_leave now changes input before all h whole = first_front one now changes input before h.asks all (whole_first (beginning changes) h.got h.left input h.asks h.whole h.input_is) h.answered.taken whole
+run_front one status.WriteFault may_leave now changes input before all h whole = unanswered_front one may_leave now changes input before all h whole
+run_front one status.DiskFault may_leave now changes input before all h whole = first_front one now changes input before h.asks all h.first h.taken whole
+run_front one status.Damaged may_leave now changes input before all h whole = absurd h
+run_front one status.OutOfMemory may_leave now changes input before all h whole = broke_off_front one may_leave now changes input before all h whole
+run_front one status.InputTooLong may_leave now changes input before all h whole = first_front one now changes input before h.asks all (whole_first (beginning changes) h.got (h.next ∷ h.left) input h.asks h.whole h.input_is) h.answered.taken whole
 
--- the same where one item is worked
-answered_front : (may_leave : Image → Type 0) (now : Shown) (changes : List Change) (item : SessionItem) (ask : Ask) (input before : List ℕ) → AsksFirst changes item ask → IsAnswered may_leave now changes ask before → IsFront (Some item) now changes input before
-answered_front may_leave now changes item ask input before asked h = (ask ∷ [], (asked, tt), front_put now changes before (ask ∷ []) [] h.taken)
+-- the same where one item is worked: it asks the first of what is asked
+item_asks : OneAsk → (changes : List Change) (item : SessionItem) (ask : Ask) (all : List Ask) → AsksFirst changes item ask → AllAsk (beginning changes) (item ∷ []) all → (more : List Ask) × (all ≡ ask ∷ more)
+item_asks one changes item ask all asked whole = goes_on_asking one (beginning changes) (item ∷ []) [] (ask ∷ []) all (asked, tt) whole
 
-nothing_put : (now : Shown) (changes : List Change) (item : SessionItem) (input before : List ℕ) (all : List Ask) → now.taken ≡ Some before → AllAsk (beginning changes) (item ∷ []) all → IsFront (Some item) now changes input before
-nothing_put now changes item input before all taken whole = (all, whole, front_put now changes before [] all (taken ∙ ap Some (sym (append-nil before))))
+answered_front : OneAsk → (may_leave : Image → Type 0) (now : Shown) (changes : List Change) (item : SessionItem) (ask : Ask) (before : List ℕ) (all : List Ask) → AsksFirst changes item ask → IsAnswered may_leave now changes ask before → AllAsk (beginning changes) (item ∷ []) all → PutsFront now.taken changes before all
+answered_front one may_leave now changes item ask before all asked h whole =
+    let rest = item_asks one changes item ask all asked whole in
+    let P : List Ask → Type 0 = λ l. PutsFront now.taken changes before l in
+    subst P (sym rest.1) (front_put now changes before (ask ∷ []) rest.0 h.taken)
 
-item_front : (s : Status) (may_leave : Image → Type 0) (now : Shown) (changes : List Change) (item : SessionItem) (input before : List ℕ) (all : List Ask) → ItemLeaves s may_leave now changes item before → AllAsk (beginning changes) (item ∷ []) all → IsFront (Some item) now changes input before
-item_front status.Done may_leave now changes item input before all (ask, asked, h, calm) whole = answered_front may_leave now changes item ask input before asked h
-item_front status.DoneWithRefusals may_leave now changes item input before all (ask, asked, h, calm) whole = answered_front may_leave now changes item ask input before asked h
-item_front status.Usage may_leave now changes item input before all h whole = absurd h
-item_front status.ReadFault may_leave now changes item input before all h whole = absurd h
-item_front status.WriteFault may_leave now changes item input before all (ask, asked, count, stands, taken) whole =
+-- its reply was put in part
+part_front : OneAsk → (now : Shown) (changes : List Change) (item : SessionItem) (ask : Ask) (count : ℕ) (before : List ℕ) (all : List Ask) → AsksFirst changes item ask → now.taken ≡ Some (before ++ take count (reply_text (reply_to (beginning changes) ask))) → AllAsk (beginning changes) (item ∷ []) all → PutsFront now.taken changes before all
+part_front one now changes item ask count before all asked taken whole =
+    let rest = item_asks one changes item ask all asked whole in
     let line = reply_text (reply_to (beginning changes) ask) in
-    (ask ∷ [], (asked, tt), (take count line, drop count line, taken, append-nil line ∙ sym (take-append-drop count line)))
-item_front status.DiskFault may_leave now changes item input before all h whole = nothing_put now changes item input before all h whole
-item_front status.Damaged may_leave now changes item input before all h whole = absurd h
-item_front status.OutOfMemory may_leave now changes item input before all (inl h) whole = nothing_put now changes item input before all (h.taken ∙ ap Some (append-nil before)) whole
-item_front status.OutOfMemory may_leave now changes item input before all (inr (text, ran, told, asked, stands, taken)) whole = nothing_put now changes item input before all taken whole
-item_front status.InputTooLong may_leave now changes item input before all h whole = absurd h
+    let after = replies (work_after (beginning changes) ask) rest.0 in
+    let P : List Ask → Type 0 = λ l. PutsFront now.taken changes before l in
+    subst P (sym rest.1) (take count line, drop count line ++ after, taken, ap (λ (l : List ℕ). l ++ after) (sym (take-append-drop count line)) ∙ append_assoc (take count line) (drop count line) after)
+
+nothing_put : (now : Shown) (changes : List Change) (before : List ℕ) (all : List Ask) → now.taken ≡ Some before → PutsFront now.taken changes before all
+nothing_put now changes before all taken = front_put now changes before [] all (taken ∙ ap Some (sym (append-nil before)))
+
+item_front : OneAsk → (s : Status) (may_leave : Image → Type 0) (now : Shown) (changes : List Change) (item : SessionItem) (before : List ℕ) (all : List Ask) → ItemLeaves s may_leave now changes item before → AllAsk (beginning changes) (item ∷ []) all → PutsFront now.taken changes before all
+item_front one status.Done may_leave now changes item before all (ask, asked, h, calm) whole = answered_front one may_leave now changes item ask before all asked h whole
+item_front one status.DoneWithRefusals may_leave now changes item before all (ask, asked, h, calm) whole = answered_front one may_leave now changes item ask before all asked h whole
+item_front one status.Usage may_leave now changes item before all h whole = absurd h
+item_front one status.ReadFault may_leave now changes item before all h whole = absurd h
+item_front one status.WriteFault may_leave now changes item before all (ask, asked, count, stands, taken) whole = part_front one now changes item ask count before all asked taken whole
+item_front one status.DiskFault may_leave now changes item before all h whole = nothing_put now changes before all h
+item_front one status.Damaged may_leave now changes item before all h whole = absurd h
+item_front one status.OutOfMemory may_leave now changes item before all (inl h) whole = nothing_put now changes before all (h.taken ∙ ap Some (append-nil before))
+item_front one status.OutOfMemory may_leave now changes item before all (inr (text, told, stopped, asked, stands, taken)) whole = nothing_put now changes before all taken
+item_front one status.InputTooLong may_leave now changes item before all h whole = absurd h
 
 -- whatever is worked and the status, a front of all replies was put
-pub front_of : (item : Option SessionItem) (s : Status) (may_leave : Image → Type 0) (now : Shown) (changes : List Change) (input before : List ℕ) (all : List Ask) → LeavesFor item s may_leave now changes input before → AllAsksFor item changes input all → IsFront item now changes input before
-front_of None s may_leave now changes input before all h whole = run_front s may_leave now changes input before all h whole
-front_of (Some item) s may_leave now changes input before all h whole = item_front s may_leave now changes item input before all h.0 whole
+pub front_of : OneAsk → (item : Option SessionItem) (s : Status) (may_leave : Image → Type 0) (now : Shown) (changes : List Change) (input before : List ℕ) (all : List Ask) → LeavesFor item s may_leave now changes input before → AllAsksFor item changes input all → PutsFront now.taken changes before all
+front_of one None s may_leave now changes input before all h whole = run_front one s may_leave now changes input before all h whole
+front_of one (Some item) s may_leave now changes input before all h whole = item_front one s may_leave now changes item before all h.0 whole
 
 longer : (got left : List ℕ) (next : ℕ) (input : List ℕ) → input ≡ got ++ next ∷ left → length got ≡ input_limit → length input ≤ input_limit → ⊥
 longer got left next input is limit within =

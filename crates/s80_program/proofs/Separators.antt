@@ -2,7 +2,8 @@
 use Rattle.std.proofs.Common.{◌≡◌, ◌≢◌, ℕ, ◌+◌, suc, List, [], ◌∷◌, drop, Bool, true, false, refl, subst, arith}
 use Rattle.std.specs.Prelude.{cond}
 use Rattle.std.specs.List.{prefix_len}
-use Rattle.s80_chunk.specs.Chunks.{is_separator, IsChunkText}
+use Rattle.s80_base.specs.Byte.{is_separator}
+use Rattle.s80_chunk.specs.Chunks.{IsChunkText}
 use Rattle.s80_program.specs.Command.{behind_separators}
 
 behind_first : (separates : Bool) (b : ℕ) (bs : List ℕ) → is_separator b ≡ separates → (behind_separators bs ≢ [] → IsChunkText (behind_separators bs))

@@ -1,12 +1,14 @@
 -- What the program can be asked to do.
 use Rattle.std.specs.Prelude.{◌≢◌, ℕ, List, [], ◌∷◌, drop, Option, Some, None, codes}
 use Rattle.std.specs.List.{prefix_len}
-use Rattle.s80_chunk.specs.Chunks.{is_separator, item_of}
+use Rattle.s80_base.specs.Byte.{is_separator}
+use Rattle.s80_chunk.specs.Chunks.{item_of}
 use Rattle.s80_chunk.specs.declared.item.Role.TheVariants.{Plain}
 use Rattle.s80_model.specs.declared.item.Query.{Query as SessionQuery}
 use Rattle.s80_model.specs.declared.item.Query.TheVariants.{Recover, Classes, Browse, Source}
 use Rattle.s80_model.specs.declared.item.SessionItem.{SessionItem}
 use Rattle.s80_model.specs.declared.item.SessionItem.TheVariants.{Chunk, Query}
+use Rattle.s80_model.specs.Settings.{Settings}
 
 -- to work the items of the input, or one item: the chunk of a text, or a query
 pub data Command : Type 0 where
@@ -50,3 +52,7 @@ item_for (Tell query) = Some (Query query)
 -- how many ticks a doIt may take
 abbrev pub default_budget : ℕ
 default_budget = 1000000
+
+-- what a run is given that is told nothing else
+abbrev pub default_settings : Settings
+default_settings = record { budget = default_budget; kept_versions = 1; moment = None }

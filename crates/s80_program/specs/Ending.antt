@@ -1,23 +1,23 @@
 -- How the program ends, and what its counts of faults say of that.
-use Rattle.std.specs.Prelude.{ℕ, List, Bool, true, false, Option, Some, None, Result, Ok, Err, codes}
+use Rattle.std.specs.Prelude.{◌≡◌, ℕ, List, Bool, true, false, Option, Some, None, Result, Ok, Err, codes}
 use Rattle.s80_base.specs.Causes.{Rose}
+use Rattle.s80_disk.specs.Shown.{Faults}
 use Rattle.s80_session.specs.declared.end.SessionEnd.{SessionEnd}
 use Rattle.s80_session.specs.declared.end.SessionEnd.TheVariants as ends
-use Rattle.s80_session.specs.Ending.{Faults}
 use Rattle.s80_program.specs.declared.status.Status.{Status}
 use Rattle.s80_program.specs.declared.status.Status.TheVariants as status
 
--- a fault is answered only where its count rose
+-- a fault is answered only where its count rose, and what is no fault only where no call failed
 abbrev pub StatusHasReason : Faults → Faults → Status → Type 0
-StatusHasReason before now status.Done = Unit {0}
-StatusHasReason before now status.DoneWithRefusals = Unit {0}
-StatusHasReason before now status.Usage = Unit {0}
+StatusHasReason before now status.Done = now ≡ before
+StatusHasReason before now status.DoneWithRefusals = now ≡ before
+StatusHasReason before now status.Usage = now ≡ before
 StatusHasReason before now status.ReadFault = Rose before.read now.read
 StatusHasReason before now status.WriteFault = Rose before.write now.write
 StatusHasReason before now status.DiskFault = Rose before.disk now.disk
-StatusHasReason before now status.Damaged = Unit {0}
-StatusHasReason before now status.OutOfMemory = Unit {0}
-StatusHasReason before now status.InputTooLong = Unit {0}
+StatusHasReason before now status.Damaged = now ≡ before
+StatusHasReason before now status.OutOfMemory = now ≡ before
+StatusHasReason before now status.InputTooLong = now ≡ before
 
 -- no count of faults rose
 pub record NoFault (before now : Faults) : Type 0 where

@@ -1,18 +1,19 @@
 -- What the program leaves: on its disk, of its input and in its output.
-use Rattle.std.specs.Prelude.{◌≡◌, ◌⊎◌, ◌≤◌, ℕ, true, false, List, [], ◌∷◌, ◌++◌, length, take, Option, Some, None}
+use Rattle.std.specs.Prelude.{◌≡◌, ◌⊎◌, ◌≤◌, ℕ, Bool, true, false, List, [], ◌∷◌, ◌++◌, length, take, Option, Some, None}
 use Rattle.s80_change.specs.declared.change.Change.{Change}
 use Rattle.s80_disk.specs.Image.{Image}
+use Rattle.s80_disk.specs.Shown.{Shown}
 use Rattle.s80_keeper.specs.Standing.{ReadsFor}
 use Rattle.s80_model.specs.declared.reply.Reply.{Reply}
 use Rattle.s80_machine.specs.Came.{RanValue}
 use Rattle.s80_model.specs.declared.item.SessionItem.{SessionItem}
 use Rattle.s80_model.specs.Asked.{Ask, evaluates}
 use Rattle.s80_model.specs.Replies.{AllAsk, AsksIn, Work, begun, is_trouble, replies, reply_text, reply_to, work_after}
-use Rattle.s80_session.specs.Run.{Shown, ShownFor, Answered, Finished, CutOff, TooLong, BrokeOff, Unanswered, Unevaluated, LostDisk, Keeps, AsksOf, input_limit}
+use Rattle.s80_session.specs.Run.{ShownFor, Answered, Finished, CutOff, TooLong, BrokeOff, Unanswered, Unevaluated, LostDisk, Keeps, AsksOf, input_limit}
 use Rattle.s80_session.specs.Working.{StepLeaves}
 use Rattle.s80_program.specs.declared.status.Status.{Status}
 use Rattle.s80_program.specs.declared.status.Status.TheVariants as status
-use Rattle.s80_program.specs.Command.{Command, Run, Do, Tell, default_budget, item_for}
+use Rattle.s80_program.specs.Command.{Command, Run, Do, Tell, default_settings, item_for}
 
 -- an outside that tells its contents: what its disk reads stands for this list, this input is left, and these bytes were taken
 pub record StartsWith (may_leave : Image → Type 0) (o : Shown) (changes : List Change) (input before : List ℕ) : Type 0 where
@@ -21,14 +22,14 @@ pub record StartsWith (may_leave : Image → Type 0) (o : Shown) (changes : List
   pub taken : o.taken ≡ Some before
   pub told : o.told ≡ length before
 
--- before the first item, under the budget of the program
+-- before the first item
 abbrev pub beginning : List Change → Work
-beginning changes = begun default_budget changes
+beginning changes = begun default_settings changes
 
 -- what a run leaves, by its status
 abbrev pub RunLeaves : Status → (Image → Type 0) → Shown → List Change → List ℕ → List ℕ → Type 0
-RunLeaves status.Done may_leave now changes input before = (ran : Option RanValue) × Finished may_leave now (beginning changes) input before false ran
-RunLeaves status.DoneWithRefusals may_leave now changes input before = (ran : Option RanValue) × Finished may_leave now (beginning changes) input before true ran
+RunLeaves status.Done may_leave now changes input before = (ran : Option RanValue) × Finished may_leave now (beginning changes) input before false None ran
+RunLeaves status.DoneWithRefusals may_leave now changes input before = (ran : Option RanValue) × Finished may_leave now (beginning changes) input before true None ran
 RunLeaves status.Usage may_leave now changes input before = ⊥
 RunLeaves status.ReadFault may_leave now changes input before = CutOff may_leave now (beginning changes) input before
 RunLeaves status.WriteFault may_leave now changes input before = Unanswered may_leave now (beginning changes) input before
@@ -55,7 +56,7 @@ IsAnswered may_leave now changes ask before = Answered may_leave now (beginning 
 -- the doIt that an item asks to evaluate was kept, and memory was wanting to evaluate it
 abbrev pub IsUnevaluated : (Image → Type 0) → Shown → List Change → SessionItem → List ℕ → Type 0
 IsUnevaluated may_leave now changes item before =
-    (text : List ℕ) × (ran : RanValue) × (told : List ℕ) × AsksFirst changes item (evaluates text ran told) × ShownFor may_leave now (list_after changes (evaluates text ran told))
+    (text : List ℕ) × (told : List ℕ) × (stopped : Bool) × AsksFirst changes item (evaluates text told stopped) × ShownFor may_leave now (list_after changes (evaluates text told stopped))
     × (now.taken ≡ Some before)
 
 -- what is left where one item is worked, by the status

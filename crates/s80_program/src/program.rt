@@ -1,18 +1,17 @@
 // What the program does with its words.
-ghost use Rattle.std.specs.Prelude.{◌≡◌, ◌≢◌, ◌++◌, ℕ, List, [], length, IsTrue, false, Some, IfOk, IfErr, IfSome};
+ghost use Rattle.std.specs.Prelude.{◌≡◌, ◌≢◌, ◌++◌, ℕ, List, [], length, IsTrue, false, None, Some, IfOk, IfErr, IfSome};
 ghost use Rattle.s80_change.specs.declared.change.Change.{Change};
 ghost use Rattle.s80_chunk.specs.Chunks.{item_of};
 ghost use Rattle.s80_disk.specs.declared.disk.FileId.{FileId};
 ghost use Rattle.s80_disk.specs.Moments.{LeavesOnly};
 ghost use Rattle.s80_keeper.specs.declared.start.Damage.{Damage};
-ghost use Rattle.s80_keeper.specs.Standing.{StandsFor};
 ghost use Rattle.s80_keeper.specs.Start.{IsDamage};
 ghost use Rattle.s80_keeper.specs.Keeper.{Knows};
 ghost use Rattle.s80_model.specs.Asked.{Ask};
-ghost use Rattle.s80_session.specs.Ending.{faults, Counts, MeetsNoDamage, SourceCounts};
+ghost use Rattle.s80_session.specs.Ending.{Counts, MeetsNoDamage, SourceCounts};
 ghost use Rattle.s80_session.specs.Putting.{IsAsBefore};
-ghost use Rattle.s80_session.specs.Run.{shown, Keeps};
-ghost use Rattle.s80_session.specs.Session.{keeper_of, troubled_of, IsFaultless};
+ghost use Rattle.s80_session.specs.Run.{Keeps, ShownFor};
+ghost use Rattle.s80_session.specs.Session.{keeper_of, last_run_of, troubled_of, IsFaultless};
 ghost use Rattle.s80_session.specs.Working.{IsAt, IsReadable, StepLeaves};
 ghost use Rattle.s80_program.specs.Ending.{IsDiskEnd, NoFault, StatusHasReason, status_after, IsWhole};
 ghost use Rattle.s80_program.specs.Leaves.{StartsWith, Leaves, RunLeaves, ItemLeaves, CommandKeeps, AllAsks, IsWithin, PutsFront, TellsDamage, beginning};
@@ -26,7 +25,7 @@ use crate::words::{Task, behind_separators, request_of};
 use s80_base::{OutOfMemory, Text};
 use s80_chunk::{Item, LONGEST, Role};
 use s80_disk::Outside;
-use s80_model::{Query, SessionItem};
+use s80_model::{Query, SessionItem, one_ask};
 use s80_session::{Session, SessionEnd};
 use std::alloc::Global;
 
@@ -43,53 +42,48 @@ pub fn st80<O: Outside>(alloc: Global, words: &[Text], outside: &mut O) -> Statu
         → ((folder : List ℕ) (command : Command) → Asks words.now folder command → ⊥) × (outside.new ≡ outside.old) }
     ensures lawful { result ≢ Status.Usage → (folder : List ℕ) × (command : Command) × Asks words.now folder command }
 
-    // A fault is answered only where its count rose in this call.
-    ensures reason { StatusHasReason (faults O.read_faults O.write_faults O.disk_faults outside.old)
-        (faults O.read_faults O.write_faults O.disk_faults outside.new) result }
+    // A fault is answered only where its count rose in this call, and every other status only where no count did.
+    ensures reason { StatusHasReason (O.faults outside.old) (O.faults outside.new) result }
 
     // From a disk that stands for a list of changes, the bytes written are the model keeper's replies to the items of the command.
     ensures leaves { (folder : List ℕ) (command : Command) (changes : List Change) (input before : List ℕ)
         → Asks words.now folder command
-        → StartsWith (O.may_leave outside.old) (shown O.tells O.reads O.left O.taken O.told outside.old) changes input before
-        → Leaves command result (O.may_leave outside.new)
-        (shown O.tells O.reads O.left O.taken O.told outside.new) changes input before }
+        → StartsWith (O.may_leave outside.old) (O.shown outside.old) changes input before
+        → Leaves command result (O.may_leave outside.new) (O.shown outside.new) changes input before }
 
     // A crash at any moment, inside a write too, leaves files that stand for the list after the first items, and no change is lost that
     // was answered by then.
     ensures any_moment { (folder : List ℕ) (command : Command) (changes : List Change) (input before : List ℕ)
         → Asks words.now folder command
-        → StartsWith (O.may_leave outside.old) (shown O.tells O.reads O.left O.taken O.told outside.old) changes input before
-        → StandsFor (O.tells outside.old) (O.reads outside.old) (O.may_leave outside.old) changes
+        → StartsWith (O.may_leave outside.old) (O.shown outside.old) changes input before
+        → ShownFor (O.may_leave outside.old) (O.shown outside.old) changes
         → LeavesOnly O.moment O.left_since outside.old outside.new (CommandKeeps command changes input before) }
 
-    // However it ends, what it wrote is a front of the replies to all that the command asks. What a doIt asks has its run in it, so where
-    // all can be asked there may be several ways.
+    // However it ends, what it wrote is a front of the replies to all that the command asks.
     ensures front { (folder : List ℕ) (command : Command) (changes : List Change) (input before : List ℕ) (asks : List Ask)
         → Asks words.now folder command
-        → StartsWith (O.may_leave outside.old) (shown O.tells O.reads O.left O.taken O.told outside.old) changes input before
+        → StartsWith (O.may_leave outside.old) (O.shown outside.old) changes input before
         → AllAsks command changes input asks
-        → (again : List Ask) × AllAsks command changes input again × PutsFront (O.taken outside.new) changes before again }
+        → PutsFront (O.shown outside.new).taken changes before asks }
 
     // With no fault and an input within the limit it comes to the end, or is out of memory.
     ensures complete { (folder : List ℕ) (command : Command) (changes : List Change) (input before : List ℕ)
         → Asks words.now folder command
-        → StartsWith (O.may_leave outside.old) (shown O.tells O.reads O.left O.taken O.told outside.old) changes input before
+        → StartsWith (O.may_leave outside.old) (O.shown outside.old) changes input before
         → IsWithin command input
-        → NoFault (faults O.read_faults O.write_faults O.disk_faults outside.old)
-        (faults O.read_faults O.write_faults O.disk_faults outside.new)
+        → NoFault (O.faults outside.old) (O.faults outside.new)
         → IsWhole result }
 
-    // Damage is answered only where the files have one. Where they have one nothing is put, no file changes, and a crash at any moment
-    // leaves what it might have left before.
-    ensures found { result ≡ Status.Damaged → IsTrue (O.tells outside.old)
-        → (damage : Damage) × IsDamage (O.reads outside.old) damage }
+    // Damage is answered only where the files have one. Where they have one nothing that is shown changes, and a crash at any moment leaves
+    // what it might have left before.
+    ensures found { result ≡ Status.Damaged → IsTrue (O.shown outside.old).tells
+        → (damage : Damage) × IsDamage (O.shown outside.old).files damage }
     ensures damaged { (folder : List ℕ) (command : Command) (damage : Damage) → Asks words.now folder command
-        → IsTrue (O.tells outside.old) → IsDamage (O.reads outside.old) damage
-        → TellsDamage result × (shown O.tells O.reads O.left O.taken O.told outside.new
-        ≡ record (shown O.tells O.reads O.left O.taken O.told outside.old) { files = O.reads outside.new })
-        × ((file : FileId) → O.reads outside.new file ≡ O.reads outside.old file)
-        × LeavesOnly O.moment O.left_since outside.old outside.new (IsAsBefore (O.may_leave outside.old) (O.told outside.old) 0) }
+        → IsTrue (O.shown outside.old).tells → IsDamage (O.shown outside.old).files damage
+        → TellsDamage result × (O.shown outside.new ≡ O.shown outside.old)
+        × LeavesOnly O.moment O.left_since outside.old outside.new (IsAsBefore (O.may_leave outside.old) (O.shown outside.old).told 0) }
 {
+    one_ask();
     match request_of(words) {
         Some(request) => status_of(work(alloc, request.folder, request.task, outside)),
         None => Status::Usage,
@@ -105,22 +99,18 @@ fn work<O: Outside>(
 ) -> Result<bool, SessionEnd>
     requires { IsUseful (command_of task) }
     ensures worked { (changes : List Change) (input before : List ℕ)
-        → StartsWith (O.may_leave outside.old) (shown O.tells O.reads O.left O.taken O.told outside.old) changes input before
-        → Leaves (command_of task.entry) (status_after result) (O.may_leave outside.new)
-        (shown O.tells O.reads O.left O.taken O.told outside.new) changes input before }
+        → StartsWith (O.may_leave outside.old) (O.shown outside.old) changes input before
+        → Leaves (command_of task.entry) (status_after result) (O.may_leave outside.new) (O.shown outside.new) changes input before }
     ensures any_moment { (changes : List Change) (input before : List ℕ)
-        → StartsWith (O.may_leave outside.old) (shown O.tells O.reads O.left O.taken O.told outside.old) changes input before
-        → StandsFor (O.tells outside.old) (O.reads outside.old) (O.may_leave outside.old) changes
+        → StartsWith (O.may_leave outside.old) (O.shown outside.old) changes input before
+        → ShownFor (O.may_leave outside.old) (O.shown outside.old) changes
         → LeavesOnly O.moment O.left_since outside.old outside.new (CommandKeeps (command_of task.entry) changes input before) }
-    ensures found { status_after result ≡ Status.Damaged → IsTrue (O.tells outside.old)
-        → (damage : Damage) × IsDamage (O.reads outside.old) damage }
-    ensures damaged { (damage : Damage) → IsTrue (O.tells outside.old) → IsDamage (O.reads outside.old) damage
-        → TellsDamage (status_after result) × (shown O.tells O.reads O.left O.taken O.told outside.new
-        ≡ record (shown O.tells O.reads O.left O.taken O.told outside.old) { files = O.reads outside.new })
-        × ((file : FileId) → O.reads outside.new file ≡ O.reads outside.old file)
-        × LeavesOnly O.moment O.left_since outside.old outside.new (IsAsBefore (O.may_leave outside.old) (O.told outside.old) 0) }
-    ensures reason { StatusHasReason (faults O.read_faults O.write_faults O.disk_faults outside.old)
-        (faults O.read_faults O.write_faults O.disk_faults outside.new) (status_after result) }
+    ensures found { status_after result ≡ Status.Damaged → IsTrue (O.shown outside.old).tells
+        → (damage : Damage) × IsDamage (O.shown outside.old).files damage }
+    ensures damaged { (damage : Damage) → IsTrue (O.shown outside.old).tells → IsDamage (O.shown outside.old).files damage
+        → TellsDamage (status_after result) × (O.shown outside.new ≡ O.shown outside.old)
+        × LeavesOnly O.moment O.left_since outside.old outside.new (IsAsBefore (O.may_leave outside.old) (O.shown outside.old).told 0) }
+    ensures reason { StatusHasReason (O.faults outside.old) (O.faults outside.new) (status_after result) }
     ensures useful { status_after result ≢ Status.Usage }
 {
     open_folder(outside, folder)?;
@@ -130,14 +120,12 @@ fn work<O: Outside>(
 
 /// Chooses the folder.
 fn open_folder<O: Outside>(outside: &mut O, folder: &Text) -> Result<(), SessionEnd>
-    ensures shown { shown O.tells O.reads O.left O.taken O.told outside.new
-        ≡ shown O.tells O.reads O.left O.taken O.told outside.old }
-    ensures counts { Counts (faults O.read_faults O.write_faults O.disk_faults outside.old)
-        (faults O.read_faults O.write_faults O.disk_faults outside.new) result }
+    ensures shown { O.shown outside.new ≡ O.shown outside.old }
+    ensures counts { Counts (O.faults outside.old) (O.faults outside.new) result }
     ensures disk { IfErr result IsDiskEnd }
     ensures images { (c : FileId → List ℕ) → O.may_leave outside.new c → O.may_leave outside.old c }
     ensures any_moment { LeavesOnly O.moment O.left_since outside.old outside.new
-        (IsAsBefore (O.may_leave outside.old) (O.told outside.old) 0) }
+        (IsAsBefore (O.may_leave outside.old) (O.shown outside.old).told 0) }
 {
     attach(outside, folder).map_err(SessionEnd::Disk)?;
     Ok(())
@@ -152,19 +140,15 @@ fn do_task<O: Outside>(
 ) -> Result<bool, SessionEnd>
     requires faultless { IsFaultless session.old }
     requires useful { IsUseful (command_of task) }
-    ensures worked { (changes : List Change) (input before : List ℕ) → O.left outside.old ≡ Some input
-        → troubled_of session.old ≡ false
-        → IsAt (O.may_leave outside.old)
-        (shown O.tells O.reads O.left O.taken O.told outside.old) session.old (beginning changes) before
-        → Leaves (command_of task.entry) (status_after result) (O.may_leave outside.new)
-        (shown O.tells O.reads O.left O.taken O.told outside.new) changes input before }
-    ensures any_moment { (changes : List Change) (input before : List ℕ) → O.left outside.old ≡ Some input
-        → IsAt (O.may_leave outside.old)
-        (shown O.tells O.reads O.left O.taken O.told outside.old) session.old (beginning changes) before
+    ensures worked { (changes : List Change) (input before : List ℕ) → (O.shown outside.old).left ≡ Some input
+        → troubled_of session.old ≡ false → last_run_of session.old ≡ None
+        → IsAt (O.may_leave outside.old) (O.shown outside.old) session.old (beginning changes) before
+        → Leaves (command_of task.entry) (status_after result) (O.may_leave outside.new) (O.shown outside.new) changes input before }
+    ensures any_moment { (changes : List Change) (input before : List ℕ) → (O.shown outside.old).left ≡ Some input
+        → IsAt (O.may_leave outside.old) (O.shown outside.old) session.old (beginning changes) before
         → LeavesOnly O.moment O.left_since outside.old outside.new (CommandKeeps (command_of task.entry) changes input before) }
-    ensures sound { IsTrue (O.tells outside.old) → (changes : List Change) → Knows (O.reads outside.old) (keeper_of session.old) changes → MeetsNoDamage result }
-    ensures counts { SourceCounts (faults O.read_faults O.write_faults O.disk_faults outside.old)
-        (faults O.read_faults O.write_faults O.disk_faults outside.new) result }
+    ensures sound { IsTrue (O.shown outside.old).tells → (changes : List Change) → Knows (O.shown outside.old).files (keeper_of session.old) changes → MeetsNoDamage result }
+    ensures counts { SourceCounts (O.faults outside.old) (O.faults outside.new) result }
 {
     match item_for(alloc, task)? {
         None => run_input(session, alloc, outside),
@@ -212,18 +196,14 @@ fn run_input<O: Outside>(
     outside: &mut O,
 ) -> Result<bool, SessionEnd>
     requires faultless { IsFaultless session.old }
-    ensures worked { (changes : List Change) (input before : List ℕ) → O.left outside.old ≡ Some input
-        → troubled_of session.old ≡ false
-        → IsAt (O.may_leave outside.old)
-        (shown O.tells O.reads O.left O.taken O.told outside.old) session.old (beginning changes) before
-        → RunLeaves (status_after result) (O.may_leave outside.new)
-        (shown O.tells O.reads O.left O.taken O.told outside.new) changes input before }
-    ensures any_moment { (changes : List Change) (input before : List ℕ) → O.left outside.old ≡ Some input
-        → IsAt (O.may_leave outside.old)
-        (shown O.tells O.reads O.left O.taken O.told outside.old) session.old (beginning changes) before
+    ensures worked { (changes : List Change) (input before : List ℕ) → (O.shown outside.old).left ≡ Some input
+        → troubled_of session.old ≡ false → last_run_of session.old ≡ None
+        → IsAt (O.may_leave outside.old) (O.shown outside.old) session.old (beginning changes) before
+        → RunLeaves (status_after result) (O.may_leave outside.new) (O.shown outside.new) changes input before }
+    ensures any_moment { (changes : List Change) (input before : List ℕ) → (O.shown outside.old).left ≡ Some input
+        → IsAt (O.may_leave outside.old) (O.shown outside.old) session.old (beginning changes) before
         → LeavesOnly O.moment O.left_since outside.old outside.new (Keeps (beginning changes) input before) }
-    ensures counts { Counts (faults O.read_faults O.write_faults O.disk_faults outside.old)
-        (faults O.read_faults O.write_faults O.disk_faults outside.new) result }
+    ensures counts { Counts (O.faults outside.old) (O.faults outside.new) result }
 {
     session.run_items(alloc, outside)?;
     Ok(session.troubled())
@@ -239,18 +219,14 @@ fn answer_item<O: Outside>(
     requires faultless { IsFaultless session.old }
     requires readable { IsReadable item }
     ensures worked { (changes : List Change) (before : List ℕ) → troubled_of session.old ≡ false
-        → IsAt (O.may_leave outside.old)
-        (shown O.tells O.reads O.left O.taken O.told outside.old) session.old (beginning changes) before
-        → ItemLeaves (status_after result) (O.may_leave outside.new)
-        (shown O.tells O.reads O.left O.taken O.told outside.new) changes item before }
+        → IsAt (O.may_leave outside.old) (O.shown outside.old) session.old (beginning changes) before
+        → ItemLeaves (status_after result) (O.may_leave outside.new) (O.shown outside.new) changes item before }
     ensures any_moment { (changes : List Change) (before : List ℕ)
-        → IsAt (O.may_leave outside.old)
-        (shown O.tells O.reads O.left O.taken O.told outside.old) session.old (beginning changes) before
+        → IsAt (O.may_leave outside.old) (O.shown outside.old) session.old (beginning changes) before
         → LeavesOnly O.moment O.left_since outside.old outside.new (StepLeaves (beginning changes) before item) }
-    ensures left { O.left outside.new ≡ O.left outside.old }
-    ensures sound { IsTrue (O.tells outside.old) → (changes : List Change) → Knows (O.reads outside.old) (keeper_of session.old) changes → MeetsNoDamage result }
-    ensures counts { SourceCounts (faults O.read_faults O.write_faults O.disk_faults outside.old)
-        (faults O.read_faults O.write_faults O.disk_faults outside.new) result }
+    ensures left { (O.shown outside.new).left ≡ (O.shown outside.old).left }
+    ensures sound { IsTrue (O.shown outside.old).tells → (changes : List Change) → Knows (O.shown outside.old).files (keeper_of session.old) changes → MeetsNoDamage result }
+    ensures counts { SourceCounts (O.faults outside.old) (O.faults outside.new) result }
 {
     session.step(alloc, item, outside)?;
     Ok(session.troubled())

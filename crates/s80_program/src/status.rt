@@ -5,9 +5,9 @@ ghost use Rattle.s80_program.specs.Ending.{message_of, number_of};
 /// How `st80` ends. The number of a status is the program's exit status.
 #[derive(Clone, Copy, Debug, PartialEq, Eq)]
 pub enum Status {
-    /// All was done and answered, and nothing was refused.
+    /// All was done and answered, and nothing was refused or stopped.
     Done,
-    /// The same, but something was refused.
+    /// The same, but something was refused or stopped.
     DoneWithRefusals,
     /// The words ask for nothing that the program does. The outside wasn't called.
     Usage,

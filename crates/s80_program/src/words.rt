@@ -1,11 +1,10 @@
 // The words of the command line.
 ghost use Rattle.std.specs.Prelude.{◌≡◌, ◌↔◌, ◌∷◌, [], ℕ, List, IsTrue, IsUtf8, IfSome, IfNone};
-ghost use Rattle.s80_chunk.specs.Chunks.{is_separator};
 ghost use Rattle.s80_program.specs.Command.{Command, behind_separators};
 ghost use Rattle.s80_program.specs.Words.{IsOption, IsPlain, IsFolder, AreOf, Asks};
 ghost use Rattle.s80_program.specs.Task.{command_of};
 
-use s80_base::Text;
+use s80_base::{Text, is_separator};
 
 /// What the program is asked to do.
 #[derive(Clone, Copy)]
@@ -89,12 +88,6 @@ fn task_on<'w>(word: &Text, name: &'w Text) -> Option<Task<'w>>
         return Some(Task::Do(name));
     }
     None
-}
-
-fn is_separator(byte: u8) -> bool
-    ensures { result ≡ is_separator byte }
-{
-    matches!(byte, b' ' | b'\t' | b'\n' | b'\x0c' | b'\r')
 }
 
 /// What stands behind the separators at a text's beginning.

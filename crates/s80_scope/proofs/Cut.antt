@@ -1,5 +1,5 @@
 -- Counts that are cut off at the end of their type.
-use Rattle.std.proofs.Common.{◌≡◌, ℕ, ◌+◌, ◌-◌, ◌*◌, ◌^◌, max, min, ap, ◌∙◌, sym, refl, arith}
+use Rattle.std.proofs.Common.{◌≡◌, ℕ, ◌+◌, ◌*◌, max, ◌∙◌, refl, arith}
 use Rattle.s80_scope.specs.declared.fit.counts.Counts.{Counts}
 use Rattle.s80_scope.specs.Walk.{cut, cut_off, both, none, heavier, above, at_least, block_counts, declaring}
 

@@ -1,11 +1,11 @@
 -- Keys tell entries apart.
-use Rattle.std.proofs.Common.{◌≡◌, ℕ, suc, ◌-◌, ◌==◌, List, [], ◌∷◌, ◌++◌, drop, get_or, refl, ap, ap₂, ◌∙◌, sym, if◌then◌else◌, arith}
+use Rattle.std.proofs.Common.{◌≡◌, ℕ, ◌==◌, List, [], ◌∷◌, ◌++◌, drop, get_or, refl, ap, ap₂, ◌∙◌, sym, if◌then◌else◌, arith}
 use Rattle.std.specs.Prelude.{pos, negsuc}
 use Rattle.std.proofs.lemmas.List.{append_assoc, append-nil}
 use Rattle.s80_base.specs.Literal.{LiteralTree, LiteralTrees, small, character, str, symbol, array, true_literal, false_literal, nil_literal, number, no_literals, literals}
 use Rattle.s80_base.specs.declared.literal.NumberKind.{NumberKind}
 use Rattle.s80_base.specs.declared.literal.NumberKind.TheVariants.{LargePositive, LargeNegative, Float}
-use Rattle.s80_scope.specs.FitLiterals.{Entry, constant, variable, kind_number, label, ended, literal_key, literals_key, key}
+use Rattle.s80_scope.specs.FitLiterals.{Entry, constant, variable, label, ended, literal_key, literals_key, key}
 
 ended_same : (a b r s : List ℕ) → ended a ++ r ≡ ended b ++ s → (a ≡ b) × (r ≡ s)
 ended_same [] [] r s e = (refl, ap (drop 1) e)

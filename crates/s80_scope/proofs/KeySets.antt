@@ -1,5 +1,5 @@
 -- Sets of keys as they are kept, and the keys of entries in a set.
-use Rattle.std.proofs.Common.{◌≡◌, ℕ, ◌+◌, Bool, true, false, not, cond, ◌||◌, List, [], ◌∷◌, ◌++◌, Vec, Global, map, length, refl, ap, ap₂, ◌∙◌, sym, if◌then◌else◌, arith}
+use Rattle.std.proofs.Common.{◌≡◌, ℕ, ◌+◌, Bool, true, false, not, cond, ◌||◌, List, [], ◌∷◌, ◌++◌, Vec, Global, map, length, refl, ap, ◌∙◌, sym, if◌then◌else◌, arith}
 use Rattle.std.specs.BTreeSet.{BTreeSet, insert_key, btree_set_len, contains}
 use Rattle.std.specs.Cmp.Lexicographic.{slice_cmp, nat_list_cmp_total, bytes_decides}
 use Rattle.std.specs.Cmp.{IsTotalOrder}

@@ -1,4 +1,4 @@
-pub mod Places
+pub mod lemmas
 pub mod Walking
 pub mod Unseen
 pub mod Parts
@@ -7,13 +7,9 @@ pub mod Whole
 pub mod Meant
 pub mod Innermost
 pub mod Rising
-pub mod Apart
-pub mod Opens
 pub mod Cut
 pub mod KeyLaws
 pub mod KeySets
-pub mod Endings
-pub mod Counted
 pub mod Scopes
 pub mod Steps
 pub mod Wholes

@@ -13,7 +13,7 @@ use Rattle.s80_scope.specs.declared.shape.Shape.{Shape}
 use Rattle.s80_scope.specs.declared.shape.Where.{Where}
 use Rattle.s80_scope.specs.Names.{is_at, declares, last_place, means, word_means, uses_of, declarations_of, IsFound, IsUsedOnce}
 use Rattle.s80_scope.specs.Shape.{where_of}
-use Rattle.s80_scope.proofs.Places.{only_found}
+use Rattle.s80_scope.proofs.lemmas.Places.{only_found}
 
 from_first : (r : Option ℕ) → option_map (λ i. 0 + i) r ≡ r
 from_first None = refl

@@ -1,29 +1,13 @@
 -- The parts of trees in memory.
-use Rattle.std.proofs.Common.{◌≡◌, ℕ, ◌+◌, ◌<◌, List, ◌∷◌, ap, sym, ◌∙◌, map, length, drop, get_or}
-use Rattle.std.proofs.lemmas.List.{drop_more}
+use Rattle.std.proofs.Common.{◌≡◌, ℕ, ◌+◌, ◌<◌, List, ap, sym, ◌∙◌, map, length, drop, get_or}
 use Rattle.s80_tree.specs.Name.{names_of}
 use Rattle.s80_tree.specs.declared.name.NameAt.{NameAt}
-use Rattle.s80_tree.specs.Tree.{PrimaryTree, BlockTree, BodyTree, ExprTree, ExprTrees, MessageTree, MessageTrees, StmtTree, expr, exprs, exprs_from, messages, messages_from, stmts, body_from, block_of, body_of, stmt_of, expr_of, exprs_of, primary_of, message_of, messages_of, primary_layer, block_layer, body_layer, expr_layer, exprs_layer, message_layer, messages_layer, stmt_layer}
-use Rattle.s80_tree.specs.declared.expr.Block.{Block, out-Block, fold_out-Block}
-use Rattle.s80_tree.specs.declared.expr.Expr.{Expr, out-Expr, fold_out-Expr}
-use Rattle.s80_tree.specs.declared.expr.Message.{Message, out-Message, fold_out-Message}
-use Rattle.s80_tree.specs.declared.expr.Stmt.{Stmt, out-Stmt, fold_out-Stmt}
-
-pub block_open : (b : Block) → block_of b ≡ (names_of (out-Block b).parameters, body_of (out-Block b).body)
-block_open b = fold_out-Block PrimaryTree BlockTree BodyTree ExprTree ExprTrees MessageTree MessageTrees StmtTree primary_layer block_layer body_layer expr_layer exprs_layer message_layer messages_layer stmt_layer b
-
-pub expr_open : (e : Expr) → expr_of e ≡ expr (names_of (out-Expr e).targets) (primary_of (out-Expr e).receiver) (messages_of (out-Expr e).messages) (messages_of (out-Expr e).cascades)
-expr_open e = fold_out-Expr PrimaryTree BlockTree BodyTree ExprTree ExprTrees MessageTree MessageTrees StmtTree primary_layer block_layer body_layer expr_layer exprs_layer message_layer messages_layer stmt_layer e
-
-message_open : (m : Message) → message_of m ≡ ((out-Message m).selector, exprs_of (out-Message m).arguments)
-message_open m = fold_out-Message PrimaryTree BlockTree BodyTree ExprTree ExprTrees MessageTree MessageTrees StmtTree primary_layer block_layer body_layer expr_layer exprs_layer message_layer messages_layer stmt_layer m
-
-stmt_open : (s : Stmt) → stmt_of s ≡ ((out-Stmt s).returns, expr_of (out-Stmt s).expr)
-stmt_open s = fold_out-Stmt PrimaryTree BlockTree BodyTree ExprTree ExprTrees MessageTree MessageTrees StmtTree primary_layer block_layer body_layer expr_layer exprs_layer message_layer messages_layer stmt_layer s
-
--- what is left of a list at a place: the member there, and those behind it
-left_at : {X : Type 0} (xs : List X) (i : ℕ) (x : X) → i < length xs → x ≡ get_or xs i x → drop i xs ≡ x ∷ drop (i + 1) xs
-left_at xs i x within is = drop_more xs i x within ∙ ap (λ y. y ∷ drop (i + 1) xs) (sym is)
+use Rattle.s80_tree.specs.Tree.{MessageTree, StmtTree, expr, exprs, exprs_from, messages, messages_from, stmts, body_from, stmt_of, expr_of, exprs_of, primary_of, message_of, messages_of}
+use Rattle.s80_tree.specs.declared.expr.Expr.{Expr, out-Expr}
+use Rattle.s80_tree.specs.declared.expr.Message.{Message, out-Message}
+use Rattle.s80_tree.specs.declared.expr.Stmt.{Stmt, out-Stmt}
+use Rattle.s80_tree.proofs.lemmas.Opens.{expr_open, message_open, stmt_open}
+use Rattle.s80_scope.proofs.lemmas.Opens.{left_at}
 
 pub body_left : (xs : List Stmt) (i : ℕ) (x : Stmt) → i < length xs → x ≡ get_or xs i x
     → body_from (map stmt_of (drop i xs)) ≡ stmts (out-Stmt x).returns (expr_of (out-Stmt x).expr) (body_from (map stmt_of (drop (i + 1) xs)))

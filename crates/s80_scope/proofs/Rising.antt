@@ -5,8 +5,8 @@ use Rattle.s80_lex.specs.declared.token.TokenKind.{TokenKind}
 use Rattle.s80_lex.specs.declared.token.TokenKind.TheVariants as kind
 use Rattle.s80_tree.specs.declared.name.NameAt.{NameAt}
 use Rattle.s80_tree.specs.Tree.{ExprTree, PrimaryTree, ExprTrees, MessageTrees, BodyTree, MethodParts, DoItParts, expr, name, literal, block, paren, no_exprs, exprs, no_messages, messages, no_stmts, stmts}
-use Rattle.s80_grammar.specs.Lexeme.{Lexeme, Lexemes, place}
-use Rattle.s80_grammar.specs.Grammar.{IsMark, IsSign, IsName, IsDeclared, IsTargets, AreDeclared, AreParameters, IsSingle, IsNegative, AreJoined, IsWord, IsArrayStart, IsArray, AreElements, IsLiteral, IsNone, IsEmpty, IsBetween, IsCaret, IsBarBetween, IsExpr, IsPrimary, IsOperand, IsChain, IsMessage, AreParts, IsCascade, IsBody, AreTemporaries, AreOptionalTemporaries, IsPrimitive, IsHead, AreKeywords, IsPattern, IsMethod, IsDoIt}
+use Rattle.s80_syntax.specs.Lexeme.{Lexeme, Lexemes, place}
+use Rattle.s80_syntax.specs.Grammar.{IsMark, IsSign, IsName, IsDeclared, IsTargets, AreDeclared, AreParameters, IsSingle, IsNegative, AreJoined, IsWord, IsArrayStart, IsArray, AreElements, IsLiteral, IsNone, IsEmpty, IsBetween, IsCaret, IsBarBetween, IsExpr, IsPrimary, IsOperand, IsChain, IsMessage, AreParts, IsCascade, IsBody, AreTemporaries, AreOptionalTemporaries, IsPrimitive, IsHead, AreKeywords, IsPattern, IsMethod, IsDoIt}
 use Rattle.s80_scope.specs.Names.{expr_uses, primary_uses, exprs_uses, messages_uses, body_uses}
 
 -- the places of tokens rise up to the end of their text

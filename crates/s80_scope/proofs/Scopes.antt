@@ -1,10 +1,9 @@
 -- Names that are declared at a place.
-use Rattle.std.proofs.Common.{◌≡◌, ℕ, Bool, ◌||◌, List, [], ◌∷◌, ◌++◌, ◌+◌, ◌<◌, take, get_or, length, refl, ap, sym, ◌∙◌}
-use Rattle.std.proofs.Math.Seq.{take-suc}
+use Rattle.std.proofs.Common.{◌≡◌, ℕ, Bool, ◌||◌, List, [], ◌∷◌, ◌++◌, ap, sym, ◌∙◌}
 use Rattle.std.proofs.lemmas.List.{append-nil, append_assoc}
 use Rattle.s80_tree.specs.declared.name.NameAt.{NameAt}
-use Rattle.s80_grammar.specs.Word.{has_name, names_in}
-use Rattle.s80_scope.specs.FitLiterals.{Entry, declares, name_entries, target_entries}
+use Rattle.s80_syntax.specs.Word.{has_name, names_in}
+use Rattle.s80_scope.specs.FitLiterals.{declares, name_entries, target_entries}
 use Rattle.s80_scope.specs.Scope.{has_either}
 
 -- names in a set, and those around them

@@ -1,5 +1,5 @@
 -- One step of the walk.
-use Rattle.std.proofs.Common.{◌≡◌, ℕ, zero, suc, ◌+◌, ◌-◌, ◌<◌, ◌≤◌, Bool, true, false, ◌&&◌, cond, if◌then◌else◌, nat_eq, List, [], ◌∷◌, ◌++◌, length, map, drop, take, get_or, refl, ap, ap₂, sym, ◌∙◌, arith, rules, true≢false, take-suc, length-drop, Vec, Global}
+use Rattle.std.proofs.Common.{◌≡◌, ℕ, zero, suc, ◌+◌, ◌-◌, ◌<◌, ◌≤◌, Bool, true, false, ◌&&◌, cond, if◌then◌else◌, nat_eq, List, [], ◌∷◌, ◌++◌, length, map, drop, take, get_or, refl, ap, ap₂, sym, ◌∙◌, arith, rules, take-suc, length-drop, Vec, Global}
 use Rattle.std.specs.Vec.{vec_len}
 use Rattle.std.proofs.lemmas.Bool.Decides.{nat_tests}
 use Rattle.s80_base.specs.Literal.{small}
@@ -13,26 +13,26 @@ use Rattle.s80_tree.specs.declared.expr.Block.{Block, out-Block}
 use Rattle.s80_tree.specs.declared.expr.Message.{Message, out-Message}
 use Rattle.s80_tree.specs.declared.expr.Stmt.{Stmt}
 use Rattle.s80_tree.specs.declared.expr.Body.{Body, out-Body}
-use Rattle.s80_tree.proofs.Lists.{body_open}
-use Rattle.s80_tree.specs.Tree.{ExprTree, ExprTrees, PrimaryTree, MessageTrees, BodyTree, expr, block, no_exprs, exprs, no_messages, messages, no_stmts, stmts, messages_from, body_from, expr_of, exprs_of, primary_of, block_of, body_of, message_of, messages_of, stmt_of}
-use Rattle.s80_grammar.specs.Word.{has_name, names_in}
+use Rattle.s80_tree.proofs.lemmas.Lists.{body_open}
+use Rattle.s80_tree.specs.Tree.{ExprTrees, BodyTree, expr, block, no_messages, messages, no_stmts, stmts, messages_from, body_from, expr_of, exprs_of, primary_of, block_of, body_of, message_of, messages_of, stmt_of, is_super}
+use Rattle.s80_syntax.specs.Word.{has_name, names_in}
 use Rattle.s80_scope.specs.declared.fit.counts.Counts.{Counts}
 use Rattle.s80_scope.specs.declared.fit.ending.Ending.{Ending}
-use Rattle.s80_scope.specs.declared.fit.ending.Ending.TheVariants.{Sent}
 use Rattle.s80_scope.specs.declared.fit.position.Position.{Position}
 use Rattle.s80_scope.specs.declared.fit.position.Position.TheVariants.{Value}
 use Rattle.s80_scope.specs.declared.fit.position.Leaves.{Leaves}
 use Rattle.s80_scope.specs.declared.fit.position.Leaves.TheVariants as leaves
 use Rattle.s80_scope.specs.FitLiterals.{Keys, constant_entries, name_entries, selector_entries, target_entries, declares, expr_entries, primary_entries, messages_entries, exprs_entries, body_entries}
 use Rattle.s80_scope.specs.FitWeight.{arm_leaves}
-use Rattle.s80_scope.specs.Inlined.{are_arms, is_arm, is_inlined, is_single, is_super, ending, expr_ending, cascade_to_super}
+use Rattle.s80_scope.specs.Inlined.{are_arms, is_arm, is_inlined, is_single, ending, expr_ending, cascade_to_super}
 use Rattle.s80_scope.specs.Scope.{has_either}
-use Rattle.s80_scope.specs.Walk.{above, arguments_counts, arm_counts, arms_counts, block_counts, body_counts, both, counts, cut, cut_off, declaring, expr_counts, last_counts, last_has_arms, messages_counts, none, receiver_counts, sent_counts, statement_counts, with_entries}
+use Rattle.s80_scope.specs.Walk.{above, arguments_counts, arm_counts, arms_counts, block_counts, body_counts, both, cut, cut_off, declaring, expr_counts, last_counts, last_has_arms, messages_counts, receiver_counts, sent_counts, statement_counts, with_entries}
 use Rattle.s80_scope.proofs.Cut.{blocked, declared, raised_cut}
-use Rattle.s80_scope.proofs.Endings.{ending_arms}
+use Rattle.s80_scope.proofs.lemmas.Endings.{ending_arms}
 use Rattle.s80_scope.proofs.KeySets.{with_append}
-use Rattle.s80_scope.proofs.Opens.{expr_open, block_open, message_open, primary_block, exprs_left, messages_left, stmts_left, exprs_next, messages_next, stmts_next, messages_done, stmts_done}
-use Rattle.s80_scope.proofs.Counted.{Goes, IsMore, IsMoreStatements, goes_on, goes_end, entries_on, arm_is, first_arm, other_arms, last_is, next_is, last_entries, next_entries, next_arms, rest_counts, last_statement, next_statement}
+use Rattle.s80_tree.proofs.lemmas.Opens.{expr_open, block_open, message_open, primary_block}
+use Rattle.s80_scope.proofs.lemmas.Opens.{exprs_left, messages_left, stmts_left, exprs_next, messages_next, stmts_next, messages_done, stmts_done}
+use Rattle.s80_scope.proofs.lemmas.Counted.{Goes, IsMore, IsMoreStatements, goes_on, goes_end, entries_on, arm_is, other_arms, last_is, next_is, last_entries, next_entries, next_arms, rest_counts, last_statement, next_statement}
 use Rattle.s80_scope.proofs.Scopes.{declares_more, target_last}
 
 goes_to : (left all counted next m more result : Counts) → Goes left all counted → left ≡ both m more → next ≡ cut_off m → result ≡ cut_off (both counted next) → Goes more all result

@@ -7,7 +7,7 @@ use Rattle.std.proofs.lemmas.List.Folds.{find-append}
 use Rattle.s80_tree.specs.declared.name.NameAt.{NameAt}
 use Rattle.s80_tree.specs.Tree.{ExprTree, PrimaryTree, ExprTrees, MessageTrees, BodyTree, expr, name, literal, block, paren, no_exprs, exprs, no_messages, messages, no_stmts, stmts}
 use Rattle.s80_scope.specs.Names.{Declaration, declared_over, declares, is_at, last_place, expr_uses, primary_uses, exprs_uses, messages_uses, body_uses, expr_declarations, primary_declarations, exprs_declarations, messages_declarations, body_declarations}
-use Rattle.s80_scope.proofs.Places.{last_place-append, none_first, none_last, none_passes}
+use Rattle.s80_scope.proofs.lemmas.Places.{last_place-append, none_first, none_last, none_passes}
 
 -- these declarations are seen from these uses alone
 abbrev pub Unseen : List NameAt → List Declaration → Type 0

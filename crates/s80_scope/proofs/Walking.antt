@@ -11,7 +11,7 @@ use Rattle.std.proofs.lemmas.Bool.{eqb-true}
 use Rattle.s80_tree.specs.declared.name.NameAt.{NameAt}
 use Rattle.s80_scope.specs.declared.names.Found.{Found}
 use Rattle.s80_scope.specs.Names.{Declaration, declared_over, declares, has_word, is_at, last_place, number_among, IsFound, Walks}
-use Rattle.s80_scope.proofs.Places.{last_place-append, none_counted, found_counted, found_passes, some_passes}
+use Rattle.s80_scope.proofs.lemmas.Places.{last_place-append, none_counted, found_counted, found_passes, some_passes}
 use Rattle.s80_scope.proofs.Unseen.{Unseen}
 
 counted_both : (at : ℕ) (u v : List NameAt) → count_by (is_at at) (u ++ v) ≡ count_by (is_at at) u + count_by (is_at at) v

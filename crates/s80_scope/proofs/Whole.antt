@@ -8,7 +8,7 @@ use Rattle.s80_tree.specs.Tree.{ExprTree, PrimaryTree, MessageTrees, BodyTree, B
 use Rattle.s80_tree.specs.declared.name.NameAt.{NameAt}
 use Rattle.s80_scope.specs.declared.names.Found.{Found}
 use Rattle.s80_scope.specs.Names.{has_word, is_at, last_place, number_among, IsFound, Walks, expr_uses, expr_declarations, primary_uses, primary_declarations, messages_uses, messages_declarations, body_uses, body_declarations, uses_of, declarations_of}
-use Rattle.s80_scope.proofs.Places.{place_found, place_kept}
+use Rattle.s80_scope.proofs.lemmas.Places.{place_found, place_kept}
 use Rattle.s80_scope.proofs.Unseen.{unseen_both, expr_unseen, primary_unseen, messages_unseen}
 use Rattle.s80_scope.proofs.Walking.{breaks, goes_on, declared, undeclared, number_in_both}
 

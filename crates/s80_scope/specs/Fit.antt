@@ -1,5 +1,5 @@
 -- Whether a method fits a machine: the first measure above its limit.
-use Rattle.std.specs.Prelude.{ℕ, ◌<◌, ◌^◌, nat_lt, if◌then◌else◌}
+use Rattle.std.specs.Prelude.{◌<◌, ◌^◌, nat_lt, if◌then◌else◌}
 use Rattle.s80_tree.specs.Tree.{MethodParts}
 use Rattle.s80_scope.specs.FitLiterals.{literal_count}
 use Rattle.s80_scope.specs.FitStack.{temporaries, stack}

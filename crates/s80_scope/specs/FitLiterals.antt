@@ -1,15 +1,14 @@
 -- How many entries a method's literal frame has beside those that its header asks for.
-use Rattle.std.specs.Prelude.{ℕ, ◌+◌, suc, List, [], ◌∷◌, ◌++◌, Bool, true, false, ◌&&◌, ◌||◌, not, cond, map, length, codes, nat_le, if◌then◌else◌, pos, negsuc}
+use Rattle.std.specs.Prelude.{ℕ, suc, List, [], ◌∷◌, ◌++◌, Bool, false, ◌&&◌, ◌||◌, not, cond, map, length, is_some, nat_le, if◌then◌else◌, pos, negsuc}
 use Rattle.std.specs.Ordering.{nat_cmp}
 use Rattle.std.specs.Cmp.Lexicographic.{slice_cmp}
 use Rattle.std.specs.FinSet as set
-use Rattle.s80_base.specs.Literal.{LiteralTree, LiteralTrees, small, character, str, symbol, array, true_literal, false_literal, nil_literal, number, no_literals, literals}
-use Rattle.s80_base.specs.declared.literal.NumberKind.{NumberKind}
-use Rattle.s80_base.specs.declared.literal.NumberKind.TheVariants.{LargePositive, LargeNegative, Float}
+use Rattle.s80_base.specs.Literal.{LiteralTree, LiteralTrees, small, character, str, symbol, array, true_literal, false_literal, nil_literal, number, no_literals, literals, kind_number}
+use Rattle.s80_code.specs.Special.{special_number}
 use Rattle.s80_tree.specs.declared.name.NameAt.{NameAt}
-use Rattle.s80_tree.specs.Tree.{ExprTree, PrimaryTree, ExprTrees, MessageTrees, BodyTree, MethodParts, expr, name, literal, block, paren, no_exprs, exprs, no_messages, messages, no_stmts, stmts}
-use Rattle.s80_grammar.specs.Word.{Names, names_in, has_name, is_reserved}
-use Rattle.s80_scope.specs.Inlined.{ending, is_inlined, is_single, is_super}
+use Rattle.s80_tree.specs.Tree.{ExprTree, PrimaryTree, ExprTrees, MessageTrees, BodyTree, MethodParts, expr, name, literal, block, paren, no_exprs, exprs, no_messages, messages, no_stmts, stmts, is_super}
+use Rattle.s80_syntax.specs.Word.{names_in, has_name, is_reserved}
+use Rattle.s80_scope.specs.Inlined.{ending, is_inlined, is_single}
 
 -- a constant, or a variable that isn't declared in the method
 pub data Entry : Type 0 where
@@ -31,19 +30,9 @@ constant_entries v = constant v ∷ []
 abbrev pub name_entries : (List ℕ → Bool) → List ℕ → List Entry
 name_entries declared word = if declared word || is_reserved word then [] else variable word ∷ []
 
--- selectors whose send has a byte of its own, but for `blockCopy:`, whose byte begins a block
-abbrev pub arithmetic_selectors : Names
-arithmetic_selectors =
-    codes "+" ∷ codes "-" ∷ codes "<" ∷ codes ">" ∷ codes "<=" ∷ codes ">=" ∷ codes "=" ∷ codes "~=" ∷ codes "*" ∷ codes "/"
-    ∷ codes "\\\\" ∷ codes "@" ∷ codes "bitShift:" ∷ codes "//" ∷ codes "bitAnd:" ∷ codes "bitOr:" ∷ []
-
-abbrev pub common_selectors : Names
-common_selectors =
-    codes "at:" ∷ codes "at:put:" ∷ codes "size" ∷ codes "next" ∷ codes "nextPut:" ∷ codes "atEnd" ∷ codes "==" ∷ codes "class"
-    ∷ codes "value" ∷ codes "value:" ∷ codes "do:" ∷ codes "new" ∷ codes "new:" ∷ codes "x" ∷ codes "y" ∷ []
-
+-- a selector whose send has a byte of its own
 unfoldable pub is_special : List ℕ → Bool
-is_special s = has_name arithmetic_selectors s || has_name common_selectors s
+is_special s = is_some (special_number s)
 
 -- a selector that is sent, to super or not
 abbrev pub selector_entries : Bool → List ℕ → List Entry
@@ -98,11 +87,6 @@ entries m = body_entries (declares m.temporaries (declares m.parameters (λ word
 
 -- An entry as a key: no two entries have one key, as `keys_tell_entries_apart` says. A label is what a literal spells,
 -- with its kind; behind it stand the elements of an array.
-abbrev pub kind_number : NumberKind → ℕ
-kind_number LargePositive = 0
-kind_number LargeNegative = 1
-kind_number Float = 2
-
 abbrev pub label : LiteralTree → List ℕ
 label (small (pos n)) = 0 ∷ n ∷ []
 label (small (negsuc n)) = 1 ∷ n ∷ []

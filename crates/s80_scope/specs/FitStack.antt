@@ -1,5 +1,5 @@
 -- What a method needs of the stack, and how many temporaries it has.
-use Rattle.std.specs.Prelude.{ℕ, ◌+◌, List, Bool, true, false, cond, length, max}
+use Rattle.std.specs.Prelude.{ℕ, ◌+◌, Bool, true, false, cond, length, max}
 use Rattle.s80_tree.specs.Tree.{ExprTree, PrimaryTree, ExprTrees, MessageTrees, BodyTree, MethodParts, expr, name, literal, block, paren, no_exprs, exprs, no_messages, messages, no_stmts, stmts}
 use Rattle.s80_scope.specs.Inlined.{ending, is_inlined, is_loop}
 use Rattle.s80_scope.specs.declared.fit.ending.Ending.{Ending}

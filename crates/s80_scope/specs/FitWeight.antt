@@ -1,9 +1,9 @@
 -- The weight of a method: its code in bytes, each part at a width that depends on no place in the code.
 use Rattle.std.specs.Prelude.{ℕ, ◌+◌, ◌*◌, List, [], ◌∷◌, Bool, true, false, ◌&&◌, cond, length, codes, if◌then◌else◌}
 use Rattle.s80_tree.specs.declared.name.NameAt.{NameAt}
-use Rattle.s80_tree.specs.Tree.{ExprTree, PrimaryTree, ExprTrees, MessageTrees, BodyTree, MethodParts, expr, name, literal, block, paren, no_exprs, exprs, no_messages, messages, no_stmts, stmts}
-use Rattle.s80_grammar.specs.Word.{Names, has_name}
-use Rattle.s80_scope.specs.Inlined.{ending, is_bare, is_inlined, is_loop}
+use Rattle.s80_tree.specs.Tree.{ExprTree, PrimaryTree, ExprTrees, MessageTrees, BodyTree, MethodParts, expr, name, literal, block, paren, no_exprs, exprs, no_messages, messages, no_stmts, stmts, is_bare}
+use Rattle.s80_syntax.specs.Word.{Names, has_name}
+use Rattle.s80_scope.specs.Inlined.{ending, is_inlined, is_loop}
 use Rattle.s80_scope.specs.declared.fit.ending.Ending.{Ending}
 use Rattle.s80_scope.specs.declared.fit.ending.Ending.TheVariants.{Sent, Cascaded, TwoArms, OneArm, Shortcut, Loop}
 use Rattle.s80_scope.specs.declared.fit.position.Position.{Position}

@@ -1,7 +1,7 @@
 -- Which messages are control: they are compiled to jumps, and aren't sent.
-use Rattle.std.specs.Prelude.{ℕ, List, [], ◌∷◌, Bool, true, false, ◌&&◌, cond, codes, if◌then◌else◌}
+use Rattle.std.specs.Prelude.{ℕ, List, [], Bool, true, false, ◌&&◌, codes, if◌then◌else◌}
 use Rattle.std.specs.Str.{bytes_eq}
-use Rattle.s80_tree.specs.Tree.{ExprTree, PrimaryTree, ExprTrees, MessageTrees, expr, name, block, no_exprs, exprs, no_messages, messages}
+use Rattle.s80_tree.specs.Tree.{ExprTree, PrimaryTree, ExprTrees, MessageTrees, expr, block, no_exprs, exprs, no_messages, messages, is_bare, is_super}
 use Rattle.s80_scope.specs.declared.fit.ending.Ending.{Ending}
 use Rattle.s80_scope.specs.declared.fit.ending.Ending.TheVariants.{Sent, Cascaded, TwoArms, OneArm, Shortcut, Loop}
 
@@ -10,11 +10,6 @@ abbrev pub is_plain_block : PrimaryTree → Bool
 is_plain_block (block [] ss) = true
 is_plain_block _ = false
 
--- an expression that is its receiver, and nothing else
-abbrev pub is_bare : ExprTree → Bool
-is_bare (expr [] p no_messages no_messages) = true
-is_bare _ = false
-
 -- an argument that is such a block, written without parentheses
 abbrev pub is_arm : ExprTree → Bool
 is_arm (expr targets p ms cs) = is_bare (expr targets p ms cs) && is_plain_block p
@@ -22,11 +17,6 @@ is_arm (expr targets p ms cs) = is_bare (expr targets p ms cs) && is_plain_block
 abbrev pub are_arms : ExprTrees → Bool
 are_arms no_exprs = true
 are_arms (exprs e es) = is_arm e && are_arms es
-
--- `super`, by its name
-abbrev pub is_super : PrimaryTree → Bool
-is_super (name n) = bytes_eq n.name (codes "super")
-is_super _ = false
 
 -- messages with arms: the Boolean tells on which condition the first arm is taken, or the loop goes on
 abbrev pub branch : List ℕ → Ending

@@ -1,16 +1,10 @@
 -- Which names are declared at a place.
 use Rattle.std.specs.Prelude.{ℕ, List, Bool, false, ◌||◌}
-use Rattle.std.specs.BTreeSet.{contains_by}
-use Rattle.std.specs.Cmp.Lexicographic.{slice_cmp}
-use Rattle.std.specs.Ordering.{nat_cmp}
-use Rattle.s80_scope.specs.declared.fit.scope.NameSet.{NameSet}
+use Rattle.s80_syntax.specs.NameSet.{has_word}
 use Rattle.s80_scope.specs.declared.fit.scope.Scope.{Scope}
 use Rattle.s80_scope.specs.declared.fit.scope.Scope.TheOpen.{Scope-F}
 use Rattle.s80_scope.specs.declared.fit.scope.Scope.TheOpen as layer
 use Rattle.s80_scope.specs.declared.fit.scope.Scope.TheFolds.{fold-Scope}
-
-abbrev pub has_word : NameSet → List ℕ → Bool
-has_word set word = contains_by (λ key. slice_cmp nat_cmp word key.items) set.words
 
 abbrev pub has_either : (List ℕ → Bool) → (List ℕ → Bool) → List ℕ → Bool
 has_either inner outer word = inner word || outer word

@@ -7,24 +7,26 @@ use Rattle.s80_form.specs.declared.refusal.Refusal.{Refusal}
 use Rattle.s80_change.specs.Block.{block, blocks, log_limit, IsLawful}
 use Rattle.s80_disk.specs.Image.{Image}
 use Rattle.s80_disk.specs.Moments.{LeavesOnly}
-use Rattle.s80_disk.proofs.Run.{weaker}
+use Rattle.s80_disk.proofs.lemmas.Run.{weaker}
 use Rattle.s80_apply.specs.Accept.{accept}
 use Rattle.s80_apply.specs.List.{IsAccepted, state_of, refusal_to, added, add}
 use Rattle.s80_apply.specs.State.{State}
-use Rattle.s80_apply.specs.System.{IsSystemOf}
+use Rattle.s80_apply.specs.Placed.{placed_of}
+use Rattle.s80_apply.specs.System.{HasPlaces, IsSystemOf}
+use Rattle.s80_disk.specs.Shown.{Shown}
 use Rattle.s80_keeper.specs.Keeper.{KeeperState, Keeps}
 use Rattle.s80_keeper.specs.Answers.{PreparedChange, IsFor}
 use Rattle.s80_keeper.specs.Standing.{FilesStandFor, LeavesEither}
 use Rattle.s80_model.specs.declared.reply.Reply.TheVariants.{Accepted, Refused}
 use Rattle.s80_model.specs.Replies.{Work, reply_to_adding}
 use Rattle.s80_session.specs.declared.session.Session.{Session}
-use Rattle.s80_session.specs.Run.{Shown, HasKept}
-use Rattle.s80_session.specs.Session.{budget_of, keeper_of, last_run_of, section_of}
+use Rattle.s80_session.specs.Run.{HasKept}
+use Rattle.s80_session.specs.Session.{budget_of, keeper_of, section_of}
 use Rattle.s80_session.specs.Working.{IsAt, IsLawfulFor, KeepLeaves, adding}
-use Rattle.s80_session.proofs.Keeping.{keeps_prepared}
+use Rattle.s80_session.proofs.lemmas.Keeping.{keeps_prepared}
 
 -- the model takes what is accepted and fits
-add_takes : (changes : List Change) (change : Change) (after : State) → accept change (length (blocks changes)) (state_of changes) ≡ Ok after → length (blocks changes) + length (block change) ≤ log_limit → add changes change ≡ Ok (changes ++ change ∷ [])
+add_takes : (changes : List Change) (change : Change) (after : State) → accept change (state_of changes) ≡ Ok after → length (blocks changes) + length (block change) ≤ log_limit → add changes change ≡ Ok (changes ++ change ∷ [])
 add_takes changes change after accepted fits = rw (accepted, le-leb (length (blocks changes) + length (block change)) log_limit fits) refl
 
 -- and refuses everything else
@@ -36,13 +38,13 @@ log_is : (may_leave : Image → Type 0) (o : Shown) (session : Session) (work : 
 log_is may_leave o session work put h = sym h.keeps.end ∙ h.keeps.stands.files.whole
 
 -- a session before and after its keeper prepared a change
-module _ (may_leave : Image → Type 0) (o : Shown) (before now : Session) (work : Work) (put : List ℕ) (change : Change) (same : keeper_of now ≡ record (keeper_of before) { system = (keeper_of now).system }) (system : IsSystemOf (keeper_of now).system (state_of work.changes)) (rest : now ≡ record before { keeper = keeper_of now }) (at : IsAt may_leave o before work put) where
+module _ (may_leave : Image → Type 0) (o : Shown) (before now : Session) (work : Work) (put : List ℕ) (change : Change) (same : keeper_of now ≡ record (keeper_of before) { system = (keeper_of now).system }) (system : IsSystemOf (keeper_of now).system (state_of work.changes)) (places : HasPlaces (keeper_of now).system (placed_of work.changes)) (rest : now ≡ record before { keeper = keeper_of now }) (at : IsAt may_leave o before work put) where
   pub still_at : IsAt may_leave o now work put
   still_at = record {
-    keeps = keeps_prepared o.tells o.files may_leave (keeper_of before) work.changes (keeper_of now) same system at.keeps;
+    keeps = keeps_prepared o.tells o.files may_leave (keeper_of before) work.changes (keeper_of now) same system places at.keeps;
     section = ap section_of rest ∙ at.section;
+    brief = at.brief;
     budget = ap budget_of rest ∙ at.budget;
-    last_run = ap last_run_of rest ∙ at.last_run;
     taken = at.taken;
     told = at.told;
   }
@@ -54,10 +56,10 @@ module _ (may_leave : Image → Type 0) (o : Shown) (before now : Session) (work
       rw refuses (refl, still_at)
 
   module _ (prepared : PreparedChange) (is : prepared.change ≡ change) (is_for : IsFor (state_of work.changes) (keeper_of now).system prepared) where
-    pub accepts : (after : State) × (accept change (length (blocks work.changes)) (state_of work.changes) ≡ Ok after)
+    pub accepts : (after : State) × (accept change (state_of work.changes) ≡ Ok after)
     accepts =
-        let makes = is_for.makes (length (blocks work.changes)) in
-        (makes.0, ap (λ x. accept x (length (blocks work.changes)) (state_of work.changes)) (sym is) ∙ makes.1)
+        let makes = is_for.makes in
+        (makes.0, ap (λ x. accept x (state_of work.changes)) (sym is) ∙ makes.1)
 
     pub takes : (keeper_of before).log.end + length (block change) ≤ log_limit → add work.changes change ≡ Ok (work.changes ++ change ∷ [])
     takes fits = let end = log_is may_leave o before work put at in add_takes work.changes change accepts.0 accepts.1 (omega (arith, fits, end))
@@ -76,8 +78,8 @@ kept was may_leave o now before session work put change takes keeps rest shown a
   record {
     keeps = keeps;
     section = ap section_of rest ∙ at.section;
+    brief = at.brief;
     budget = ap budget_of rest ∙ at.budget;
-    last_run = ap last_run_of rest ∙ at.last_run;
     taken = ap (λ (s : Shown). s.taken) shown ∙ at.taken;
     told = ap (λ (s : Shown). s.told) shown ∙ at.told;
   },

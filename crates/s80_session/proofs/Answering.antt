@@ -7,16 +7,19 @@ use Rattle.s80_chunk.specs.declared.item.Item.TheVariants as items
 use Rattle.s80_chunk.specs.Chunks.{IsSound}
 use Rattle.s80_chunk.specs.Held.{Held, HasRead, HoldsNoMore}
 use Rattle.s80_disk.specs.Image.{Image}
+use Rattle.s80_disk.specs.Shown.{Shown, Faults}
 use Rattle.s80_session.specs.declared.session.Session.{Session}
 use Rattle.s80_model.specs.declared.item.SessionItem.{SessionItem}
 use Rattle.s80_model.specs.declared.item.SessionItem.TheVariants.{Chunk}
 use Rattle.s80_session.specs.declared.end.SessionEnd.{SessionEnd}
 use Rattle.s80_session.specs.declared.end.SessionEnd.TheVariants as ends
-use Rattle.s80_session.specs.Ending.{Faults, NoFewer}
+use Rattle.s80_session.specs.Ending.{NoFewer}
 use Rattle.s80_model.specs.Asked.{Ask, evaluates}
 use Rattle.s80_model.specs.Replies.{Work, AsksIn, AllAsk, reply_to, reply_text, is_trouble, work_after, work_after_all, replies, any_trouble}
-use Rattle.s80_session.specs.Run.{Shown, chunks}
-use Rattle.s80_session.specs.Session.{troubled_of}
+use Rattle.s80_machine.specs.Came.{RanValue}
+use Rattle.s80_session.specs.LastRun.{RunBehind, RunBehindAll}
+use Rattle.s80_session.specs.Run.{chunks}
+use Rattle.s80_session.specs.Session.{Was, last_run_of, troubled_of, was_of}
 use Rattle.s80_session.specs.Working.{IsAt, IsReadable, Stepped, IsWorking, BeginsWith, BreaksOff}
 
 -- one item more, in the work behind the others
@@ -79,27 +82,33 @@ troubled_by_now past work asks ask was troubled before is =
     let trouble = is_trouble (reply_to (work_after_all work asks) ask) in
     is ∙ ap (λ b. b || trouble) before ∙ sym (or_assoc past (any_trouble work asks) trouble) ∙ ap (λ b. past || b) (sym (trouble_more work asks ask))
 
+-- the last run by then
+pub run_by_now : (work : Work) (asks : List Ask) (ask : Ask) (before mid now : Option RanValue) → RunBehindAll work asks before mid → RunBehind (work_after_all work asks) ask mid now → RunBehindAll work (asks ++ ask ∷ []) before now
+run_by_now work [] ask before mid now all one = (now, (let P : Option RanValue → Type 0 = λ o. RunBehind work ask o now in subst P all one), refl)
+run_by_now work (first ∷ asks) ask before mid now all one = (all.0, all.1, run_by_now (work_after work first) asks ask all.0 mid now all.2 one)
+
 -- an item more that a reader gave is worked and answered
-pub worked_on : (was_left may_leave : Image → Type 0) (mid now : Shown) (at_work session : Session) (had reader : Held) (past : Bool) (work : Work) (before bytes : List ℕ) (given : List Item) (item : Item) → (w : IsWorking was_left mid at_work had past work before bytes given) → HasRead reader bytes (given ++ item ∷ [])
-    → Stepped {T = Unit {0}} (Ok tt) may_leave now session (troubled_of at_work) (work_after_all work w.asks) (before ++ replies work w.asks) (Chunk item)
-    → IsWorking may_leave now session reader past work before bytes (given ++ item ∷ [])
-worked_on was_left may_leave mid now at_work session had reader past work before bytes given item w read h = record {
+pub worked_on : (was_left may_leave : Image → Type 0) (mid now : Shown) (at_work session : Session) (had reader : Held) (was : Was) (work : Work) (before bytes : List ℕ) (given : List Item) (item : Item) → (w : IsWorking was_left mid at_work had was work before bytes given) → HasRead reader bytes (given ++ item ∷ [])
+    → Stepped {T = Unit {0}} (Ok tt) may_leave now session (was_of at_work) (work_after_all work w.asks) (before ++ replies work w.asks) (Chunk item)
+    → IsWorking may_leave now session reader was work before bytes (given ++ item ∷ [])
+worked_on was_left may_leave mid now at_work session had reader was work before bytes given item w read h = record {
   asks = w.asks ++ h.0 ∷ [];
   read = read;
   asked = given_asks_more work given w.asks item h.0 w.asked h.1;
-  at = is_at_more may_leave now session work before w.asks h.0 h.3;
-  troubled = troubled_by_now past work w.asks h.0 (troubled_of at_work) (troubled_of session) w.troubled h.2;
+  at = is_at_more may_leave now session work before w.asks h.0 h.4;
+  troubled = troubled_by_now was.troubled work w.asks h.0 (troubled_of at_work) (troubled_of session) w.troubled h.2;
+  last_run = run_by_now work w.asks h.0 was.last_run (last_run_of at_work) (last_run_of session) w.last_run h.3;
 }
 
 pub begins : (reader : Held) (ended : Bool) (bytes : List ℕ) (given : List Item) → reader.ended ≡ ended → HasRead reader bytes given → BeginsWith ended bytes given
 begins reader ended bytes given is h = let P : Bool → Type 0 = λ b. BeginsWith b bytes given in subst P is (h.rest, h.reads)
 
 -- a step that broke off
-pub broke_off : (T : Type 0) (end : SessionEnd) (may_leave : Image → Type 0) (now : Shown) (session : Session) (was ended : Bool) (work : Work) (before bytes : List ℕ) (given : List Item) (asks : List Ask) (item : Item) → BeginsWith ended bytes given → AllAsk work (chunks given) asks → BeginsWith ended bytes (given ++ item ∷ [])
+pub broke_off : (T : Type 0) (end : SessionEnd) (may_leave : Image → Type 0) (now : Shown) (session : Session) (was : Was) (ended : Bool) (work : Work) (before bytes : List ℕ) (given : List Item) (asks : List Ask) (item : Item) → BeginsWith ended bytes given → AllAsk work (chunks given) asks → BeginsWith ended bytes (given ++ item ∷ [])
     → Stepped {T = T} (Err end) may_leave now session was (work_after_all work asks) (before ++ replies work asks) (Chunk item) → BreaksOff end may_leave now session ended work before bytes
 broke_off T ends.Memory may_leave now session was ended work before bytes given asks item had asked has (inl at) = inl (asks, (given, had, asked), at)
-broke_off T ends.Memory may_leave now session was ended work before bytes given asks item had asked has (inr (text, ran, told, one, at)) =
-    inr (asks, text, ran, told, (given ++ item ∷ [], has, given_asks_more work given asks item (evaluates text ran told) asked one), at)
+broke_off T ends.Memory may_leave now session was ended work before bytes given asks item had asked has (inr (text, told, stopped, one, at)) =
+    inr (asks, text, told, stopped, (given ++ item ∷ [], has, given_asks_more work given asks item (evaluates text told stopped) asked one), at)
 broke_off T (ends.Disk failed) may_leave now session was ended work before bytes given asks item had asked has h = (asks, (given, had, asked), h)
 broke_off T (ends.Write failed) may_leave now session was ended work before bytes given asks item had asked has h =
     let put = (before ++ replies work asks) ++ take h.2 (reply_text (reply_to (work_after_all work asks) h.0)) in

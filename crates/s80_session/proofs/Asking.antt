@@ -6,7 +6,7 @@ use Rattle.s80_syntax.specs.Text.{IsDoItOf}
 use Rattle.s80_chunk.specs.Chunks.{IsChunkText, longest}
 use Rattle.s80_change.specs.declared.change.Change.{Change}
 use Rattle.s80_change.specs.declared.change.Change.TheVariants.{DoIt}
-use Rattle.s80_change.proofs.TextOf.{form_of_text}
+use Rattle.s80_change.proofs.lemmas.TextOf.{form_of_text}
 use Rattle.s80_form.specs.Definition.{IsNoDefinition, IsNoForm}
 use Rattle.s80_doit.specs.DoIt.{Fits}
 use Rattle.s80_change.specs.Check.{size_refusal, as_method}

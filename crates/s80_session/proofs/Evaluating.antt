@@ -1,5 +1,5 @@
 -- A doIt that is kept and evaluated.
-use Rattle.std.proofs.Common.{◌≡◌, inl, inr, ℕ, List, [], ◌∷◌, ◌++◌, length, refl, sym, ap, subst, ◌∙◌, Result, Ok, Err, Option, Some}
+use Rattle.std.proofs.Common.{◌≡◌, ℕ, Bool, false, List, [], ◌∷◌, ◌++◌, length, refl, sym, ap, subst, ◌∙◌, Result, Ok, Err, Option, Some}
 use Rattle.std.specs.Prelude.{None}
 use Rattle.s80_chunk.specs.declared.item.Item.TheVariants as items
 use Rattle.s80_change.specs.declared.change.Change.{Change}
@@ -9,122 +9,118 @@ use Rattle.s80_form.specs.declared.refusal.Refusal.{Refusal}
 use Rattle.s80_form.specs.Definition.{IsNoDefinition}
 use Rattle.s80_disk.specs.Image.{Image}
 use Rattle.s80_disk.specs.Moments.{LeavesOnly}
+use Rattle.s80_doit.specs.Answer.{EvaluatesTo}
 use Rattle.s80_doit.specs.DoIt.{AreGiven, Fits, IsRunOf, is_stopped}
+use Rattle.s80_disk.specs.Shown.{Shown}
 use Rattle.s80_keeper.specs.Keeper.{KeeperState, Keeps}
 use Rattle.s80_machine.specs.Came.{RanValue}
 use Rattle.s80_print.specs.Outcome.{outcome_text}
 use Rattle.s80_apply.specs.List.{add, added, refusal_to, state_of}
 use Rattle.s80_apply.specs.State.{State}
 use Rattle.s80_apply.specs.System.{IsSystemOf, SystemState}
-use Rattle.s80_apply.proofs.Lists.{state_more}
+use Rattle.s80_apply.proofs.lemmas.Lists.{state_more}
 use Rattle.s80_model.specs.declared.item.SessionItem.TheVariants.{Chunk}
 use Rattle.s80_model.specs.declared.reply.Reply.{Reply}
 use Rattle.s80_model.specs.declared.reply.Reply.TheVariants.{Accepted, Evaluated, Refused}
 use Rattle.s80_model.specs.Asked.{evaluates}
-use Rattle.s80_model.specs.Replies.{Work, AsksIn, IsEvaluated, kept, list_or, reply_to_adding, reply_to_evaluating, run_or, work_after}
+use Rattle.s80_model.specs.Replies.{Work, AsksIn, IsEvaluated, list_or, reply_to_adding, reply_to_evaluating}
+use Rattle.s80_model.specs.Settings.{Settings}
 use Rattle.s80_session.specs.declared.session.Session.{Session}
-use Rattle.s80_session.specs.Run.{Shown}
-use Rattle.s80_session.specs.Session.{budget_of, keeper_of, last_run_of, section_of}
+use Rattle.s80_session.specs.LastRun.{RunBehindAdding}
+use Rattle.s80_session.specs.Session.{Was, budget_of, keeper_of, last_run_of, section_of}
 use Rattle.s80_session.specs.Working.{IsAt, IsUnevaluated, Kept, KeepLeaves, Evaluates, Replied, WorkLeaves, adding}
 use Rattle.s80_session.proofs.Stepping.{kept_lasts}
 
 -- ---- what a doIt asks
 
--- a doIt leaves the state, whether it is added or not
-state_after_doit : (changes : List Change) (text : List ℕ) (o : Option Refusal) → state_of (list_or (added o (changes ++ DoIt text ∷ [])) changes) ≡ state_of changes
-state_after_doit changes text None = state_more changes (DoIt text)
-state_after_doit changes text (Some refusal) = refl
+-- what a text comes to in the state before it is added is what it comes to behind that, where it is added; of a refused one nothing is told
+told_so : (changes : List Change) (text : List ℕ) (settings : Settings) (told : List ℕ) (stopped : Bool) → EvaluatesTo (state_of changes) text settings.budget told stopped
+    → (o : Option Refusal) → (t : List ℕ) × (s : Bool) × IsEvaluated (added o (changes ++ DoIt text ∷ [])) text settings t s
+told_so changes text settings told stopped h None =
+    let P : State → Type 0 = λ s. EvaluatesTo s text settings.budget told stopped in
+    (told, stopped, subst P (sym (state_more changes (DoIt text))) h)
+told_so changes text settings told stopped h (Some refusal) = ([], false, (refl, refl))
 
--- so a run among the classes and methods of the list is one among those of the list with it
-is_evaluated : (changes : List Change) (text : List ℕ) (budget : ℕ) (ran : RanValue) (system : SystemState) → IsSystemOf system (state_of changes) → AreGiven system → IsRunOf system text budget ran
-    → (o : Option Refusal) → IsEvaluated (added o (changes ++ DoIt text ∷ [])) text budget ran (outcome_text system.table ran.outcome)
-is_evaluated changes text budget ran system is given run None =
-    let P : State → Type 0 = λ s. IsSystemOf system s in
-    record { system = system; is = subst P (sym (state_more changes (DoIt text))) is; given = given; run = run; told_is = refl }
-is_evaluated changes text budget ran system is given run (Some refusal) = tt
-
-pub asks_doit : (work : Work) (text : List ℕ) (ran : RanValue) (system : SystemState) → Fits text → IsNoDefinition text → IsSystemOf system (state_of work.changes) → AreGiven system → IsRunOf system text work.budget ran → AsksIn work (Chunk (items.Plain text)) (evaluates text ran (outcome_text system.table ran.outcome))
-asks_doit work text ran system fits none is given run =
-    ((fits, refl, none), is_evaluated work.changes text work.budget ran system is given run (refusal_to (state_of work.changes) (length (blocks work.changes)) (DoIt text)))
+-- so an item that is a doIt asks something
+pub asks_doit : (work : Work) (text told : List ℕ) (stopped : Bool) → Fits text → IsNoDefinition text → EvaluatesTo (state_of work.changes) text work.settings.budget told stopped → (t : List ℕ) × (s : Bool) × AsksIn work (Chunk (items.Plain text)) (evaluates text t s)
+asks_doit work text told stopped fits none h =
+    let so = told_so work.changes text work.settings told stopped h (refusal_to (state_of work.changes) (length (blocks work.changes)) (DoIt text)) in
+    (so.0, so.1, ((fits, refl, none), so.2))
 
 -- ---- what it is answered
 
-evaluating_added : (r : Result (List Change) Refusal) (ran : RanValue) (told : List ℕ) → Accepted ≡ reply_to_adding r → Evaluated (told ++ 10 ∷ []) (is_stopped ran.outcome.end) ≡ reply_to_evaluating r ran told
-evaluating_added (Ok changes) ran told e = refl
-evaluating_added (Err refusal) ran told e = absurd (cc)
+-- where it is added
+evaluated_added : (r : Result (List Change) Refusal) (changes : List Change) (text : List ℕ) (settings : Settings) (told : List ℕ) (stopped : Bool) → Accepted ≡ reply_to_adding r → EvaluatesTo (state_of (list_or r changes)) text settings.budget told stopped → IsEvaluated r text settings told stopped
+evaluated_added (Ok list) changes text settings told stopped e h = h
+evaluated_added (Err refusal) changes text settings told stopped e h = absurd (cc)
 
-run_added : (r : Result (List Change) Refusal) (ran : RanValue) (before : Option RanValue) → Accepted ≡ reply_to_adding r → Some ran ≡ run_or r ran before
-run_added (Ok changes) ran before e = refl
-run_added (Err refusal) ran before e = absurd (cc)
+evaluating_added : (r : Result (List Change) Refusal) (told : List ℕ) (stopped : Bool) → Accepted ≡ reply_to_adding r → Evaluated (told ++ 10 ∷ []) stopped ≡ reply_to_evaluating r told stopped
+evaluating_added (Ok changes) told stopped e = refl
+evaluating_added (Err refusal) told stopped e = absurd (cc)
 
-evaluating_refused : (r : Result (List Change) Refusal) (refusal : Refusal) (ran : RanValue) (told : List ℕ) → Refused refusal ≡ reply_to_adding r → Refused refusal ≡ reply_to_evaluating r ran told
-evaluating_refused (Ok changes) refusal ran told e = absurd (cc)
-evaluating_refused (Err other) refusal ran told e = e
+run_added : (r : Result (List Change) Refusal) (changes : List Change) (text : List ℕ) (settings : Settings) (before now : Option RanValue) (system : SystemState) (ran : RanValue) → Accepted ≡ reply_to_adding r → IsSystemOf system (state_of (list_or r changes)) → AreGiven system → IsRunOf system text settings.budget ran → now ≡ Some ran
+    → RunBehindAdding r text settings (outcome_text system.table ran.outcome) (is_stopped ran.outcome.end) before now
+run_added (Ok list) changes text settings before now system ran e is given run last = (ran, record { system = system; is = is; given = given; run = run; told_is = refl; stopped_is = refl }, last)
+run_added (Err refusal) changes text settings before now system ran e is given run last = absurd (cc)
 
-run_refused : (r : Result (List Change) Refusal) (refusal : Refusal) (ran : RanValue) (before : Option RanValue) → Refused refusal ≡ reply_to_adding r → before ≡ run_or r ran before
-run_refused (Ok changes) refusal ran before e = absurd (cc)
-run_refused (Err other) refusal ran before e = refl
+-- where it is refused
+evaluated_refused : (r : Result (List Change) Refusal) (text : List ℕ) (settings : Settings) (refusal : Refusal) → Refused refusal ≡ reply_to_adding r → IsEvaluated r text settings [] false
+evaluated_refused (Ok changes) text settings refusal e = absurd (cc)
+evaluated_refused (Err other) text settings refusal e = (refl, refl)
 
--- a doIt that isn't kept isn't evaluated, whatever its run would have come to
-pub replied_unkept : (may_leave : Image → Type 0) (now : Shown) (session : Session) (work : Work) (put text : List ℕ) (ran : RanValue) (told : List ℕ) (refusal : Refusal) → AsksIn work (Chunk (items.Plain text)) (evaluates text ran told) → Kept (Ok (Some refusal)) may_leave now session work put (DoIt text) → Replied (Ok (Refused refusal)) may_leave now session work put (Chunk (items.Plain text))
-replied_unkept may_leave now session work put text ran told refusal asks h =
-    let r : Result (List Change) Refusal = add work.changes (DoIt text) in
-    let at = h.1 in (
-      evaluates text ran told,
-      asks,
-      evaluating_refused r refusal ran told h.0,
-      record { keeps = at.keeps; section = at.section; budget = at.budget; last_run = at.last_run ∙ run_refused r refusal ran work.last_run h.0; taken = at.taken; told = at.told },
+evaluating_refused : (r : Result (List Change) Refusal) (refusal : Refusal) → Refused refusal ≡ reply_to_adding r → Refused refusal ≡ reply_to_evaluating r [] false
+evaluating_refused (Ok changes) refusal e = absurd (cc)
+evaluating_refused (Err other) refusal e = e
+
+run_refused : (r : Result (List Change) Refusal) (text : List ℕ) (settings : Settings) (refusal : Refusal) (before now : Option RanValue) → Refused refusal ≡ reply_to_adding r → now ≡ before → RunBehindAdding r text settings [] false before now
+run_refused (Ok changes) text settings refusal before now e same = absurd (cc)
+run_refused (Err other) text settings refusal before now e same = same
+
+-- a doIt that isn't kept isn't evaluated
+pub replied_unkept : (may_leave : Image → Type 0) (now : Shown) (session : Session) (was : Was) (work : Work) (put text : List ℕ) (refusal : Refusal) → Fits text → IsNoDefinition text → last_run_of session ≡ was.last_run → Kept (Ok (Some refusal)) may_leave now session work put (DoIt text) → Replied (Ok (Refused refusal)) may_leave now session was work put (Chunk (items.Plain text))
+replied_unkept may_leave now session was work put text refusal fits none same h =
+    let r : Result (List Change) Refusal = add work.changes (DoIt text) in (
+      evaluates text [] false,
+      ((fits, refl, none), evaluated_refused r text work.settings refusal h.0),
+      evaluating_refused r refusal h.0,
+      run_refused r text work.settings refusal was.last_run (last_run_of session) h.0 same,
+      h.1,
     )
 
 -- a doIt that is kept
 module _ (may_leave : Image → Type 0) (now : Shown) (mid session : Session) (work : Work) (put text : List ℕ) (fits : Fits text) (none : IsNoDefinition text) (rest : session ≡ record mid { last_run = last_run_of session }) (h : Kept (Ok None) may_leave now mid work put (DoIt text)) where
-  keeps_on : Keeps now.tells now.files may_leave (keeper_of session) (adding work (DoIt text)).changes
-  keeps_on = let P : KeeperState → Type 0 = λ k. Keeps now.tells now.files may_leave k (adding work (DoIt text)).changes in subst P (sym (ap keeper_of rest)) h.1.keeps
-
-  -- the keeper has the classes and methods of the list before it too
-  is_before : IsSystemOf (keeper_of mid).system (state_of work.changes)
-  is_before =
-      let P : State → Type 0 = λ s. IsSystemOf (keeper_of mid).system s in
-      subst P (state_after_doit work.changes text (refusal_to (state_of work.changes) (length (blocks work.changes)) (DoIt text))) h.1.keeps.system
+  is_at : IsAt may_leave now session (adding work (DoIt text)) put
+  is_at = record {
+    keeps = let P : KeeperState → Type 0 = λ k. Keeps now.tells now.files may_leave k (adding work (DoIt text)).changes in subst P (sym (ap keeper_of rest)) h.1.keeps;
+    section = ap section_of rest ∙ h.1.section;
+    brief = h.1.brief;
+    budget = ap budget_of rest ∙ h.1.budget;
+    taken = h.1.taken;
+    told = h.1.told;
+  }
 
   -- and is evaluated
-  pub replied_evaluated : (reply : Reply) → Evaluates {E = Unit {0}} (Ok reply) mid session text → Replied (Ok reply) may_leave now session work put (Chunk (items.Plain text))
-  replied_evaluated reply (ran, given, run, reply_is, last) =
+  pub replied_evaluated : (was : Was) (reply : Reply) → Evaluates {E = Unit {0}} (Ok reply) mid session text → Replied (Ok reply) may_leave now session was work put (Chunk (items.Plain text))
+  replied_evaluated was reply (ran, given, run, evaluated, reply_is, last) =
       let r : Result (List Change) Refusal = add work.changes (DoIt text) in
-      let told : List ℕ = outcome_text (keeper_of mid).system.table ran.outcome in
-      let P : ℕ → Type 0 = λ b. IsRunOf (keeper_of mid).system text b ran in (
-        evaluates text ran told,
-        asks_doit work text ran (keeper_of mid).system fits none is_before given (subst P h.1.budget run),
-        reply_is ∙ evaluating_added r ran told h.0,
-        record {
-          keeps = keeps_on;
-          section = ap section_of rest ∙ h.1.section;
-          budget = ap budget_of rest ∙ h.1.budget;
-          last_run = last ∙ run_added r ran work.last_run h.0;
-          taken = h.1.taken;
-          told = h.1.told;
-        },
+      let system : SystemState = (keeper_of mid).system in
+      let told : List ℕ = outcome_text system.table ran.outcome in
+      let stopped : Bool = is_stopped ran.outcome.end in
+      let P : ℕ → Type 0 = λ b. IsRunOf system text b ran in
+      let Q : ℕ → Type 0 = λ b. EvaluatesTo (state_of (list_or r work.changes)) text b told stopped in (
+        evaluates text told stopped,
+        ((fits, refl, none), evaluated_added r work.changes text work.settings told stopped h.0 (subst Q h.1.budget (evaluated (state_of (list_or r work.changes)) h.1.keeps.system))),
+        reply_is ∙ evaluating_added r told stopped h.0,
+        run_added r work.changes text work.settings was.last_run (last_run_of session) system ran h.0 h.1.keeps.system given (subst P h.1.budget run) last,
+        is_at,
       )
 
   -- or memory was wanting for that
-  pub unevaluated : (ran : RanValue) (told : List ℕ) → AsksIn work (Chunk (items.Plain text)) (evaluates text ran told) → last_run_of session ≡ last_run_of mid → IsUnevaluated may_leave now session work put (Chunk (items.Plain text))
-  unevaluated ran told asks same = (
-    text,
-    ran,
-    told,
-    asks,
-    record {
-      keeps = keeps_on;
-      section = ap section_of rest ∙ h.1.section;
-      budget = ap budget_of rest ∙ h.1.budget;
-      last_run = same ∙ h.1.last_run;
-      taken = h.1.taken;
-      told = h.1.told;
-    },
-  )
+  pub unevaluated : (told : List ℕ) (stopped : Bool) → AsksIn work (Chunk (items.Plain text)) (evaluates text told stopped) → IsUnevaluated may_leave now session work put (Chunk (items.Plain text))
+  unevaluated told stopped asks = (text, told, stopped, asks, is_at)
 
 -- ---- each moment of the keeping
 
 module _ {D : Type 0} (moment : D → ℕ) (left_since : D → ℕ → ℕ → Image → Type 0) where
-  pub doit_lasts : (old new : D) (work : Work) (put text : List ℕ) (ran : RanValue) (told : List ℕ) → AsksIn work (Chunk (items.Plain text)) (evaluates text ran told) → LeavesOnly moment left_since old new (KeepLeaves work put (DoIt text)) → LeavesOnly moment left_since old new (WorkLeaves work put (Chunk (items.Plain text)))
-  doit_lasts old new work put text ran told asks run = kept_lasts moment left_since old new work put (Chunk (items.Plain text)) (evaluates text ran told) (DoIt text) asks refl run
+  pub doit_lasts : (old new : D) (work : Work) (put text told : List ℕ) (stopped : Bool) → AsksIn work (Chunk (items.Plain text)) (evaluates text told stopped) → LeavesOnly moment left_since old new (KeepLeaves work put (DoIt text)) → LeavesOnly moment left_since old new (WorkLeaves work put (Chunk (items.Plain text)))
+  doit_lasts old new work put text told stopped asks run = kept_lasts moment left_since old new work put (Chunk (items.Plain text)) (evaluates text told stopped) (DoIt text) asks refl run

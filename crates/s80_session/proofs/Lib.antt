@@ -1,10 +1,10 @@
+pub mod lemmas
 pub mod Adding
 pub mod Answering
 pub mod Asking
+pub mod Brief
 pub mod Evaluating
 pub mod Finishing
-pub mod Keeping
-pub mod Lasting
 pub mod Lawful
 pub mod Marking
 pub mod Reading

@@ -4,23 +4,22 @@ use Rattle.std.specs.Prelude.{IfErr, ◌↔◌}
 use Rattle.s80_base.specs.Causes.{Rose}
 use Rattle.s80_base.specs.declared.outside.Failed.{Failed}
 use Rattle.s80_form.specs.declared.refusal.Refusal.{Refusal}
-use Rattle.s80_disk.specs.declared.disk.FileId.{FileId}
 use Rattle.s80_disk.specs.Image.{Image}
+use Rattle.s80_disk.specs.Shown.{Shown, Faults}
 use Rattle.s80_keeper.specs.declared.keep.KeepFault.{KeepFault}
 use Rattle.s80_keeper.specs.declared.keep.KeepFault.TheVariants as faults
-use Rattle.s80_keeper.specs.Answers.{AfterKeeping, IfKeepDisk, PreparedChange}
+use Rattle.s80_keeper.specs.Answers.{AfterKeeping, IfKeepDisk, UnlessKeepDisk, PreparedChange}
 use Rattle.s80_keeper.specs.Keeper.{KeeperState, Keeps}
 use Rattle.s80_keeper.specs.Source.{IsThis, after_reading}
 use Rattle.s80_model.specs.declared.item.SessionItem.{SessionItem}
 use Rattle.s80_model.specs.Replies.{Work}
 use Rattle.s80_session.specs.declared.session.Session.{Session}
-use Rattle.s80_session.specs.Ending.{Faults, EndsForReasonOrDamage, HasReason}
+use Rattle.s80_session.specs.Ending.{EndsForReasonOrDamage, HasReason}
 use Rattle.s80_session.specs.Ends.{refusal_at_fault}
-use Rattle.s80_session.specs.Run.{Shown}
-use Rattle.s80_session.specs.Session.{budget_of, keeper_of, last_run_of, section_of}
+use Rattle.s80_session.specs.Session.{budget_of, keeper_of, section_of}
 use Rattle.s80_session.specs.Working.{IsAt, Unreplied}
 use Rattle.s80_session.proofs.Adding.{not_both}
-use Rattle.s80_session.proofs.Keeping.{keeps_less}
+use Rattle.s80_session.proofs.lemmas.Keeping.{keeps_less}
 
 -- ---- a change wasn't kept
 
@@ -34,7 +33,7 @@ fault_ends result (faults.Damaged damage) refusal is roomy gives = cc
 
 -- and its reason
 pub kept_reason : (result : Result ℕ KeepFault) (prepared : PreparedChange) (before now : KeeperState) (fault : KeepFault) (a b : Faults) → result ≡ Err fault → AfterKeeping result prepared before now → IfKeepDisk result (λ failed. Rose a.disk b.disk) → ((failed : Failed) → (result ≡ Err (faults.Closed failed)) ↔ (before.fault ≡ Some failed)) → before.fault ≡ None → IfErr (refusal_at_fault fault) (HasReason a b)
-kept_reason result prepared before now faults.Memory a b is after cause closed calm = tt
+kept_reason result prepared before now faults.Memory a b is after cause closed calm = absurd (let P : Result ℕ KeepFault → Type 0 = λ r. AfterKeeping r prepared before now in subst P is after)
 kept_reason result prepared before now (faults.Disk failed) a b is after cause closed calm = let P : Result ℕ KeepFault → Type 0 = λ r. IfKeepDisk r (λ failed. Rose a.disk b.disk) in subst P is cause
 kept_reason result prepared before now (faults.Closed failed) a b is after cause closed calm = absurd (not_both before.fault failed calm ((closed failed).0 is))
 kept_reason result prepared before now (faults.Full n) a b is after cause closed calm = tt
@@ -42,20 +41,16 @@ kept_reason result prepared before now (faults.Damaged damage) a b is after caus
 
 -- ---- a source was to be read
 
--- the files read as before
-files_same : (o now : Shown) → ((file : FileId) → now.files file ≡ o.files file) → now ≡ record o { files = now.files } → now ≡ o
-files_same o now same is = is ∙ (λ i. record o { files = λ file. same file i })
-
 -- a session that has read a source is where it was
-pub at_read : (was may_leave : Image → Type 0) (o now : Shown) (before session : Session) (work : Work) (put : List ℕ) → keeper_of session ≡ keeper_of before → session ≡ record before { keeper = keeper_of session } → ((c : Image) → may_leave c → was c) → ((file : FileId) → now.files file ≡ o.files file) → now ≡ record o { files = now.files } → IsAt was o before work put → IsAt may_leave now session work put
-at_read was may_leave o now before session work put keeper rest less same is at =
+pub at_read : (was may_leave : Image → Type 0) (o now : Shown) (before session : Session) (work : Work) (put : List ℕ) → keeper_of session ≡ keeper_of before → session ≡ record before { keeper = keeper_of session } → ((c : Image) → may_leave c → was c) → now ≡ o → IsAt was o before work put → IsAt may_leave now session work put
+at_read was may_leave o now before session work put keeper rest less is at =
     let P : Shown → Type 0 = λ s. IsAt may_leave s session work put in
     let Q : KeeperState → Type 0 = λ k. Keeps o.tells o.files may_leave k work.changes in
-    subst P (sym (files_same o now same is)) (record {
+    subst P (sym is) (record {
       keeps = subst Q (sym keeper) (keeps_less o.tells o.files may_leave (keeper_of before) work.changes was less at.keeps);
       section = ap section_of rest ∙ at.section;
+      brief = at.brief;
       budget = ap budget_of rest ∙ at.budget;
-      last_run = ap last_run_of rest ∙ at.last_run;
       taken = at.taken;
       told = at.told;
     })
@@ -68,17 +63,25 @@ unread_ends (faults.Closed failed) source refusal this gives = cc
 unread_ends (faults.Full n) source refusal this gives = this
 unread_ends (faults.Damaged damage) source refusal this gives = this
 
-pub fault_unread : (fault : KeepFault) (source : Option (List ℕ)) (was may_leave : Image → Type 0) (o now : Shown) (before session : Session) (work : Work) (put : List ℕ) (item : SessionItem) → IsThis source (Err fault) → keeper_of session ≡ after_reading (Err fault) (keeper_of before) → session ≡ record before { keeper = keeper_of session } → ((c : Image) → may_leave c → was c) → ((file : FileId) → now.files file ≡ o.files file) → now ≡ record o { files = now.files } → IsAt was o before work put
+pub fault_unread : (fault : KeepFault) (source : Option (List ℕ)) (was may_leave : Image → Type 0) (o now : Shown) (before session : Session) (work : Work) (put : List ℕ) (item : SessionItem) → IsThis source (Err fault) → keeper_of session ≡ after_reading (Err fault) (keeper_of before) → session ≡ record before { keeper = keeper_of session } → ((c : Image) → may_leave c → was c) → now ≡ o → IsAt was o before work put
     → IfErr (refusal_at_fault fault) (λ end. Unreplied end may_leave now session work put item)
-fault_unread faults.Memory source was may_leave o now before session work put item this after rest less same is at = inl (at_read was may_leave o now before session work put after rest less same is at)
-fault_unread (faults.Disk failed) source was may_leave o now before session work put item this after rest less same is at = ap (λ (s : Shown). s.taken) is ∙ at.taken
-fault_unread (faults.Closed failed) source was may_leave o now before session work put item this after rest less same is at = ap (λ (s : Shown). s.taken) is ∙ at.taken
-fault_unread (faults.Full n) source was may_leave o now before session work put item this after rest less same is at = tt
-fault_unread (faults.Damaged damage) source was may_leave o now before session work put item this after rest less same is at = absurd this
+fault_unread faults.Memory source was may_leave o now before session work put item this after rest less is at = inl (at_read was may_leave o now before session work put after rest less is at)
+fault_unread (faults.Disk failed) source was may_leave o now before session work put item this after rest less is at = ap (λ (s : Shown). s.taken) is ∙ at.taken
+fault_unread (faults.Closed failed) source was may_leave o now before session work put item this after rest less is at = ap (λ (s : Shown). s.taken) is ∙ at.taken
+fault_unread (faults.Full n) source was may_leave o now before session work put item this after rest less is at = tt
+fault_unread (faults.Damaged damage) source was may_leave o now before session work put item this after rest less is at = absurd this
 
-pub read_reason : (T : Type 0) (result : Result (Option (List ℕ)) KeepFault) (before : KeeperState) (fault : KeepFault) (a b : Faults) → result ≡ Err fault → IfKeepDisk result (λ failed. Rose a.disk b.disk) → ((failed : Failed) → (result ≡ Err (faults.Closed failed)) ↔ (before.fault ≡ Some failed)) → before.fault ≡ None → IfErr (refusal_at_fault fault) (λ end. EndsForReasonOrDamage {T = T} a b (Err end))
-read_reason T result before faults.Memory a b is cause closed calm = tt
-read_reason T result before (faults.Disk failed) a b is cause closed calm = let P : Result (Option (List ℕ)) KeepFault → Type 0 = λ r. IfKeepDisk r (λ failed. Rose a.disk b.disk) in subst P is cause
-read_reason T result before (faults.Closed failed) a b is cause closed calm = absurd (not_both before.fault failed calm ((closed failed).0 is))
-read_reason T result before (faults.Full n) a b is cause closed calm = tt
-read_reason T result before (faults.Damaged damage) a b is cause closed calm = tt
+-- the counts are as before where that of the disk is
+pub faults_same : (a b : Faults) → b ≡ record a { disk = b.disk } → b.disk ≡ a.disk → b ≡ a
+faults_same a b rest same = rest ∙ (λ i. record a { disk = same i })
+
+pub read_reason : (T : Type 0) (result : Result (Option (List ℕ)) KeepFault) (before : KeeperState) (fault : KeepFault) (a b : Faults) → result ≡ Err fault → b ≡ record a { disk = b.disk } → IfKeepDisk result (λ failed. Rose a.disk b.disk) → UnlessKeepDisk result (b.disk ≡ a.disk) → ((failed : Failed) → (result ≡ Err (faults.Closed failed)) ↔ (before.fault ≡ Some failed)) → before.fault ≡ None → IfErr (refusal_at_fault fault) (λ end. EndsForReasonOrDamage {T = T} a b (Err end))
+read_reason T result before faults.Memory a b is rest cause stay closed calm =
+    let P : Result (Option (List ℕ)) KeepFault → Type 0 = λ r. UnlessKeepDisk r (b.disk ≡ a.disk) in
+    faults_same a b rest (subst P is stay)
+read_reason T result before (faults.Disk failed) a b is rest cause stay closed calm = let P : Result (Option (List ℕ)) KeepFault → Type 0 = λ r. IfKeepDisk r (λ failed. Rose a.disk b.disk) in subst P is cause
+read_reason T result before (faults.Closed failed) a b is rest cause stay closed calm = absurd (not_both before.fault failed calm ((closed failed).0 is))
+read_reason T result before (faults.Full n) a b is rest cause stay closed calm = tt
+read_reason T result before (faults.Damaged damage) a b is rest cause stay closed calm =
+    let P : Result (Option (List ℕ)) KeepFault → Type 0 = λ r. UnlessKeepDisk r (b.disk ≡ a.disk) in
+    faults_same a b rest (subst P is stay)

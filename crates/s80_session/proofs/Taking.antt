@@ -6,28 +6,28 @@ use Rattle.s80_chunk.specs.declared.item.Item.{Item}
 use Rattle.s80_chunk.specs.Chunks.{Reads}
 use Rattle.s80_chunk.specs.Chunks.Reads.{stop}
 use Rattle.s80_chunk.specs.Held.{Held, HasRead, HoldsNoMore, fed}
-use Rattle.s80_chunk.proofs.Reading.{reads_more, reads_ended}
+use Rattle.s80_chunk.proofs.lemmas.Reading.{reads_more, reads_ended}
 use Rattle.s80_disk.specs.Image.{Image}
+use Rattle.s80_disk.specs.Shown.{Shown}
 use Rattle.s80_session.specs.declared.session.Session.{Session}
 use Rattle.s80_session.specs.declared.end.SessionEnd.{SessionEnd}
 use Rattle.s80_session.specs.declared.end.SessionEnd.TheVariants as ends
-use Rattle.s80_machine.specs.Came.{RanValue}
 use Rattle.s80_model.specs.Asked.{Ask, evaluates}
 use Rattle.s80_model.specs.Replies.{Work, AllAsk, kept, list_after_all, work_after_all, replies}
-use Rattle.s80_session.specs.Run.{Shown, ShownFor, chunks, FirstItemsOf, FirstAsksOf, WholeAsksOf, Answered, BrokeOff, Unevaluated, Ends, input_limit}
-use Rattle.s80_session.specs.Session.{keeper_of, troubled_of}
+use Rattle.s80_session.specs.Run.{ShownFor, chunks, FirstItemsOf, FirstAsksOf, WholeAsksOf, Answered, BrokeOff, Unevaluated, Ends, input_limit}
+use Rattle.s80_session.specs.Session.{Was, keeper_of, troubled_of, was_of}
 use Rattle.s80_session.specs.Working.{IsAt, IsWorking, BeginsWith, BeginsAsking, BreaksOff, AnswersAll, Takes, AtEnd}
 use Rattle.s80_session.proofs.Answering.{work_after_more}
-use Rattle.s80_session.proofs.Keeping.{keeps_less, keeps_stands}
+use Rattle.s80_session.proofs.lemmas.Keeping.{keeps_less, keeps_stands}
 
 -- a front of the input was taken, and what is whole of it is answered
-pub record IsTaking (may_leave : Image → Type 0) (now : Shown) (session : Session) (reader : Held) (past : Bool) (work : Work) (input before : List ℕ) : Type 0 where
+pub record IsTaking (may_leave : Image → Type 0) (now : Shown) (session : Session) (reader : Held) (was : Was) (work : Work) (input before : List ℕ) : Type 0 where
   pub bytes : List ℕ
   pub left : List ℕ
   pub given : List Item
   pub input_is : input ≡ bytes ++ left
   pub left_is : now.left ≡ Some left
-  pub working : IsWorking may_leave now session reader past work before bytes given
+  pub working : IsWorking may_leave now session reader was work before bytes given
   pub none : HoldsNoMore false bytes given
 
 -- what a front of the input reads as is what the input begins with
@@ -47,35 +47,35 @@ pub answered_all : (may_leave : Image → Type 0) (now : Shown) (session : Sessi
 answered_all may_leave now session work before asks h = record { stands = keeps_stands now.tells now.files may_leave (keeper_of session) (list_after_all work asks) h.keeps; taken = h.taken }
 
 -- a doIt was kept, and isn't evaluated
-pub unevaluated : (may_leave : Image → Type 0) (now : Shown) (session : Session) (work : Work) (before input : List ℕ) (asks : List Ask) (text : List ℕ) (ran : RanValue) (told : List ℕ) → FirstAsksOf work input (asks ++ evaluates text ran told ∷ [])
-    → IsAt may_leave now session (kept (work_after_all work asks) (evaluates text ran told)) (before ++ replies work asks) → Unevaluated may_leave now work input before
-unevaluated may_leave now session work before input asks text ran told first at =
+pub unevaluated : (may_leave : Image → Type 0) (now : Shown) (session : Session) (work : Work) (before input : List ℕ) (asks : List Ask) (text told : List ℕ) (stopped : Bool) → FirstAsksOf work input (asks ++ evaluates text told stopped ∷ [])
+    → IsAt may_leave now session (kept (work_after_all work asks) (evaluates text told stopped)) (before ++ replies work asks) → Unevaluated may_leave now work input before
+unevaluated may_leave now session work before input asks text told stopped first at =
     let P : Work → Type 0 = λ w. ShownFor may_leave now w.changes in
     record {
       asks = asks;
       text = text;
-      ran = ran;
       told = told;
+      stopped = stopped;
       first = first;
-      stands = subst P (sym (work_after_more work asks (evaluates text ran told))) (keeps_stands now.tells now.files may_leave (keeper_of session) (kept (work_after_all work asks) (evaluates text ran told)).changes at.keeps);
+      stands = subst P (sym (work_after_more work asks (evaluates text told stopped))) (keeps_stands now.tells now.files may_leave (keeper_of session) (kept (work_after_all work asks) (evaluates text told stopped)).changes at.keeps);
       taken = at.taken;
     }
 
 -- where the answering breaks off, the run does
-pub breaks : (T : Type 0) (end : SessionEnd) (may_leave : Image → Type 0) (now : Shown) (session : Session) (ended past troubled : Bool) (last : Option RanValue) (work : Work) (before bytes left input : List ℕ) → BreaksOff end may_leave now session ended work before bytes → input ≡ bytes ++ left → (ended ≡ true → left ≡ []) → Ends {T = T} (Err end) may_leave now past troubled last work input before
-breaks T ends.Memory may_leave now session ended past troubled last work before bytes left input (inl h) is none = inl (record {
+pub breaks : (T : Type 0) (end : SessionEnd) (may_leave : Image → Type 0) (now : Shown) (session : Session) (ended : Bool) (was is_now : Was) (work : Work) (before bytes left input : List ℕ) → BreaksOff end may_leave now session ended work before bytes → input ≡ bytes ++ left → (ended ≡ true → left ≡ []) → Ends {T = T} (Err end) may_leave now was is_now work input before
+breaks T ends.Memory may_leave now session ended was is_now work before bytes left input (inl h) is none = inl (record {
   asks = h.0;
   first = first_asks ended work bytes left input h.0 h.1 is none;
   answered = answered_all may_leave now session work before h.0 h.2;
 })
-breaks T ends.Memory may_leave now session ended past troubled last work before bytes left input (inr (asks, text, ran, told, begins, at)) is none =
-    inr (unevaluated may_leave now session work before input asks text ran told (first_asks ended work bytes left input (asks ++ evaluates text ran told ∷ []) begins is none) at)
-breaks T (ends.Disk failed) may_leave now session ended past troubled last work before bytes left input h is none = record {
+breaks T ends.Memory may_leave now session ended was is_now work before bytes left input (inr (asks, text, told, stopped, begins, at)) is none =
+    inr (unevaluated may_leave now session work before input asks text told stopped (first_asks ended work bytes left input (asks ++ evaluates text told stopped ∷ []) begins is none) at)
+breaks T (ends.Disk failed) may_leave now session ended was is_now work before bytes left input h is none = record {
   asks = h.0;
   first = first_asks ended work bytes left input h.0 h.1 is none;
   taken = h.2;
 }
-breaks T (ends.Write failed) may_leave now session ended past troubled last work before bytes left input h is none = record {
+breaks T (ends.Write failed) may_leave now session ended was is_now work before bytes left input h is none = record {
   asks = h.0;
   last = h.1;
   count = h.2;
@@ -83,9 +83,9 @@ breaks T (ends.Write failed) may_leave now session ended past troubled last work
   stands = keeps_stands now.tells now.files may_leave (keeper_of session) (list_after_all work (h.0 ++ h.1 ∷ [])) h.4.keeps;
   taken = h.4.taken;
 }
-breaks T (ends.Read failed) may_leave now session ended past troubled last work before bytes left input h is none = absurd h
-breaks T ends.TooLong may_leave now session ended past troubled last work before bytes left input h is none = absurd h
-breaks T (ends.Damaged damage) may_leave now session ended past troubled last work before bytes left input h is none = absurd h
+breaks T (ends.Read failed) may_leave now session ended was is_now work before bytes left input h is none = absurd h
+breaks T ends.TooLong may_leave now session ended was is_now work before bytes left input h is none = absurd h
+breaks T (ends.Damaged damage) may_leave now session ended was is_now work before bytes left input h is none = absurd h
 
 whole_of : (reader : Held) (work : Work) (bytes : List ℕ) (given : List Item) (asks : List Ask) → reader.ended ≡ false → HasRead reader bytes given → AllAsk work (chunks given) asks → HoldsNoMore false bytes given → WholeAsksOf work bytes asks
 whole_of reader work bytes given asks opened read asked none =
@@ -96,20 +96,20 @@ whole_of reader work bytes given asks opened read asked none =
 at_take : (was_left may_leave : Image → Type 0) (mid now : Shown) (session : Session) (work : Work) (put : List ℕ) → now ≡ record mid { left = now.left } → ((c : Image) → may_leave c → was_left c) → IsAt was_left mid session work put → IsAt may_leave now session work put
 at_take was_left may_leave mid now session work put e less h =
     let P : Shown → Type 0 = λ s. IsAt may_leave s session work put in
-    subst P (sym e) (record { keeps = keeps_less mid.tells mid.files may_leave (keeper_of session) work.changes was_left less h.keeps; section = h.section; budget = h.budget; last_run = h.last_run; taken = h.taken; told = h.told })
+    subst P (sym e) (record { keeps = keeps_less mid.tells mid.files may_leave (keeper_of session) work.changes was_left less h.keeps; section = h.section; brief = h.brief; budget = h.budget; taken = h.taken; told = h.told })
 
 -- a run to which no more input came
-pub no_more : (T : Type 0) (end : SessionEnd) (was_left may_leave : Image → Type 0) (mid now : Shown) (session : Session) (past troubled : Bool) (last : Option RanValue) (was reader : Held) (work : Work) (input before : List ℕ) → (h : IsTaking was_left mid session was past work input before) → was.ended ≡ false → now ≡ record mid { left = now.left } → ((c : Image) → may_leave c → was_left c) → (n : ℕ) → fed was ≡ n → Takes (Err end) now n reader h.left h.bytes h.given → Ends {T = T} (Err end) may_leave now past troubled last work input before
-no_more T (ends.Read failed) was_left may_leave mid now session past troubled last was reader work input before h opened e less n counted t = record {
+pub no_more : (T : Type 0) (end : SessionEnd) (was_left may_leave : Image → Type 0) (mid now : Shown) (session : Session) (was is_now : Was) (held reader : Held) (work : Work) (input before : List ℕ) → (h : IsTaking was_left mid session held was work input before) → held.ended ≡ false → now ≡ record mid { left = now.left } → ((c : Image) → may_leave c → was_left c) → (n : ℕ) → fed held ≡ n → Takes (Err end) now n reader h.left h.bytes h.given → Ends {T = T} (Err end) may_leave now was is_now work input before
+no_more T (ends.Read failed) was_left may_leave mid now session was is_now held reader work input before h opened e less n counted t = record {
   asks = h.working.asks;
   got = h.bytes;
   left = h.left;
   input_is = h.input_is;
   left_is = t.0;
-  whole = whole_of was work h.bytes h.given h.working.asks opened h.working.read h.working.asked h.none;
+  whole = whole_of held work h.bytes h.given h.working.asks opened h.working.read h.working.asked h.none;
   answered = answered_all may_leave now session work before h.working.asks (at_take was_left may_leave mid now session (work_after_all work h.working.asks) (before ++ replies work h.working.asks) e less h.working.at);
 }
-no_more T ends.TooLong was_left may_leave mid now session past troubled last was reader work input before h opened e less n counted t = record {
+no_more T ends.TooLong was_left may_leave mid now session was is_now held reader work input before h opened e less n counted t = record {
   asks = h.working.asks;
   got = h.bytes;
   next = t.0;
@@ -117,26 +117,26 @@ no_more T ends.TooLong was_left may_leave mid now session past troubled last was
   input_is = h.input_is ∙ ap (λ (l : List ℕ). h.bytes ++ l) t.2;
   limit = sym h.working.read.counted ∙ counted ∙ t.5;
   left_is = t.3;
-  whole = whole_of was work h.bytes h.given h.working.asks opened h.working.read h.working.asked h.none;
+  whole = whole_of held work h.bytes h.given h.working.asks opened h.working.read h.working.asked h.none;
   answered = answered_all may_leave now session work before h.working.asks (at_take was_left may_leave mid now session (work_after_all work h.working.asks) (before ++ replies work h.working.asks) e less h.working.at);
 }
-no_more T ends.Memory was_left may_leave mid now session past troubled last was reader work input before h opened e less n counted t = absurd t
-no_more T (ends.Damaged damage) was_left may_leave mid now session past troubled last was reader work input before h opened e less n counted t = absurd t
-no_more T (ends.Write failed) was_left may_leave mid now session past troubled last was reader work input before h opened e less n counted t = absurd t
-no_more T (ends.Disk failed) was_left may_leave mid now session past troubled last was reader work input before h opened e less n counted t = absurd t
+no_more T ends.Memory was_left may_leave mid now session was is_now held reader work input before h opened e less n counted t = absurd t
+no_more T (ends.Damaged damage) was_left may_leave mid now session was is_now held reader work input before h opened e less n counted t = absurd t
+no_more T (ends.Write failed) was_left may_leave mid now session was is_now held reader work input before h opened e less n counted t = absurd t
+no_more T (ends.Disk failed) was_left may_leave mid now session was is_now held reader work input before h opened e less n counted t = absurd t
 
 -- a piece more is fed
-pub record IsFed (may_leave : Image → Type 0) (now : Shown) (session : Session) (reader : Held) (past : Bool) (work : Work) (input before : List ℕ) (count : ℕ) : Type 0 where
+pub record IsFed (may_leave : Image → Type 0) (now : Shown) (session : Session) (reader : Held) (was : Was) (work : Work) (input before : List ℕ) (count : ℕ) : Type 0 where
   pub bytes : List ℕ
   pub left : List ℕ
   pub given : List Item
   pub input_is : input ≡ bytes ++ left
   pub left_is : now.left ≡ Some left
-  pub working : IsWorking may_leave now session reader past work before bytes given
+  pub working : IsWorking may_leave now session reader was work before bytes given
   pub none : count ≡ 0 → left ≡ []
 
-pub fed_more : (was_left may_leave : Image → Type 0) (mid now : Shown) (session : Session) (was reader : Held) (past : Bool) (work : Work) (input before : List ℕ) (n count : ℕ) → (h : IsTaking was_left mid session was past work input before) → now ≡ record mid { left = now.left } → ((c : Image) → may_leave c → was_left c) → Takes (Ok count) now n reader h.left h.bytes h.given → IsFed may_leave now session reader past work input before count
-fed_more was_left may_leave mid now session was reader past work input before n count h e less t = record {
+pub fed_more : (was_left may_leave : Image → Type 0) (mid now : Shown) (session : Session) (held reader : Held) (was : Was) (work : Work) (input before : List ℕ) (n count : ℕ) → (h : IsTaking was_left mid session held was work input before) → now ≡ record mid { left = now.left } → ((c : Image) → may_leave c → was_left c) → Takes (Ok count) now n reader h.left h.bytes h.given → IsFed may_leave now session reader was work input before count
+fed_more was_left may_leave mid now session held reader was work input before n count h e less t = record {
   bytes = h.bytes ++ t.0;
   left = t.1;
   given = h.given;
@@ -148,13 +148,14 @@ fed_more was_left may_leave mid now session was reader past work input before n 
     asked = h.working.asked;
     at = at_take was_left may_leave mid now session (work_after_all work h.working.asks) (before ++ replies work h.working.asks) e less h.working.at;
     troubled = h.working.troubled;
+    last_run = h.working.last_run;
   };
   none = t.6;
 }
 
 -- what is whole of it is answered
-pub taking_on : (may_leave : Image → Type 0) (mid now : Shown) (session : Session) (reader : Held) (past : Bool) (work : Work) (input before bytes left : List ℕ) → input ≡ bytes ++ left → mid.left ≡ Some left → now.left ≡ mid.left → reader.ended ≡ false → AnswersAll {T = Unit {0}} (Ok tt) may_leave now session reader past work before bytes → IsTaking may_leave now session reader past work input before
-taking_on may_leave mid now session reader past work input before bytes left is left_is same opened h = record {
+pub taking_on : (may_leave : Image → Type 0) (mid now : Shown) (session : Session) (reader : Held) (was : Was) (work : Work) (input before bytes left : List ℕ) → input ≡ bytes ++ left → mid.left ≡ Some left → now.left ≡ mid.left → reader.ended ≡ false → AnswersAll {T = Unit {0}} (Ok tt) may_leave now session reader was work before bytes → IsTaking may_leave now session reader was work input before
+taking_on may_leave mid now session reader was work input before bytes left is left_is same opened h = record {
   bytes = bytes;
   left = left;
   given = h.0;
@@ -165,14 +166,14 @@ taking_on may_leave mid now session reader past work input before bytes left is 
 }
 
 -- the input is at its end
-pub at_end : (may_leave : Image → Type 0) (now : Shown) (session : Session) (was reader : Held) (past : Bool) (work : Work) (input before : List ℕ) (count : ℕ) → (h : IsFed may_leave now session was past work input before count) → count ≡ 0 → fed was ≤ input_limit → HasRead reader h.bytes h.given → AtEnd may_leave now session reader past work input before
-at_end may_leave now session was reader past work input before count h none within read =
+pub at_end : (may_leave : Image → Type 0) (now : Shown) (session : Session) (held reader : Held) (was : Was) (work : Work) (input before : List ℕ) (count : ℕ) → (h : IsFed may_leave now session held was work input before count) → count ≡ 0 → fed held ≤ input_limit → HasRead reader h.bytes h.given → AtEnd may_leave now session reader was work input before
+at_end may_leave now session held reader was work input before count h none within read =
     let input_is : input ≡ h.bytes = h.input_is ∙ ap (λ (l : List ℕ). h.bytes ++ l) (h.none none) ∙ append-nil h.bytes in
     let P : List ℕ → Type 0 = λ l. HasRead reader l h.given in
-    let size : length input ≡ fed was = ap length input_is ∙ sym h.working.read.counted in
+    let size : length input ≡ fed held = ap length input_is ∙ sym h.working.read.counted in
     record {
       given = h.given;
-      working = record { asks = h.working.asks; read = subst P (sym input_is) read; asked = h.working.asked; at = h.working.at; troubled = h.working.troubled };
+      working = record { asks = h.working.asks; read = subst P (sym input_is) read; asked = h.working.asked; at = h.working.at; troubled = h.working.troubled; last_run = h.working.last_run };
       left = h.left_is ∙ ap Some (h.none none);
       within = omega (arith, size, within);
     }
@@ -185,10 +186,10 @@ or_false true = refl
 or_false false = refl
 
 -- before any item
-pub starts_working : (may_leave : Image → Type 0) (o : Shown) (session : Session) (reader : Held) (work : Work) (before : List ℕ) → HasRead reader [] [] → IsAt may_leave o session work before → IsWorking may_leave o session reader (troubled_of session) work before [] []
+pub starts_working : (may_leave : Image → Type 0) (o : Shown) (session : Session) (reader : Held) (work : Work) (before : List ℕ) → HasRead reader [] [] → IsAt may_leave o session work before → IsWorking may_leave o session reader (was_of session) work before [] []
 starts_working may_leave o session reader work before read h =
     let P : List ℕ → Type 0 = λ l. IsAt may_leave o session work l in
-    record { asks = []; read = read; asked = tt; at = subst P (sym (append-nil before)) h; troubled = or_false (troubled_of session) }
+    record { asks = []; read = read; asked = tt; at = subst P (sym (append-nil before)) h; troubled = or_false (troubled_of session); last_run = refl }
 
 pub broke_at_start : (may_leave : Image → Type 0) (now : Shown) (session : Session) (work : Work) (input before : List ℕ) → IsAt may_leave now session work before → BrokeOff may_leave now work input before
 broke_at_start may_leave now session work input before h = record {

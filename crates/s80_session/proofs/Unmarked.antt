@@ -8,17 +8,17 @@ use Rattle.s80_lex.specs.declared.token.TokenKind.{TokenKind}
 use Rattle.s80_lex.specs.declared.token.TokenKind.TheVariants as kind
 use Rattle.s80_lex.specs.Front.{Takes}
 use Rattle.s80_lex.specs.Text.{AreParts, AreTokens, IsPart, IsStuck, text_of, token_of, tokens_of}
-use Rattle.s80_lex.proofs.Selectors.{binary_one, binary_two}
-use Rattle.s80_lex.proofs.Parts.{Up, up_none, up_token}
-use Rattle.s80_lex.proofs.Standing.{part_some, token_some}
-use Rattle.s80_lex.proofs.Taken.{binary_takes}
+use Rattle.s80_lex.proofs.lemmas.Selectors.{binary_one, binary_two}
+use Rattle.s80_lex.proofs.lemmas.Parts.{Up, up_none, up_token}
+use Rattle.s80_lex.proofs.lemmas.Standing.{part_some, token_some}
+use Rattle.s80_lex.proofs.lemmas.Taken.{binary_takes}
 use Rattle.s80_lex.proofs.Unique.{parts_same}
 use Rattle.s80_tree.specs.Tree.{BodyTree, DoItParts, no_stmts, stmts}
-use Rattle.s80_grammar.specs.Grammar.{IsBody, IsDoIt}
-use Rattle.s80_grammar.specs.Lexeme.{Lexeme, Lexemes, lexeme, lexemes}
-use Rattle.s80_grammar.specs.Word.{is_minus}
-use Rattle.s80_grammar.proofs.Begins.{StatementStart, stmt_begins}
-use Rattle.s80_grammar.proofs.Words.{minus_is}
+use Rattle.s80_syntax.specs.Grammar.{IsBody, IsDoIt}
+use Rattle.s80_syntax.specs.Lexeme.{Lexeme, Lexemes, lexeme, lexemes}
+use Rattle.s80_syntax.specs.Word.{is_minus}
+use Rattle.s80_syntax.proofs.Begins.{StatementStart, stmt_begins}
+use Rattle.s80_syntax.proofs.Words.{minus_is}
 use Rattle.s80_syntax.specs.Text.{IsDoItOf}
 
 -- ---- the first token

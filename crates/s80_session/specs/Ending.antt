@@ -1,21 +1,12 @@
 -- Why a run ends, and what its counts of faults say of that.
-use Rattle.std.specs.Prelude.{ℕ, ◌≤◌, Result, Ok, Err}
+use Rattle.std.specs.Prelude.{◌≡◌, ℕ, ◌≤◌, Result, Ok, Err}
 use Rattle.s80_base.specs.Causes.{Rose}
+use Rattle.s80_disk.specs.Shown.{Faults}
 use Rattle.s80_model.specs.declared.item.Query.TheVariants.{Source}
 use Rattle.s80_model.specs.declared.item.SessionItem.{SessionItem}
 use Rattle.s80_model.specs.declared.item.SessionItem.TheVariants.{Query}
 use Rattle.s80_session.specs.declared.end.SessionEnd.{SessionEnd}
 use Rattle.s80_session.specs.declared.end.SessionEnd.TheVariants as ends
-
--- how often a read, a write and a call of the disk have failed
-pub record Faults : Type 0 where
-  pub read : ℕ
-  pub write : ℕ
-  pub disk : ℕ
-
--- the counts of faults of an outside
-abbrev pub faults : {O : Type 0} → (O → ℕ) → (O → ℕ) → (O → ℕ) → O → Faults
-faults read write disk o = record { read = read o; write = write o; disk = disk o }
 
 -- no count falls
 pub record NoFewer (before now : Faults) : Type 0 where
@@ -23,17 +14,17 @@ pub record NoFewer (before now : Faults) : Type 0 where
   pub write : before.write ≤ now.write
   pub disk : before.disk ≤ now.disk
 
--- A fault is answered only where its count rose. No damage is met.
+-- A fault is answered only where its count rose, and what is no fault only where no call failed. No damage is met.
 abbrev pub HasReason : Faults → Faults → SessionEnd → Type 0
-HasReason before now ends.Memory = Unit {0}
+HasReason before now ends.Memory = now ≡ before
 HasReason before now (ends.Read failed) = Rose before.read now.read
 HasReason before now (ends.Write failed) = Rose before.write now.write
 HasReason before now (ends.Disk failed) = Rose before.disk now.disk
 HasReason before now (ends.Damaged damage) = ⊥
-HasReason before now ends.TooLong = Unit {0}
+HasReason before now ends.TooLong = now ≡ before
 
 abbrev pub EndsForReason : {T : Type 0} → Faults → Faults → Result T SessionEnd → Type 0
-EndsForReason before now (Ok value) = Unit {0}
+EndsForReason before now (Ok value) = now ≡ before
 EndsForReason before now (Err end) = HasReason before now end
 
 -- the counts of faults before and after a call, and what it answered
@@ -57,7 +48,7 @@ IsWorkEnd ends.TooLong = ⊥
 
 -- the same where a source is read: it may be damaged
 abbrev pub EndsForReasonOrDamage : {T : Type 0} → Faults → Faults → Result T SessionEnd → Type 0
-EndsForReasonOrDamage before now (Err (ends.Damaged damage)) = Unit {0}
+EndsForReasonOrDamage before now (Err (ends.Damaged damage)) = now ≡ before
 EndsForReasonOrDamage before now result = EndsForReason before now result
 
 pub record SourceCounts {T : Type 0} (before now : Faults) (result : Result T SessionEnd) : Type 0 where
@@ -71,10 +62,10 @@ CountsFor item before now result = Counts before now result
 
 -- the same for a start: it meets no fault of the input or the output
 abbrev pub StartsForReason : {T : Type 0} → Faults → Faults → Result T SessionEnd → Type 0
-StartsForReason before now (Ok value) = Unit {0}
-StartsForReason before now (Err ends.Memory) = Unit {0}
+StartsForReason before now (Ok value) = now ≡ before
+StartsForReason before now (Err ends.Memory) = now ≡ before
 StartsForReason before now (Err (ends.Disk failed)) = Rose before.disk now.disk
-StartsForReason before now (Err (ends.Damaged damage)) = Unit {0}
+StartsForReason before now (Err (ends.Damaged damage)) = now ≡ before
 StartsForReason before now (Err (ends.Read failed)) = ⊥
 StartsForReason before now (Err (ends.Write failed)) = ⊥
 StartsForReason before now (Err ends.TooLong) = ⊥

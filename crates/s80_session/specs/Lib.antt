@@ -4,4 +4,5 @@ pub mod Ends
 pub mod Putting
 pub mod Run
 pub mod Session
+pub mod LastRun
 pub mod Working

@@ -5,25 +5,17 @@ use Rattle.s80_chunk.specs.Chunks.{Reads, IsReading, IsBlank}
 use Rattle.s80_chunk.specs.Held.{HoldsNoMore}
 use Rattle.s80_change.specs.declared.change.Change.{Change}
 use Rattle.s80_disk.specs.Image.{Image}
+use Rattle.s80_disk.specs.Shown.{Shown}
 use Rattle.s80_keeper.specs.Standing.{FilesStandFor, StandsFor}
 use Rattle.s80_model.specs.declared.item.SessionItem.{SessionItem}
 use Rattle.s80_model.specs.declared.item.SessionItem.TheVariants.{Chunk, Unended}
 use Rattle.s80_session.specs.declared.end.SessionEnd.{SessionEnd}
 use Rattle.s80_session.specs.declared.end.SessionEnd.TheVariants as ends
+use Rattle.s80_session.specs.LastRun.{RunBehindAll}
+use Rattle.s80_session.specs.Session.{Was}
 use Rattle.s80_machine.specs.Came.{RanValue}
 use Rattle.s80_model.specs.Asked.{Ask, evaluates}
 use Rattle.s80_model.specs.Replies.{Work, AllAsk, replies, reply_to, reply_text, work_after_all, list_after_all, any_trouble}
-
--- what an outside shows: whether it tells its contents, what its files read, what is left of its input, the bytes that it took, and their number
-pub record Shown : Type 0 where
-  pub tells : Bool
-  pub files : Image
-  pub left : Option (List ℕ)
-  pub taken : Option (List ℕ)
-  pub told : ℕ
-
-abbrev pub shown : {O : Type 0} → (O → Bool) → (O → Image) → (O → Option (List ℕ)) → (O → Option (List ℕ)) → (O → ℕ) → O → Shown
-shown tells reads left taken told o = record { tells = tells o; files = reads o; left = left o; taken = taken o; told = told o }
 
 -- what an outside shows stands for a list
 abbrev pub ShownFor : (Image → Type 0) → Shown → List Change → Type 0
@@ -72,14 +64,14 @@ pub record Answered (may_leave : Image → Type 0) (now : Shown) (work : Work) (
   pub taken : now.taken ≡ Some (before ++ replies work asks)
 
 -- a run that came to the end of its input
-pub record Finished (may_leave : Image → Type 0) (now : Shown) (work : Work) (input before : List ℕ) (trouble : Bool) (ran : Option RanValue) : Type 0 where
+pub record Finished (may_leave : Image → Type 0) (now : Shown) (work : Work) (input before : List ℕ) (trouble : Bool) (before_run ran : Option RanValue) : Type 0 where
   pub asks : List Ask
   pub all : AsksOf work input asks
   pub within : length input ≤ input_limit
   pub left : now.left ≡ Some []
   pub answered : Answered may_leave now work before asks
   pub troubled : any_trouble work asks ≡ trouble
-  pub last_run : (work_after_all work asks).last_run ≡ ran
+  pub last_run : RunBehindAll work asks before_run ran
 
 -- a run to which no more input came: all whole items of the bytes taken are answered
 pub record CutOff (may_leave : Image → Type 0) (now : Shown) (work : Work) (input before : List ℕ) : Type 0 where
@@ -122,10 +114,10 @@ pub record Unanswered (may_leave : Image → Type 0) (now : Shown) (work : Work)
 pub record Unevaluated (may_leave : Image → Type 0) (now : Shown) (work : Work) (input before : List ℕ) : Type 0 where
   pub asks : List Ask
   pub text : List ℕ
-  pub ran : RanValue
   pub told : List ℕ
-  pub first : FirstAsksOf work input (asks ++ evaluates text ran told ∷ [])
-  pub stands : ShownFor may_leave now (list_after_all work (asks ++ evaluates text ran told ∷ []))
+  pub stopped : Bool
+  pub first : FirstAsksOf work input (asks ++ evaluates text told stopped ∷ [])
+  pub stands : ShownFor may_leave now (list_after_all work (asks ++ evaluates text told stopped ∷ []))
   pub taken : now.taken ≡ Some (before ++ replies work asks)
 
 -- a run whose disk failed: nothing is said of the disk
@@ -134,16 +126,16 @@ pub record LostDisk (now : Shown) (work : Work) (input before : List ℕ) : Type
   pub first : FirstAsksOf work input asks
   pub taken : now.taken ≡ Some (before ++ replies work asks)
 
--- what a run leaves, by how it ends, with whether something was refused or stopped before it
-abbrev pub Ends : {T : Type 0} → Result T SessionEnd → (Image → Type 0) → Shown → Bool → Bool → Option RanValue → Work → List ℕ → List ℕ → Type 0
-Ends (Ok done) may_leave now past troubled ran work input before =
-    (trouble : Bool) × (troubled ≡ (past || trouble)) × Finished may_leave now work input before trouble ran
-Ends (Err ends.Memory) may_leave now past troubled ran work input before = BrokeOff may_leave now work input before ⊎ Unevaluated may_leave now work input before
-Ends (Err (ends.Read failed)) may_leave now past troubled ran work input before = CutOff may_leave now work input before
-Ends (Err (ends.Write failed)) may_leave now past troubled ran work input before = Unanswered may_leave now work input before
-Ends (Err (ends.Disk failed)) may_leave now past troubled ran work input before = LostDisk now work input before
-Ends (Err (ends.Damaged damage)) may_leave now past troubled ran work input before = ⊥
-Ends (Err ends.TooLong) may_leave now past troubled ran work input before = TooLong may_leave now work input before
+-- what a run leaves, by how it ends, with what the session held before it and holds now
+abbrev pub Ends : {T : Type 0} → Result T SessionEnd → (Image → Type 0) → Shown → Was → Was → Work → List ℕ → List ℕ → Type 0
+Ends (Ok done) may_leave now was is work input before =
+    (trouble : Bool) × (is.troubled ≡ (was.troubled || trouble)) × Finished may_leave now work input before trouble was.last_run is.last_run
+Ends (Err ends.Memory) may_leave now was is work input before = BrokeOff may_leave now work input before ⊎ Unevaluated may_leave now work input before
+Ends (Err (ends.Read failed)) may_leave now was is work input before = CutOff may_leave now work input before
+Ends (Err (ends.Write failed)) may_leave now was is work input before = Unanswered may_leave now work input before
+Ends (Err (ends.Disk failed)) may_leave now was is work input before = LostDisk now work input before
+Ends (Err (ends.Damaged damage)) may_leave now was is work input before = ⊥
+Ends (Err ends.TooLong) may_leave now was is work input before = TooLong may_leave now work input before
 
 -- What a crash leaves at a moment at which so many bytes are told: files that stand for the list after the first items of the input, up
 -- to one at least whose reply is among the bytes told. So no change is answered that a crash takes.

@@ -3,12 +3,15 @@ use Rattle.std.specs.Prelude.{◌≡◌, ◌⊎◌, ◌||◌, ℕ, Bool, List, O
 use Rattle.std.specs.Io.KnownBytes.{Appends}
 use Rattle.s80_form.specs.Definition.{IsNoDefinition}
 use Rattle.s80_chunk.specs.declared.item.Item.TheVariants as items
-use Rattle.s80_doit.specs.DoIt.{Fits, IsRunOf}
+use Rattle.s80_apply.specs.System.{SystemState}
+use Rattle.s80_doit.specs.DoIt.{AreGiven, Fits, IsRunOf}
 use Rattle.s80_keeper.specs.Keeper.{KeeperState}
 use Rattle.s80_machine.specs.Came.{RanValue}
 use Rattle.s80_model.specs.declared.item.SessionItem.{SessionItem}
 use Rattle.s80_model.specs.declared.item.SessionItem.TheVariants.{Chunk, Unended, Query}
+use Rattle.s80_model.specs.declared.reply.Answer.{Answer}
 use Rattle.s80_model.specs.declared.reply.Reply.{Reply}
+use Rattle.s80_model.specs.declared.reply.Reply.TheVariants.{Evaluated}
 use Rattle.s80_model.specs.declared.section.Section.{Section}
 use Rattle.s80_model.specs.declared.section.Section.TheVariants.{Top}
 use Rattle.s80_model.specs.Replies.{is_trouble, reply_text}
@@ -35,6 +38,14 @@ last_run_of session = session.last_run
 abbrev pub troubled_of : Session → Bool
 troubled_of session = session.troubled
 
+-- what a session held before: whether something was refused or stopped, and its last run
+pub record Was : Type 0 where
+  pub troubled : Bool
+  pub last_run : Option RanValue
+
+abbrev pub was_of : Session → Was
+was_of session = record { troubled = session.troubled; last_run = session.last_run }
+
 -- no call of the disk has failed in it
 abbrev pub IsFaultless : Session → Type 0
 IsFaultless session = session.keeper.fault ≡ None
@@ -45,19 +56,56 @@ pub record HasBegun (ticks : ℕ) (session : Session) : Type 0 where
   pub budget : budget_of session ≡ ticks
   pub last_run : last_run_of session ≡ None
 
--- this text is a doIt, and its run among the classes and methods that there are is the last
-abbrev pub HasRun : List ℕ → Session → Type 0
-HasRun text session = Fits text × IsNoDefinition text × (ran : RanValue) × IsRunOf (keeper_of session).system text (budget_of session) ran × (last_run_of session ≡ Some ran)
+-- this item is a doIt, and its text's run among these classes and methods is this
+abbrev pub IsRunFor : SessionItem → SystemState → ℕ → Option RanValue → Type 0
+IsRunFor (Chunk (items.Plain text)) system budget last = Fits text × IsNoDefinition text × AreGiven system × (ran : RanValue) × IsRunOf system text budget ran × (last ≡ Some ran)
+IsRunFor _ system budget last = ⊥
+
+-- among those that there are it is the last
+abbrev pub HasRun : SessionItem → Session → Type 0
+HasRun item session = IsRunFor item (keeper_of session).system (budget_of session) (last_run_of session)
+
+-- a doIt was evaluated
+abbrev pub IsEvaluation : Reply → Type 0
+IsEvaluation (Evaluated lines stopped) = Unit {0}
+IsEvaluation _ = ⊥
 
 -- the last run is another one only after a doIt that was evaluated
-abbrev pub RunAfter : SessionItem → Session → Session → Type 0
-RunAfter (Chunk (items.Plain text)) before now = (last_run_of now ≡ last_run_of before) ⊎ HasRun text now
-RunAfter (Chunk (items.Head text)) before now = last_run_of now ≡ last_run_of before
-RunAfter (Chunk (items.Method text)) before now = last_run_of now ≡ last_run_of before
-RunAfter (Chunk items.SectionEnd) before now = last_run_of now ≡ last_run_of before
-RunAfter (Chunk (items.TooLong role length)) before now = last_run_of now ≡ last_run_of before
-RunAfter Unended before now = last_run_of now ≡ last_run_of before
-RunAfter (Query query) before now = last_run_of now ≡ last_run_of before
+abbrev pub RunAfterReply : Reply → SessionItem → Session → Session → Type 0
+RunAfterReply reply item before now = (last_run_of now ≡ last_run_of before) ⊎ (IsEvaluation reply × HasRun item now)
+
+-- after the work on a text, and on an item: it stays where the work breaks off
+abbrev pub RunAfterText : Result Reply SessionEnd → SessionItem → Session → Session → Type 0
+RunAfterText (Ok reply) item before now = RunAfterReply reply item before now
+RunAfterText (Err end) item before now = last_run_of now ≡ last_run_of before
+
+abbrev pub RunAfterWork : Result Answer SessionEnd → SessionItem → Session → Session → Type 0
+RunAfterWork (Ok answer) item before now = RunAfterReply answer.reply item before now
+RunAfterWork (Err end) item before now = last_run_of now ≡ last_run_of before
+
+-- after an item that was to be answered too
+abbrev pub RunAfter : {T : Type 0} → Result T SessionEnd → SessionItem → Session → Session → Type 0
+RunAfter (Ok done) item before now = (last_run_of now ≡ last_run_of before) ⊎ HasRun item now
+RunAfter (Err (ends.Write failed)) item before now = (last_run_of now ≡ last_run_of before) ⊎ HasRun item now
+RunAfter (Err ends.Memory) item before now = last_run_of now ≡ last_run_of before
+RunAfter (Err (ends.Read failed)) item before now = last_run_of now ≡ last_run_of before
+RunAfter (Err (ends.Disk failed)) item before now = last_run_of now ≡ last_run_of before
+RunAfter (Err (ends.Damaged damage)) item before now = last_run_of now ≡ last_run_of before
+RunAfter (Err ends.TooLong) item before now = last_run_of now ≡ last_run_of before
+
+-- the run of some doIt's code under a budget, among some classes and methods that it may be given
+pub record IsSomeRun (budget : ℕ) (last : Option RanValue) : Type 0 where
+  pub text : List ℕ
+  pub system : SystemState
+  pub given : AreGiven system
+  pub ran : RanValue
+  pub run : IsRunOf system text budget ran
+  pub is : last ≡ Some ran
+
+-- after some items: the budget stays, and the last run is the one before, or that of a doIt
+pub record RunSince (before now : Session) : Type 0 where
+  pub budget : budget_of now ≡ budget_of before
+  pub last_run : (last_run_of now ≡ last_run_of before) ⊎ IsSomeRun (budget_of before) (last_run_of now)
 
 -- after a line was to be put: the output took it, or a front of it
 abbrev pub TakesLine : {T : Type 0} → Result T SessionEnd → Option (List ℕ) → Option (List ℕ) → List ℕ → Type 0

@@ -1,14 +1,14 @@
 // The input of a run, taken in pieces and worked item by item.
-ghost use Rattle.std.specs.Prelude.{◌≡◌, ◌+◌, ◌≤◌, ◌<◌, Bool, ℕ, List, [], false, true, length, Some, IfOk, OnOk};
+ghost use Rattle.std.specs.Prelude.{◌≡◌, ◌+◌, ◌≤◌, ◌<◌, ℕ, List, [], false, true, length, Some, IfOk, OnOk};
 ghost use Rattle.s80_chunk.specs.declared.item.Item.{Item};
 ghost use Rattle.s80_chunk.specs.Held.{HasRead, IsSpent, fed};
-ghost use Rattle.s80_session.specs.Ending.{faults, Counts};
+ghost use Rattle.s80_session.specs.Ending.{Counts};
 ghost use Rattle.s80_disk.specs.declared.disk.FileId.{FileId};
 ghost use Rattle.s80_disk.specs.Moments.{LeavesOnly};
 ghost use Rattle.s80_session.specs.Putting.{IsAsBefore};
-ghost use Rattle.s80_session.specs.Run.{shown, input_limit, Ends, Keeps};
+ghost use Rattle.s80_session.specs.Run.{input_limit, Ends, Keeps};
 ghost use Rattle.s80_model.specs.Replies.{Work};
-ghost use Rattle.s80_session.specs.Session.{last_run_of, troubled_of, IsFaultless};
+ghost use Rattle.s80_session.specs.Session.{was_of, IsFaultless, RunSince, Was};
 ghost use Rattle.s80_session.specs.Working.{HasReadSome, IsAt, IsWorking, AnswersAll, AnswersLeave, Takes, TakesAll};
 
 use crate::end::SessionEnd;
@@ -35,15 +35,13 @@ fn take_piece<O: Outside>(
     requires room { reader.old.room ≡ 4096 }
     requires counted { fed reader.old ≡ taken }
     requires within { taken ≤ input_limit }
-    ensures took { (left bytes : List ℕ) (given : List Item) → O.left outside.old ≡ Some left → HasRead reader.old bytes given
-        → Takes result (shown O.tells O.reads O.left O.taken O.told outside.new) taken reader.new left bytes given }
-    ensures shown { shown O.tells O.reads O.left O.taken O.told outside.new
-        ≡ record (shown O.tells O.reads O.left O.taken O.told outside.old) { left = O.left outside.new } }
-    ensures counts { Counts (faults O.read_faults O.write_faults O.disk_faults outside.old)
-        (faults O.read_faults O.write_faults O.disk_faults outside.new) result }
+    ensures took { (left bytes : List ℕ) (given : List Item) → (O.shown outside.old).left ≡ Some left → HasRead reader.old bytes given
+        → Takes result (O.shown outside.new) taken reader.new left bytes given }
+    ensures shown { O.shown outside.new ≡ record (O.shown outside.old) { left = (O.shown outside.new).left } }
+    ensures counts { Counts (O.faults outside.old) (O.faults outside.new) result }
     ensures images { (c : FileId → List ℕ) → O.may_leave outside.new c → O.may_leave outside.old c }
     ensures any_moment { LeavesOnly O.moment O.left_since outside.old outside.new
-        (IsAsBefore (O.may_leave outside.old) (O.told outside.old) 0) }
+        (IsAsBefore (O.may_leave outside.old) (O.shown outside.old).told 0) }
     ensures open { reader.new.ended ≡ false }
     ensures reading { HasReadSome reader.old → HasReadSome reader.new }
     ensures counted { IfOk result (λ count. fed reader.new ≡ taken + count) }
@@ -69,18 +67,15 @@ impl Session {
     ) -> Result<(), SessionEnd>
         requires faultless { IsFaultless self.old }
         requires reading { HasReadSome reader.old }
-        ensures answered { (past : Bool) (work : Work) (before bytes : List ℕ) (given : List Item)
-            → IsWorking (O.may_leave outside.old)
-            (shown O.tells O.reads O.left O.taken O.told outside.old) self.old reader.old past work before bytes given
-            → AnswersAll result (O.may_leave outside.new)
-            (shown O.tells O.reads O.left O.taken O.told outside.new) self.new reader.new past work before bytes }
-        ensures any_moment { (past : Bool) (work : Work) (before bytes : List ℕ) (given : List Item)
-            → IsWorking (O.may_leave outside.old)
-            (shown O.tells O.reads O.left O.taken O.told outside.old) self.old reader.old past work before bytes given
+        ensures answered { (was : Was) (work : Work) (before bytes : List ℕ) (given : List Item)
+            → IsWorking (O.may_leave outside.old) (O.shown outside.old) self.old reader.old was work before bytes given
+            → AnswersAll result (O.may_leave outside.new) (O.shown outside.new) self.new reader.new was work before bytes }
+        ensures any_moment { (was : Was) (work : Work) (before bytes : List ℕ) (given : List Item)
+            → IsWorking (O.may_leave outside.old) (O.shown outside.old) self.old reader.old was work before bytes given
             → LeavesOnly O.moment O.left_since outside.old outside.new (AnswersLeave reader.old.ended work before bytes) }
-        ensures left { O.left outside.new ≡ O.left outside.old }
-        ensures counts { Counts (faults O.read_faults O.write_faults O.disk_faults outside.old)
-            (faults O.read_faults O.write_faults O.disk_faults outside.new) result }
+        ensures left { (O.shown outside.new).left ≡ (O.shown outside.old).left }
+        ensures counts { Counts (O.faults outside.old) (O.faults outside.new) result }
+        ensures last_run { RunSince self.old self.new }
         ensures faultless { OnOk result (IsFaultless self.new) }
         ensures reading { OnOk result (HasReadSome reader.new) }
         ensures spent { OnOk result (IsSpent reader.new × (reader.new.room ≡ 4096)) }
@@ -105,17 +100,14 @@ impl Session {
         requires open { reader.old.ended ≡ false }
         requires room { reader.old.room ≡ 4096 }
         requires counted { fed reader.old ≡ 0 }
-        ensures took { (past : Bool) (work : Work) (input before : List ℕ) → O.left outside.old ≡ Some input
-            → IsWorking (O.may_leave outside.old)
-            (shown O.tells O.reads O.left O.taken O.told outside.old) self.old reader.old past work before [] []
-            → TakesAll result (O.may_leave outside.new)
-            (shown O.tells O.reads O.left O.taken O.told outside.new) self.new reader.new past work input before }
-        ensures any_moment { (past : Bool) (work : Work) (input before : List ℕ) → O.left outside.old ≡ Some input
-            → IsWorking (O.may_leave outside.old)
-            (shown O.tells O.reads O.left O.taken O.told outside.old) self.old reader.old past work before [] []
+        ensures took { (was : Was) (work : Work) (input before : List ℕ) → (O.shown outside.old).left ≡ Some input
+            → IsWorking (O.may_leave outside.old) (O.shown outside.old) self.old reader.old was work before [] []
+            → TakesAll result (O.may_leave outside.new) (O.shown outside.new) self.new reader.new was work input before }
+        ensures any_moment { (was : Was) (work : Work) (input before : List ℕ) → (O.shown outside.old).left ≡ Some input
+            → IsWorking (O.may_leave outside.old) (O.shown outside.old) self.old reader.old was work before [] []
             → LeavesOnly O.moment O.left_since outside.old outside.new (Keeps work input before) }
-        ensures counts { Counts (faults O.read_faults O.write_faults O.disk_faults outside.old)
-            (faults O.read_faults O.write_faults O.disk_faults outside.new) result }
+        ensures counts { Counts (O.faults outside.old) (O.faults outside.new) result }
+        ensures last_run { RunSince self.old self.new }
         ensures faultless { OnOk result (IsFaultless self.new) }
         ensures reading { OnOk result (HasReadSome reader.new) }
         ensures ended { OnOk result (reader.new.ended ≡ true) }
@@ -141,17 +133,15 @@ impl Session {
         outside: &mut O,
     ) -> Result<(), SessionEnd>
         requires faultless { IsFaultless self.old }
-        ensures ran { (work : Work) (input before : List ℕ) → O.left outside.old ≡ Some input
-            → IsAt (O.may_leave outside.old)
-            (shown O.tells O.reads O.left O.taken O.told outside.old) self.old work before
-            → Ends result (O.may_leave outside.new)
-            (shown O.tells O.reads O.left O.taken O.told outside.new) (troubled_of self.old) (troubled_of self.new) (last_run_of self.new) work input before }
-        ensures any_moment { (work : Work) (input before : List ℕ) → O.left outside.old ≡ Some input
-            → IsAt (O.may_leave outside.old)
-            (shown O.tells O.reads O.left O.taken O.told outside.old) self.old work before
+        ensures ran { (work : Work) (input before : List ℕ) → (O.shown outside.old).left ≡ Some input
+            → IsAt (O.may_leave outside.old) (O.shown outside.old) self.old work before
+            → Ends result (O.may_leave outside.new) (O.shown outside.new) (was_of self.old) (was_of self.new) work input before }
+        ensures any_moment { (work : Work) (input before : List ℕ) → (O.shown outside.old).left ≡ Some input
+            → IsAt (O.may_leave outside.old) (O.shown outside.old) self.old work before
             → LeavesOnly O.moment O.left_since outside.old outside.new (Keeps work input before) }
-        ensures counts { Counts (faults O.read_faults O.write_faults O.disk_faults outside.old)
-            (faults O.read_faults O.write_faults O.disk_faults outside.new) result }
+        // The last run is the one before, or that of a doIt, whatever the outside tells.
+        ensures last_run { RunSince self.old self.new }
+        ensures counts { Counts (O.faults outside.old) (O.faults outside.new) result }
         ensures faultless { OnOk result (IsFaultless self.new) }
     {
         let mut reader = ChunkReader::make(alloc)?;

@@ -8,12 +8,13 @@ ghost use Rattle.s80_disk.specs.Moments.{LeavesOnly};
 ghost use Rattle.s80_mark.specs.Found.{longer_log};
 ghost use Rattle.s80_apply.specs.System.{IsChecked};
 ghost use Rattle.s80_keeper.specs.Keeper.{Knows};
-ghost use Rattle.s80_keeper.specs.Standing.{FilesStandFor, ReadsFor, StandsFor};
+ghost use Rattle.s80_keeper.specs.Standing.{FilesStandFor, ReadsFor};
 ghost use Rattle.s80_keeper.specs.Start.{StartLeaves};
 ghost use Rattle.s80_model.specs.Replies.{Work};
 ghost use Rattle.s80_model.specs.Section.{section_or};
-ghost use Rattle.s80_session.specs.Ending.{faults, Counts, CountsFor, MeetsNoDamage, NoFewer, SourceCounts, StartsForReason};
-ghost use Rattle.s80_session.specs.Run.{shown, HasKept};
+ghost use Rattle.s80_model.specs.Settings.{Settings};
+ghost use Rattle.s80_session.specs.Ending.{Counts, CountsFor, MeetsNoDamage, NoFewer, SourceCounts, StartsForReason};
+ghost use Rattle.s80_session.specs.Run.{HasKept, ShownFor};
 ghost use Rattle.s80_session.specs.Session.{TakesLine};
 ghost use Rattle.s80_session.specs.Working.{AnswerPut};
 
@@ -55,7 +56,7 @@ impl Session {
     ghost use Rattle.s80_chunk.specs.Chunks.{IsChunkText, longest};
     ghost use Rattle.s80_doit.specs.DoIt.{Fits, IsDoItCode};
     ghost use Rattle.s80_session.specs.Ending.{IsWorkEnd};
-    ghost use Rattle.s80_session.specs.Session.{keeper_of, last_run_of, section_of, troubled_of, HasBegun, IsFaultless, RunAfter, TroubleAfter};
+    ghost use Rattle.s80_session.specs.Session.{budget_of, keeper_of, last_run_of, section_of, troubled_of, was_of, HasBegun, IsFaultless, RunAfter, RunAfterText, RunAfterWork, TroubleAfter};
     ghost use Rattle.s80_session.specs.Working.{Evaluates, IsAt, IsLawfulFor, IsReadable, IsSessionStart, Kept, KeepLeaves, Replied, Starts, Worked, WorkLeaves, Stepped, StepLeaves};
 
     /// A session on the folder that was attached, at the top level of its input. A doIt may take at most `budget` ticks.
@@ -64,29 +65,26 @@ impl Session {
         outside: &mut O,
         budget: u64,
     ) -> Result<Session, SessionEnd>
-        ensures answer { IsTrue (O.tells outside.old) → IsSessionStart (O.reads outside.old) result }
-        ensures started { (changes : List Change) (put : List ℕ)
-            → ReadsFor (O.tells outside.old) (O.reads outside.old) (O.may_leave outside.old) changes
-            → O.taken outside.old ≡ Some put → O.told outside.old ≡ length put
-            → Starts result (O.may_leave outside.new) (shown O.tells O.reads O.left O.taken O.told outside.new) budget changes put }
+        ensures answer { IsTrue (O.shown outside.old).tells → IsSessionStart (O.shown outside.old).files result }
+        ensures started { (settings : Settings) (changes : List Change) (put : List ℕ) → settings.budget ≡ budget
+            → ReadsFor (O.shown outside.old).tells (O.shown outside.old).files (O.may_leave outside.old) changes
+            → (O.shown outside.old).taken ≡ Some put → (O.shown outside.old).told ≡ length put
+            → Starts result (O.may_leave outside.new) (O.shown outside.new) settings changes put }
         ensures any_moment { (changes : List Change)
-            → StandsFor (O.tells outside.old) (O.reads outside.old) (O.may_leave outside.old) changes
-            → LeavesOnly O.moment O.left_since outside.old outside.new (HasKept changes (O.told outside.old)) }
+            → ShownFor (O.may_leave outside.old) (O.shown outside.old) changes
+            → LeavesOnly O.moment O.left_since outside.old outside.new (HasKept changes (O.shown outside.old).told) }
         // Also where the files are damaged: only of logs that read empty a crash may leave more than before, and then empty ones.
-        ensures leaves { IsTrue (O.tells outside.old) → LeavesOnly O.moment O.left_since outside.old outside.new
-            (StartLeaves (O.reads outside.old) (O.may_leave outside.old) (O.told outside.old)) }
-        ensures untouched { IsTrue (O.tells outside.old) → 0 < longer_log (O.reads outside.old)
-            → (file : FileId) → O.reads outside.new file ≡ O.reads outside.old file }
-        ensures others { (other : FileId) → other ≢ Mark → O.reads outside.new other ≡ O.reads outside.old other }
-        ensures shown { shown O.tells O.reads O.left O.taken O.told outside.new
-            ≡ record (shown O.tells O.reads O.left O.taken O.told outside.old) { files = O.reads outside.new } }
+        ensures leaves { IsTrue (O.shown outside.old).tells → LeavesOnly O.moment O.left_since outside.old outside.new
+            (StartLeaves (O.shown outside.old).files (O.may_leave outside.old) (O.shown outside.old).told) }
+        ensures untouched { IsTrue (O.shown outside.old).tells → 0 < longer_log (O.shown outside.old).files
+            → (file : FileId) → (O.shown outside.new).files file ≡ (O.shown outside.old).files file }
+        ensures others { (other : FileId) → other ≢ Mark → (O.shown outside.new).files other ≡ (O.shown outside.old).files other }
+        ensures shown { O.shown outside.new ≡ record (O.shown outside.old) { files = (O.shown outside.new).files } }
         ensures faultless { IfOk result IsFaultless }
         ensures untroubled { IfOk result (λ session. troubled_of session ≡ false) }
         ensures begun { IfOk result (HasBegun budget) }
-        ensures later { NoFewer (faults O.read_faults O.write_faults O.disk_faults outside.old)
-            (faults O.read_faults O.write_faults O.disk_faults outside.new) }
-        ensures reason { StartsForReason (faults O.read_faults O.write_faults O.disk_faults outside.old)
-            (faults O.read_faults O.write_faults O.disk_faults outside.new) result }
+        ensures later { NoFewer (O.faults outside.old) (O.faults outside.new) }
+        ensures reason { StartsForReason (O.faults outside.old) (O.faults outside.new) result }
     {
         let keeper = start_keeper(alloc, outside)?;
         Ok(Session {
@@ -121,21 +119,18 @@ impl Session {
     ) -> Result<(), SessionEnd>
         requires faultless { IsFaultless self.old }
         ensures stepped { (work : Work) (put : List ℕ) → IsReadable item
-            → IsAt (O.may_leave outside.old)
-            (shown O.tells O.reads O.left O.taken O.told outside.old) self.old work put
-            → Stepped result (O.may_leave outside.new)
-            (shown O.tells O.reads O.left O.taken O.told outside.new) self.new (troubled_of self.old) work put item }
+            → IsAt (O.may_leave outside.old) (O.shown outside.old) self.old work put
+            → Stepped result (O.may_leave outside.new) (O.shown outside.new) self.new (was_of self.old) work put item }
         ensures any_moment { (work : Work) (put : List ℕ) → IsReadable item
-            → IsAt (O.may_leave outside.old)
-            (shown O.tells O.reads O.left O.taken O.told outside.old) self.old work put
+            → IsAt (O.may_leave outside.old) (O.shown outside.old) self.old work put
             → LeavesOnly O.moment O.left_since outside.old outside.new (StepLeaves work put item) }
-        ensures sound { IsTrue (O.tells outside.old) → (changes : List Change) → Knows (O.reads outside.old) (keeper_of self.old) changes → MeetsNoDamage result }
-        ensures troubled { TroubleAfter result (O.taken outside.old) (O.taken outside.new) self.old self.new }
-        ensures last_run { RunAfter item self.old self.new }
+        ensures sound { IsTrue (O.shown outside.old).tells → (changes : List Change) → Knows (O.shown outside.old).files (keeper_of self.old) changes → MeetsNoDamage result }
+        ensures troubled { TroubleAfter result (O.shown outside.old).taken (O.shown outside.new).taken self.old self.new }
+        ensures last_run { RunAfter result item self.old self.new }
+        ensures budget { budget_of self.new ≡ budget_of self.old }
         ensures faultless { OnOk result (IsFaultless self.new) }
-        ensures left { O.left outside.new ≡ O.left outside.old }
-        ensures counts { CountsFor item (faults O.read_faults O.write_faults O.disk_faults outside.old)
-            (faults O.read_faults O.write_faults O.disk_faults outside.new) result }
+        ensures left { (O.shown outside.new).left ≡ (O.shown outside.old).left }
+        ensures counts { CountsFor item (O.faults outside.old) (O.faults outside.new) result }
     {
         let Answer { reply, section } = self.work(alloc, item, outside)?;
         match reply {
@@ -184,23 +179,20 @@ impl Session {
     ) -> Result<Answer, SessionEnd>
         requires faultless { IsFaultless self.old }
         ensures worked { (work : Work) (put : List ℕ) → IsReadable item
-            → IsAt (O.may_leave outside.old)
-            (shown O.tells O.reads O.left O.taken O.told outside.old) self.old work put
-            → Worked result (O.may_leave outside.new)
-            (shown O.tells O.reads O.left O.taken O.told outside.new) self.new work put item }
+            → IsAt (O.may_leave outside.old) (O.shown outside.old) self.old work put
+            → Worked result (O.may_leave outside.new) (O.shown outside.new) self.new (was_of self.old) work put item }
         ensures any_moment { (work : Work) (put : List ℕ) → IsReadable item
-            → IsAt (O.may_leave outside.old)
-            (shown O.tells O.reads O.left O.taken O.told outside.old) self.old work put
+            → IsAt (O.may_leave outside.old) (O.shown outside.old) self.old work put
             → LeavesOnly O.moment O.left_since outside.old outside.new (WorkLeaves work put item) }
-        ensures sound { IsTrue (O.tells outside.old) → (changes : List Change) → Knows (O.reads outside.old) (keeper_of self.old) changes → MeetsNoDamage result }
+        ensures sound { IsTrue (O.shown outside.old).tells → (changes : List Change) → Knows (O.shown outside.old).files (keeper_of self.old) changes → MeetsNoDamage result }
         ensures troubled { troubled_of self.new ≡ troubled_of self.old }
-        ensures last_run { RunAfter item self.old self.new }
+        ensures last_run { RunAfterWork result item self.old self.new }
+        ensures budget { budget_of self.new ≡ budget_of self.old }
         ensures faultless { OnOk result (IsFaultless self.new) }
-        ensures left { O.left outside.new ≡ O.left outside.old }
-        ensures taken { O.taken outside.new ≡ O.taken outside.old }
+        ensures left { (O.shown outside.new).left ≡ (O.shown outside.old).left }
+        ensures taken { (O.shown outside.new).taken ≡ (O.shown outside.old).taken }
         ensures ends { IfErr result IsWorkEnd }
-        ensures counts { CountsFor item (faults O.read_faults O.write_faults O.disk_faults outside.old)
-            (faults O.read_faults O.write_faults O.disk_faults outside.new) result }
+        ensures counts { CountsFor item (O.faults outside.old) (O.faults outside.new) result }
     {
         match item {
             SessionItem::Chunk(Item::Plain(text)) => {
@@ -234,22 +226,19 @@ impl Session {
     ) -> Result<Reply, SessionEnd>
         requires faultless { IsFaultless self.old }
         ensures replied { (work : Work) (put : List ℕ) → IsChunkText text → length text ≤ longest
-            → IsAt (O.may_leave outside.old)
-            (shown O.tells O.reads O.left O.taken O.told outside.old) self.old work put
-            → Replied result (O.may_leave outside.new)
-            (shown O.tells O.reads O.left O.taken O.told outside.new) self.new work put (SessionItem.Chunk (items.Plain text)) }
+            → IsAt (O.may_leave outside.old) (O.shown outside.old) self.old work put
+            → Replied result (O.may_leave outside.new) (O.shown outside.new) self.new (was_of self.old) work put (SessionItem.Chunk (items.Plain text)) }
         ensures any_moment { (work : Work) (put : List ℕ) → IsChunkText text → length text ≤ longest
-            → IsAt (O.may_leave outside.old)
-            (shown O.tells O.reads O.left O.taken O.told outside.old) self.old work put
+            → IsAt (O.may_leave outside.old) (O.shown outside.old) self.old work put
             → LeavesOnly O.moment O.left_since outside.old outside.new (WorkLeaves work put (SessionItem.Chunk (items.Plain text))) }
         ensures troubled { troubled_of self.new ≡ troubled_of self.old }
-        ensures last_run { RunAfter (SessionItem.Chunk (items.Plain text)) self.old self.new }
+        ensures last_run { RunAfterText result (SessionItem.Chunk (items.Plain text)) self.old self.new }
+        ensures budget { budget_of self.new ≡ budget_of self.old }
         ensures faultless { OnOk result (IsFaultless self.new) }
-        ensures left { O.left outside.new ≡ O.left outside.old }
-        ensures taken { O.taken outside.new ≡ O.taken outside.old }
+        ensures left { (O.shown outside.new).left ≡ (O.shown outside.old).left }
+        ensures taken { (O.shown outside.new).taken ≡ (O.shown outside.old).taken }
         ensures ends { IfErr result IsWorkEnd }
-        ensures counts { Counts (faults O.read_faults O.write_faults O.disk_faults outside.old)
-            (faults O.read_faults O.write_faults O.disk_faults outside.new) result }
+        ensures counts { Counts (O.faults outside.old) (O.faults outside.new) result }
     {
         let length = text.bytes().len();
         if length > LONGEST {
@@ -278,22 +267,19 @@ impl Session {
         requires short { length text ≤ 65535 }
         requires fits { Fits text }
         ensures replied { (work : Work) (put : List ℕ) → IsChunkText text → IsNoDefinition text
-            → IsAt (O.may_leave outside.old)
-            (shown O.tells O.reads O.left O.taken O.told outside.old) self.old work put
-            → Replied result (O.may_leave outside.new)
-            (shown O.tells O.reads O.left O.taken O.told outside.new) self.new work put (SessionItem.Chunk (items.Plain text)) }
+            → IsAt (O.may_leave outside.old) (O.shown outside.old) self.old work put
+            → Replied result (O.may_leave outside.new) (O.shown outside.new) self.new (was_of self.old) work put (SessionItem.Chunk (items.Plain text)) }
         ensures any_moment { (work : Work) (put : List ℕ) → IsChunkText text → IsNoDefinition text
-            → IsAt (O.may_leave outside.old)
-            (shown O.tells O.reads O.left O.taken O.told outside.old) self.old work put
+            → IsAt (O.may_leave outside.old) (O.shown outside.old) self.old work put
             → LeavesOnly O.moment O.left_since outside.old outside.new (WorkLeaves work put (SessionItem.Chunk (items.Plain text))) }
         ensures troubled { troubled_of self.new ≡ troubled_of self.old }
-        ensures last_run { IsNoDefinition text → RunAfter (SessionItem.Chunk (items.Plain text)) self.old self.new }
+        ensures last_run { IsNoDefinition text → RunAfterText result (SessionItem.Chunk (items.Plain text)) self.old self.new }
+        ensures budget { budget_of self.new ≡ budget_of self.old }
         ensures faultless { OnOk result (IsFaultless self.new) }
-        ensures left { O.left outside.new ≡ O.left outside.old }
-        ensures taken { O.taken outside.new ≡ O.taken outside.old }
+        ensures left { (O.shown outside.new).left ≡ (O.shown outside.old).left }
+        ensures taken { (O.shown outside.new).taken ≡ (O.shown outside.old).taken }
         ensures ends { IfErr result IsWorkEnd }
-        ensures counts { Counts (faults O.read_faults O.write_faults O.disk_faults outside.old)
-            (faults O.read_faults O.write_faults O.disk_faults outside.new) result }
+        ensures counts { Counts (O.faults outside.old) (O.faults outside.new) result }
     {
         let code = compile(alloc, self.keeper.system(), &text)?;
         match self.keep(alloc, Change::DoIt { text }, outside)? {
@@ -326,22 +312,19 @@ impl Session {
     ) -> Result<Reply, SessionEnd>
         requires faultless { IsFaultless self.old }
         ensures replied { (work : Work) (put : List ℕ) → IsChunkText source → length source ≤ longest
-            → IsAt (O.may_leave outside.old)
-            (shown O.tells O.reads O.left O.taken O.told outside.old) self.old work put
-            → Replied result (O.may_leave outside.new)
-            (shown O.tells O.reads O.left O.taken O.told outside.new) self.new work put (SessionItem.Chunk (items.Method source)) }
+            → IsAt (O.may_leave outside.old) (O.shown outside.old) self.old work put
+            → Replied result (O.may_leave outside.new) (O.shown outside.new) self.new (was_of self.old) work put (SessionItem.Chunk (items.Method source)) }
         ensures any_moment { (work : Work) (put : List ℕ) → IsChunkText source → length source ≤ longest
-            → IsAt (O.may_leave outside.old)
-            (shown O.tells O.reads O.left O.taken O.told outside.old) self.old work put
+            → IsAt (O.may_leave outside.old) (O.shown outside.old) self.old work put
             → LeavesOnly O.moment O.left_since outside.old outside.new (WorkLeaves work put (SessionItem.Chunk (items.Method source))) }
         ensures troubled { troubled_of self.new ≡ troubled_of self.old }
         ensures last_run { last_run_of self.new ≡ last_run_of self.old }
+        ensures budget { budget_of self.new ≡ budget_of self.old }
         ensures faultless { OnOk result (IsFaultless self.new) }
-        ensures left { O.left outside.new ≡ O.left outside.old }
-        ensures taken { O.taken outside.new ≡ O.taken outside.old }
+        ensures left { (O.shown outside.new).left ≡ (O.shown outside.old).left }
+        ensures taken { (O.shown outside.new).taken ≡ (O.shown outside.old).taken }
         ensures ends { IfErr result IsWorkEnd }
-        ensures counts { Counts (faults O.read_faults O.write_faults O.disk_faults outside.old)
-            (faults O.read_faults O.write_faults O.disk_faults outside.new) result }
+        ensures counts { Counts (O.faults outside.old) (O.faults outside.new) result }
     {
         let length = source.bytes().len();
         if length > LONGEST {
@@ -369,21 +352,17 @@ impl Session {
         requires faultless { IsFaultless self.old }
         requires checked { IsChecked change }
         ensures kept { (work : Work) (put : List ℕ) → IsLawfulFor work.changes change
-            → IsAt (O.may_leave outside.old)
-            (shown O.tells O.reads O.left O.taken O.told outside.old) self.old work put
-            → Kept result (O.may_leave outside.new)
-            (shown O.tells O.reads O.left O.taken O.told outside.new) self.new work put change }
+            → IsAt (O.may_leave outside.old) (O.shown outside.old) self.old work put
+            → Kept result (O.may_leave outside.new) (O.shown outside.new) self.new work put change }
         ensures any_moment { (work : Work) (put : List ℕ) → IsLawfulFor work.changes change
-            → IsAt (O.may_leave outside.old)
-            (shown O.tells O.reads O.left O.taken O.told outside.old) self.old work put
+            → IsAt (O.may_leave outside.old) (O.shown outside.old) self.old work put
             → LeavesOnly O.moment O.left_since outside.old outside.new (KeepLeaves work put change) }
         ensures rest { self.new ≡ record self.old { keeper = keeper_of self.new } }
         ensures faultless { OnOk result (IsFaultless self.new) }
-        ensures left { O.left outside.new ≡ O.left outside.old }
-        ensures taken { O.taken outside.new ≡ O.taken outside.old }
+        ensures left { (O.shown outside.new).left ≡ (O.shown outside.old).left }
+        ensures taken { (O.shown outside.new).taken ≡ (O.shown outside.old).taken }
         ensures ends { IfErr result IsWorkEnd }
-        ensures counts { Counts (faults O.read_faults O.write_faults O.disk_faults outside.old)
-            (faults O.read_faults O.write_faults O.disk_faults outside.new) result }
+        ensures counts { Counts (O.faults outside.old) (O.faults outside.new) result }
     {
         let prepared = match self.keeper.prepare(alloc, change) {
             Ok(prepared) => prepared,
@@ -405,23 +384,20 @@ impl Session {
     ) -> Result<Reply, SessionEnd>
         requires faultless { IsFaultless self.old }
         ensures replied { (work : Work) (put : List ℕ)
-            → IsAt (O.may_leave outside.old)
-            (shown O.tells O.reads O.left O.taken O.told outside.old) self.old work put
-            → Replied result (O.may_leave outside.new)
-            (shown O.tells O.reads O.left O.taken O.told outside.new) self.new work put (SessionItem.Query query) }
+            → IsAt (O.may_leave outside.old) (O.shown outside.old) self.old work put
+            → Replied result (O.may_leave outside.new) (O.shown outside.new) self.new (was_of self.old) work put (SessionItem.Query query) }
         ensures any_moment { (work : Work) (put : List ℕ)
-            → IsAt (O.may_leave outside.old)
-            (shown O.tells O.reads O.left O.taken O.told outside.old) self.old work put
+            → IsAt (O.may_leave outside.old) (O.shown outside.old) self.old work put
             → LeavesOnly O.moment O.left_since outside.old outside.new (HasKept work.changes (length put)) }
-        ensures sound { IsTrue (O.tells outside.old) → (changes : List Change) → Knows (O.reads outside.old) (keeper_of self.old) changes → MeetsNoDamage result }
+        ensures sound { IsTrue (O.shown outside.old).tells → (changes : List Change) → Knows (O.shown outside.old).files (keeper_of self.old) changes → MeetsNoDamage result }
         ensures troubled { troubled_of self.new ≡ troubled_of self.old }
         ensures last_run { last_run_of self.new ≡ last_run_of self.old }
+        ensures budget { budget_of self.new ≡ budget_of self.old }
         ensures faultless { OnOk result (IsFaultless self.new) }
-        ensures left { O.left outside.new ≡ O.left outside.old }
-        ensures taken { O.taken outside.new ≡ O.taken outside.old }
+        ensures left { (O.shown outside.new).left ≡ (O.shown outside.old).left }
+        ensures taken { (O.shown outside.new).taken ≡ (O.shown outside.old).taken }
         ensures ends { IfErr result IsWorkEnd }
-        ensures counts { CountsFor (SessionItem.Query query) (faults O.read_faults O.write_faults O.disk_faults outside.old)
-            (faults O.read_faults O.write_faults O.disk_faults outside.new) result }
+        ensures counts { CountsFor (SessionItem.Query query) (O.faults outside.old) (O.faults outside.new) result }
     {
         let system = self.keeper.system();
         match query {
@@ -442,23 +418,20 @@ impl Session {
     ) -> Result<Reply, SessionEnd>
         requires faultless { IsFaultless self.old }
         ensures replied { (work : Work) (put : List ℕ)
-            → IsAt (O.may_leave outside.old)
-            (shown O.tells O.reads O.left O.taken O.told outside.old) self.old work put
-            → Replied result (O.may_leave outside.new)
-            (shown O.tells O.reads O.left O.taken O.told outside.new) self.new work put (SessionItem.Query (Query.Source spec selector)) }
+            → IsAt (O.may_leave outside.old) (O.shown outside.old) self.old work put
+            → Replied result (O.may_leave outside.new) (O.shown outside.new) self.new (was_of self.old) work put (SessionItem.Query (Query.Source spec selector)) }
         ensures any_moment { (work : Work) (put : List ℕ)
-            → IsAt (O.may_leave outside.old)
-            (shown O.tells O.reads O.left O.taken O.told outside.old) self.old work put
+            → IsAt (O.may_leave outside.old) (O.shown outside.old) self.old work put
             → LeavesOnly O.moment O.left_since outside.old outside.new (HasKept work.changes (length put)) }
-        ensures sound { IsTrue (O.tells outside.old) → (changes : List Change) → Knows (O.reads outside.old) (keeper_of self.old) changes → MeetsNoDamage result }
+        ensures sound { IsTrue (O.shown outside.old).tells → (changes : List Change) → Knows (O.shown outside.old).files (keeper_of self.old) changes → MeetsNoDamage result }
         ensures troubled { troubled_of self.new ≡ troubled_of self.old }
         ensures last_run { last_run_of self.new ≡ last_run_of self.old }
+        ensures budget { budget_of self.new ≡ budget_of self.old }
         ensures faultless { OnOk result (IsFaultless self.new) }
-        ensures left { O.left outside.new ≡ O.left outside.old }
-        ensures taken { O.taken outside.new ≡ O.taken outside.old }
+        ensures left { (O.shown outside.new).left ≡ (O.shown outside.old).left }
+        ensures taken { (O.shown outside.new).taken ≡ (O.shown outside.old).taken }
         ensures ends { IfErr result IsWorkEnd }
-        ensures counts { SourceCounts (faults O.read_faults O.write_faults O.disk_faults outside.old)
-            (faults O.read_faults O.write_faults O.disk_faults outside.new) result }
+        ensures counts { SourceCounts (O.faults outside.old) (O.faults outside.new) result }
     {
         let Some((name, side)) = side_named(alloc, &spec)? else {
             return Ok(Reply::Refused(Refusal::BadName(spec)));
@@ -479,18 +452,16 @@ impl Session {
 
 /// Puts an answer whole.
 fn answer<O: Outside>(outside: &mut O, line: &[u8]) -> Result<(), SessionEnd>
-    ensures put { (put : List ℕ) → O.taken outside.old ≡ Some put → O.told outside.old ≡ length put
-        → AnswerPut result (O.taken outside.new) (O.told outside.new) put line.now }
-    ensures taken { TakesLine result (O.taken outside.old) (O.taken outside.new) line.now }
+    ensures put { (put : List ℕ) → (O.shown outside.old).taken ≡ Some put → (O.shown outside.old).told ≡ length put
+        → AnswerPut result (O.shown outside.new).taken (O.shown outside.new).told put line.now }
+    ensures taken { TakesLine result (O.shown outside.old).taken (O.shown outside.new).taken line.now }
     ensures images { (c : FileId → List ℕ) → O.may_leave outside.new c → O.may_leave outside.old c }
     ensures any_moment { (changes : List Change) (put : List ℕ)
         → ((c : FileId → List ℕ) → O.may_leave outside.old c → FilesStandFor c changes)
-        → O.told outside.old ≡ length put
+        → (O.shown outside.old).told ≡ length put
         → LeavesOnly O.moment O.left_since outside.old outside.new (HasKept changes (length (put ++ line.now))) }
-    ensures shown { shown O.tells O.reads O.left O.taken O.told outside.new
-        ≡ record (shown O.tells O.reads O.left O.taken O.told outside.old) { taken = O.taken outside.new; told = O.told outside.new } }
-    ensures counts { Counts (faults O.read_faults O.write_faults O.disk_faults outside.old)
-        (faults O.read_faults O.write_faults O.disk_faults outside.new) result }
+    ensures shown { O.shown outside.new ≡ record (O.shown outside.old) { taken = (O.shown outside.new).taken; told = (O.shown outside.new).told } }
+    ensures counts { Counts (O.faults outside.old) (O.faults outside.new) result }
 {
     put_all(outside, line).map_err(SessionEnd::Write)?;
     Ok(())

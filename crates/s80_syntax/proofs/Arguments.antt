@@ -4,10 +4,10 @@ use Rattle.s80_lex.specs.declared.token.Token.{Token}
 use Rattle.s80_lex.specs.declared.token.TokenKind.{TokenKind}
 use Rattle.s80_lex.specs.declared.token.TokenKind.TheVariants as kind
 use Rattle.s80_tree.specs.Tree.{ExprTree, PrimaryTree, ExprTrees, MessageTrees, MessageTree, expr, no_exprs, exprs, no_messages, exprs_append}
-use Rattle.s80_grammar.specs.Lexeme.{Lexeme, Lexemes, lexeme, lexemes}
-use Rattle.s80_grammar.specs.Grammar.{Takes, IsPrimary, IsOperand, IsMessage, AreParts}
-use Rattle.s80_grammar.specs.Stack.{Stack, Pops, run, keyword_takes, primary, unary_tail, binary_tail, keyword_tail}
-use Rattle.s80_grammar.proofs.Moves.{pushes}
+use Rattle.s80_syntax.specs.Lexeme.{Lexeme, Lexemes, lexeme, lexemes}
+use Rattle.s80_syntax.specs.Grammar.{Takes, IsPrimary, IsOperand, IsMessage, AreParts}
+use Rattle.s80_syntax.specs.Stack.{Stack, Pops, run, keyword_takes, primary, unary_tail, binary_tail, keyword_tail}
+use Rattle.s80_syntax.proofs.Moves.{pushes}
 use Rattle.s80_syntax.specs.declared.fault.ParseFault.{ParseFault}
 use Rattle.s80_syntax.specs.Reads.{AreSlices, IsNotNext, Stands, FailsAs, Parsed, bytes_of}
 use Rattle.s80_syntax.specs.Literal.{KeywordNext}

@@ -6,14 +6,14 @@ use Rattle.s80_base.specs.Literal.{LiteralTree, LiteralTrees, array, no_literals
 use Rattle.s80_lex.specs.declared.token.Token.{Token}
 use Rattle.s80_lex.specs.declared.token.TokenKind.{TokenKind}
 use Rattle.s80_lex.specs.declared.token.TokenKind.TheVariants as kind
-use Rattle.s80_grammar.specs.Lexeme.{Lexeme, Lexemes, lexeme, lexemes}
-use Rattle.s80_grammar.specs.Literals.{IsLiteralKind}
-use Rattle.s80_grammar.specs.Grammar.{IsMark, IsSingle, IsNegative, IsWord, IsArrayStart, IsArray, AreElements}
-use Rattle.s80_grammar.specs.Word.{is_minus}
-use Rattle.s80_grammar.specs.Faults.{Unexpected, Nested}
-use Rattle.s80_grammar.specs.Stack.{Symbol, Stack, Opens, Pops, Refuses, run, takes, level, assigns, element_takes, paren_takes, elements, close_paren}
-use Rattle.s80_grammar.proofs.Moves.{pops, ends, pushes}
-use Rattle.s80_grammar.proofs.TakenLiterals.{single_at_elements, negative_at_elements, word_taken, array_end}
+use Rattle.s80_syntax.specs.Lexeme.{Lexeme, Lexemes, lexeme, lexemes}
+use Rattle.s80_syntax.specs.Literals.{IsLiteralKind}
+use Rattle.s80_syntax.specs.Grammar.{IsMark, IsSingle, IsNegative, IsWord, IsArrayStart, IsArray, AreElements}
+use Rattle.s80_syntax.specs.Word.{is_minus}
+use Rattle.s80_syntax.specs.Faults.{Unexpected, Nested}
+use Rattle.s80_syntax.specs.Stack.{Symbol, Stack, Opens, Pops, Refuses, run, takes, level, assigns, element_takes, paren_takes, elements, close_paren}
+use Rattle.s80_syntax.proofs.Moves.{pops, ends, pushes}
+use Rattle.s80_syntax.proofs.TakenLiterals.{single_at_elements, negative_at_elements, word_taken, array_end}
 use Rattle.s80_syntax.specs.declared.fault.ParseFault.{ParseFault}
 use Rattle.s80_syntax.specs.Reads.{AreSlices, IsNotNext, Stands, Stops, FailsAs, Took, Parsed, Parses, place_in}
 use Rattle.s80_syntax.specs.Literal.{IsSimple, IsSimpleKind, NoSimple, IsSimpleNext, opens_array, IsElement, TookElement, NoElement, ParsesElement, IsArrayRest}

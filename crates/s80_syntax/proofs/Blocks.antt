@@ -8,15 +8,15 @@ use Rattle.s80_lex.specs.declared.token.TokenKind.TheVariants as kind
 use Rattle.s80_tree.specs.declared.name.NameAt.{NameAt}
 use Rattle.s80_tree.specs.declared.expr.Body.{Body}
 use Rattle.s80_tree.specs.Tree.{PrimaryTree, BodyTree, BlockTree, block, no_stmts, stmts, body_of}
-use Rattle.s80_grammar.specs.Lexeme.{Lexeme, Lexemes, lexeme, lexemes}
-use Rattle.s80_grammar.specs.Grammar.{IsBar, IsBarBetween, IsBody}
-use Rattle.s80_grammar.specs.Word.{Names, names_in, is_minus, is_word, bar}
-use Rattle.s80_grammar.specs.Limits.{block_assigns}
-use Rattle.s80_grammar.specs.Faults.{Unexpected}
-use Rattle.s80_grammar.specs.Stack.{Stack, Action, Pops, run, level, assigns, body_takes, colon_takes, sign_takes, body, block_scope, block_start, parameter, after_parameter, close_bracket}
-use Rattle.s80_grammar.proofs.Moves.{pushes, pops, ends, same_takes}
-use Rattle.s80_grammar.proofs.TakenBodies.{bar_row}
-use Rattle.s80_grammar.proofs.Words.{word_true, word_false}
+use Rattle.s80_syntax.specs.Lexeme.{Lexeme, Lexemes, lexeme, lexemes}
+use Rattle.s80_syntax.specs.Grammar.{IsBar, IsBarBetween, IsBody}
+use Rattle.s80_syntax.specs.Word.{Names, names_in, is_minus, is_word, bar}
+use Rattle.s80_syntax.specs.Limits.{block_assigns}
+use Rattle.s80_syntax.specs.Faults.{Unexpected}
+use Rattle.s80_syntax.specs.Stack.{Stack, Action, Pops, run, level, assigns, body_takes, colon_takes, sign_takes, body, block_scope, block_start, parameter, after_parameter, close_bracket}
+use Rattle.s80_syntax.proofs.Moves.{pushes, pops, ends, same_takes}
+use Rattle.s80_syntax.proofs.TakenBodies.{bar_row}
+use Rattle.s80_syntax.proofs.Words.{word_true, word_false}
 use Rattle.s80_syntax.specs.declared.fault.ParseFault.{ParseFault}
 use Rattle.s80_syntax.specs.Reads.{AreSlices, IsNotNext, IsNotSign, Stands, Stops, FailsAs, Parsed, Parses, place_in, bytes_of}
 use Rattle.s80_syntax.specs.Names.{parameter_symbol, TookParameters}

@@ -6,11 +6,11 @@ use Rattle.s80_lex.specs.declared.token.TokenKind.{TokenKind}
 use Rattle.s80_lex.specs.declared.token.TokenKind.TheVariants as kind
 use Rattle.s80_tree.specs.declared.expr.Message.{Message}
 use Rattle.s80_tree.specs.Tree.{ExprTrees, MessageTrees, MessageTree, no_exprs, exprs, no_messages, messages, messages_append, message_of}
-use Rattle.s80_grammar.specs.Lexeme.{Lexeme, Lexemes, lexeme, lexemes}
-use Rattle.s80_grammar.specs.Grammar.{Takes, IsMark, IsChain, IsMessage, IsCascade}
-use Rattle.s80_grammar.specs.Faults.{Unexpected}
-use Rattle.s80_grammar.specs.Stack.{Stack, Pops, Refuses, run, cascade_takes, keyword_takes, semicolon_takes, primary, unary_tail, binary_tail, keyword_tail, cascade, message}
-use Rattle.s80_grammar.proofs.Moves.{pushes, same_takes}
+use Rattle.s80_syntax.specs.Lexeme.{Lexeme, Lexemes, lexeme, lexemes}
+use Rattle.s80_syntax.specs.Grammar.{Takes, IsMark, IsChain, IsMessage, IsCascade}
+use Rattle.s80_syntax.specs.Faults.{Unexpected}
+use Rattle.s80_syntax.specs.Stack.{Stack, Pops, Refuses, run, cascade_takes, keyword_takes, semicolon_takes, primary, unary_tail, binary_tail, keyword_tail, cascade, message}
+use Rattle.s80_syntax.proofs.Moves.{pushes, same_takes}
 use Rattle.s80_syntax.specs.declared.fault.ParseFault.{ParseFault}
 use Rattle.s80_syntax.specs.Reads.{AreSlices, IsNotNext, Stands, Stops, FailsAs, Parsed, Parses, place_in, bytes_of}
 use Rattle.s80_syntax.specs.Literal.{KeywordNext}

@@ -4,11 +4,11 @@ use Rattle.s80_lex.specs.declared.token.Token.{Token}
 use Rattle.s80_lex.specs.declared.token.TokenKind.{TokenKind}
 use Rattle.s80_lex.specs.declared.token.TokenKind.TheVariants as kind
 use Rattle.s80_tree.specs.Tree.{ExprTree, ExprTrees, MessageTrees, MessageTree, no_exprs, exprs, no_messages, messages, messages_append}
-use Rattle.s80_grammar.specs.Lexeme.{Lexemes, lexeme, lexemes}
-use Rattle.s80_grammar.specs.Grammar.{IsOperand, IsChain, IsMessage}
-use Rattle.s80_grammar.specs.Stack.{Stack, Pops, run, name_takes, binary_takes, primary, unary_tail, binary_tail}
-use Rattle.s80_grammar.proofs.Moves.{pushes}
-use Rattle.s80_grammar.proofs.TakenExprs.{unary_token}
+use Rattle.s80_syntax.specs.Lexeme.{Lexemes, lexeme, lexemes}
+use Rattle.s80_syntax.specs.Grammar.{IsOperand, IsChain, IsMessage}
+use Rattle.s80_syntax.specs.Stack.{Stack, Pops, run, name_takes, binary_takes, primary, unary_tail, binary_tail}
+use Rattle.s80_syntax.proofs.Moves.{pushes}
+use Rattle.s80_syntax.proofs.TakenExprs.{unary_token}
 use Rattle.s80_syntax.specs.declared.fault.ParseFault.{ParseFault}
 use Rattle.s80_syntax.specs.Reads.{AreSlices, IsNotNext, Stands, FailsAs, Parsed, bytes_of}
 use Rattle.s80_syntax.specs.Expr.{GoesOn, TookUnaries, AreBinary, IsBinaryRest}

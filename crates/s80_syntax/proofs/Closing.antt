@@ -3,10 +3,10 @@ use Rattle.std.proofs.Common.{◌≡◌, ◌≢◌, ℕ, List, [], ◌∷◌, Bo
 use Rattle.s80_lex.specs.declared.token.Token.{Token}
 use Rattle.s80_lex.specs.declared.token.TokenKind.{TokenKind}
 use Rattle.s80_lex.specs.declared.token.TokenKind.TheVariants as kind
-use Rattle.s80_grammar.specs.Lexeme.{Lexemes, lexeme, lexemes}
-use Rattle.s80_grammar.specs.Faults.{Unexpected}
-use Rattle.s80_grammar.specs.Stack.{Symbol, Stack, Refuses, run, paren_takes, bracket_takes, close_paren, close_bracket}
-use Rattle.s80_grammar.proofs.Moves.{pushes}
+use Rattle.s80_syntax.specs.Lexeme.{Lexemes, lexeme, lexemes}
+use Rattle.s80_syntax.specs.Faults.{Unexpected}
+use Rattle.s80_syntax.specs.Stack.{Symbol, Stack, Refuses, run, paren_takes, bracket_takes, close_paren, close_bracket}
+use Rattle.s80_syntax.proofs.Moves.{pushes}
 use Rattle.s80_syntax.specs.declared.fault.ParseFault.{ParseFault}
 use Rattle.s80_syntax.specs.Reads.{IsNotNext, Stands, Stops, FailsAs, Parsed, place_in}
 use Rattle.s80_syntax.proofs.Steps.{at_list, fails_back, stops_refused, stops_end}

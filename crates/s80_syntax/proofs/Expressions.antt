@@ -5,12 +5,12 @@ use Rattle.s80_lex.specs.declared.token.TokenKind.{TokenKind}
 use Rattle.s80_lex.specs.declared.token.TokenKind.TheVariants as kind
 use Rattle.s80_tree.specs.declared.name.NameAt.{NameAt}
 use Rattle.s80_tree.specs.Tree.{ExprTree, PrimaryTree, MessageTrees, expr, no_messages, messages}
-use Rattle.s80_grammar.specs.Lexeme.{Lexeme, Lexemes, lexeme, lexemes}
-use Rattle.s80_grammar.specs.Grammar.{IsCascadeOf, IsPrimary, IsExpr, IsChain, IsCascade}
-use Rattle.s80_grammar.specs.Word.{is_minus}
-use Rattle.s80_grammar.specs.Stack.{Stack, Pops, Refuses, run, above, tails, primary_takes, expr_takes, message_takes, assign_takes, primary, expr_start, after_name, first_message, unary_tail, binary_tail, keyword_tail, cascade}
-use Rattle.s80_grammar.proofs.Moves.{pushes, pops, ends, same_takes, stands_above, IsTaken}
-use Rattle.s80_grammar.proofs.TakenExprs.{unary_token, unary_binary, keyword_token}
+use Rattle.s80_syntax.specs.Lexeme.{Lexeme, Lexemes, lexeme, lexemes}
+use Rattle.s80_syntax.specs.Grammar.{IsCascadeOf, IsPrimary, IsExpr, IsChain, IsCascade}
+use Rattle.s80_syntax.specs.Word.{is_minus}
+use Rattle.s80_syntax.specs.Stack.{Stack, Pops, Refuses, run, above, tails, primary_takes, expr_takes, message_takes, assign_takes, primary, expr_start, after_name, first_message, unary_tail, binary_tail, keyword_tail, cascade}
+use Rattle.s80_syntax.proofs.Moves.{pushes, pops, ends, same_takes, stands_above, IsTaken}
+use Rattle.s80_syntax.proofs.TakenExprs.{unary_token, unary_binary, keyword_token}
 use Rattle.s80_syntax.specs.declared.fault.ParseFault.{ParseFault}
 use Rattle.s80_syntax.specs.Reads.{Stands, FailsAs, Parsed}
 use Rattle.s80_syntax.specs.Names.{IsTargetNext, TookTargets}

@@ -11,8 +11,8 @@ use Rattle.std.proofs.lemmas.List.{take_all}
 use Rattle.std.proofs.lemmas.List.Folds.{list_any_more}
 use Rattle.std.proofs.lemmas.Map.Text.{is_eq-slice_cmp}
 use Rattle.s80_tree.specs.declared.name.NameAt.{NameAt}
-use Rattle.s80_grammar.specs.Limits.{home_assigns, block_assigns}
-use Rattle.s80_grammar.specs.Word.{Names, has_name, is_reserved}
+use Rattle.s80_syntax.specs.Limits.{home_assigns, block_assigns}
+use Rattle.s80_syntax.specs.Word.{Names, has_name, is_reserved}
 use Rattle.s80_syntax.specs.Scope.{assigns_at_home, assigns_in_block}
 
 or_same : (a b r : Bool) → a ≡ b → (b || r) ≡ (a || (b || r))

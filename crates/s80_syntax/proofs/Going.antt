@@ -4,13 +4,13 @@ use Rattle.std.specs.Borrow.{Bor}
 use Rattle.s80_lex.specs.declared.token.Token.{Token}
 use Rattle.s80_lex.specs.declared.token.TokenKind.{TokenKind}
 use Rattle.s80_lex.specs.declared.token.TokenKind.TheVariants as kind
-use Rattle.s80_grammar.specs.Lexeme.{Lexeme, Lexemes, lexeme, lexemes}
-use Rattle.s80_grammar.specs.Faults.{Wrong, Unexpected}
-use Rattle.s80_grammar.specs.Grammar.{IsSign}
-use Rattle.s80_grammar.specs.Word.{Names, is_word, is_minus}
-use Rattle.s80_grammar.specs.Stack.{Symbol, Stack, Action, Pops, Refuses, run, takes, may_end, level, assigns, above, body_takes, sign_takes, home_takes, body, home_scope}
-use Rattle.s80_grammar.proofs.Moves.{pops, ends, stands_above, IsTaken}
-use Rattle.s80_grammar.proofs.Words.{word_false}
+use Rattle.s80_syntax.specs.Lexeme.{Lexeme, Lexemes, lexeme, lexemes}
+use Rattle.s80_syntax.specs.Faults.{Wrong, Unexpected}
+use Rattle.s80_syntax.specs.Grammar.{IsSign}
+use Rattle.s80_syntax.specs.Word.{Names, is_word, is_minus}
+use Rattle.s80_syntax.specs.Stack.{Symbol, Stack, Action, Pops, Refuses, run, takes, may_end, level, assigns, above, body_takes, sign_takes, home_takes, body, home_scope}
+use Rattle.s80_syntax.proofs.Moves.{pops, ends, stands_above, IsTaken}
+use Rattle.s80_syntax.proofs.Words.{word_false}
 use Rattle.s80_syntax.specs.declared.fault.ParseFault.{ParseFault}
 use Rattle.s80_syntax.specs.declared.fault.ParseFault.TheVariants as fault
 use Rattle.s80_syntax.specs.Reads.{Stands, Stops, FailsAs, IsNotSign, place_in, bytes_of}

@@ -11,15 +11,15 @@ use Rattle.s80_lex.specs.Number.{number_literal}
 use Rattle.s80_tree.specs.declared.name.NameAt.{NameAt}
 use Rattle.s80_tree.specs.declared.name.NamesAt.{NamesAt}
 use Rattle.s80_tree.specs.Name.{names_of}
-use Rattle.s80_grammar.specs.Lexeme.{Lexeme, Lexemes, lexeme, lexemes}
-use Rattle.s80_grammar.specs.Grammar.{IsSign, IsBar, IsDeclared, AreDeclared, AreTemporaries, AreOptionalTemporaries, IsPrimitive, IsHead}
-use Rattle.s80_grammar.specs.Word.{Names, names_in, is_reserved, is_word, is_primitive_number, primitive_value, bar, less, greater, primitive_word as primitive_bytes}
-use Rattle.s80_grammar.specs.Faults.{Unexpected}
-use Rattle.s80_grammar.specs.Stack.{Symbol, Stack, Action, Pushes, Refuses, run, takes, declared_takes, sign_takes, word_takes, number_takes, home_takes, after_bar, primitive_then, after_pattern, optional_temporaries, temporaries, after_temporaries, primitive_word, primitive_number, primitive_end, body, home_scope}
-use Rattle.s80_grammar.proofs.Moves.{pushes}
-use Rattle.s80_grammar.proofs.Words.{word_true, word_false}
-use Rattle.s80_grammar.proofs.TakenSigns.{sign_taken, declared_taken}
-use Rattle.s80_grammar.proofs.TakenTexts.{primitive_taken, optional_row, behind_row, less_row, bar_row}
+use Rattle.s80_syntax.specs.Lexeme.{Lexeme, Lexemes, lexeme, lexemes}
+use Rattle.s80_syntax.specs.Grammar.{IsSign, IsBar, IsDeclared, AreDeclared, AreTemporaries, AreOptionalTemporaries, IsPrimitive, IsHead}
+use Rattle.s80_syntax.specs.Word.{Names, names_in, is_reserved, is_word, is_primitive_number, primitive_value, bar, less, greater, primitive_word as primitive_bytes}
+use Rattle.s80_syntax.specs.Faults.{Unexpected}
+use Rattle.s80_syntax.specs.Stack.{Symbol, Stack, Action, Pushes, Refuses, run, takes, declared_takes, sign_takes, word_takes, number_takes, home_takes, after_bar, primitive_then, after_pattern, optional_temporaries, temporaries, after_temporaries, primitive_word, primitive_number, primitive_end, body, home_scope}
+use Rattle.s80_syntax.proofs.Moves.{pushes}
+use Rattle.s80_syntax.proofs.Words.{word_true, word_false}
+use Rattle.s80_syntax.proofs.TakenSigns.{sign_taken, declared_taken}
+use Rattle.s80_syntax.proofs.TakenTexts.{primitive_taken, optional_row, behind_row, less_row, bar_row}
 use Rattle.s80_syntax.specs.declared.fault.ParseFault.{ParseFault}
 use Rattle.s80_syntax.specs.Reads.{AreSlices, IsNotSign, IsNotNext, Took, place_in, bytes_of}
 use Rattle.s80_syntax.specs.Names.{NoDeclared}

@@ -7,10 +7,10 @@ use Rattle.s80_lex.specs.Number.{number_literal}
 use Rattle.s80_lex.specs.declared.token.Token.{Token}
 use Rattle.s80_lex.specs.declared.token.TokenKind.{TokenKind}
 use Rattle.s80_lex.specs.declared.token.TokenKind.TheVariants as kind
-use Rattle.s80_grammar.specs.Lexeme.{Lexeme, Lexemes, lexeme, lexemes, is_joined}
-use Rattle.s80_grammar.specs.Literals.{IsLiteralKind, token_literal, name_literal}
-use Rattle.s80_grammar.specs.Grammar.{IsSingle, IsNegative, IsWord, AreJoined}
-use Rattle.s80_grammar.specs.Word.{is_minus}
+use Rattle.s80_syntax.specs.Lexeme.{Lexeme, Lexemes, lexeme, lexemes, is_joined}
+use Rattle.s80_syntax.specs.Literals.{IsLiteralKind, token_literal, name_literal}
+use Rattle.s80_syntax.specs.Grammar.{IsSingle, IsNegative, IsWord, AreJoined}
+use Rattle.s80_syntax.specs.Word.{is_minus}
 use Rattle.s80_syntax.specs.Reads.{AreSlices, IsNotNext, Took, bytes_of}
 use Rattle.s80_syntax.specs.Literal.{IsTokenLiteral, NoMinus, KeywordNext, IsSimple, IsSimpleKind, NoSimple}
 use Rattle.s80_syntax.proofs.NextToken.{tail_slices, tail_smaller, takes_next, minus_joined, number_joined, keyword_joined}

@@ -6,15 +6,15 @@ use Rattle.s80_lex.specs.Text.{AreTokens}
 use Rattle.s80_tree.specs.declared.method.MethodTree.{MethodTree}
 use Rattle.s80_tree.specs.declared.method.DoItTree.{DoItTree}
 use Rattle.s80_tree.specs.Tree.{MethodParts, DoItParts, method_of, doit_of}
-use Rattle.s80_grammar.specs.Lexeme.{Lexemes, lexemes}
-use Rattle.s80_grammar.specs.Grammar.{IsMethod, IsDoIt}
-use Rattle.s80_grammar.specs.Limits.{IsLawfulMethod, IsLawfulDoIt}
-use Rattle.s80_grammar.specs.Faults.{Wrong, Unexpected, Nested, NotAssignable, IsMethodText, IsDoItText}
-use Rattle.s80_grammar.specs.Stack.{Symbol, Accepts, run, method_start, doit_start}
-use Rattle.s80_grammar.proofs.Fronts.{derives}
-use Rattle.s80_grammar.proofs.Whole.{Stands, stops_at_fault}
-use Rattle.s80_grammar.proofs.Texts.{methods, doits}
-use Rattle.s80_grammar.proofs.UniqueTexts.{one_method, one_doit}
+use Rattle.s80_syntax.specs.Lexeme.{Lexemes, lexemes}
+use Rattle.s80_syntax.specs.Grammar.{IsMethod, IsDoIt}
+use Rattle.s80_syntax.specs.Limits.{IsLawfulMethod, IsLawfulDoIt}
+use Rattle.s80_syntax.specs.Faults.{Wrong, Unexpected, Nested, NotAssignable, IsMethodText, IsDoItText}
+use Rattle.s80_syntax.specs.Stack.{Symbol, Accepts, run, method_start, doit_start}
+use Rattle.s80_syntax.proofs.Fronts.{derives}
+use Rattle.s80_syntax.proofs.Whole.{Stands, stops_at_fault}
+use Rattle.s80_syntax.proofs.Texts.{methods, doits}
+use Rattle.s80_syntax.proofs.UniqueTexts.{one_method, one_doit}
 use Rattle.s80_syntax.specs.declared.fault.ParseFault.{ParseFault}
 use Rattle.s80_syntax.specs.declared.fault.ParseFault.TheVariants as fault
 use Rattle.s80_syntax.specs.Method.{Breaks, BreaksAs, MeansMethod, MeansDoIt}

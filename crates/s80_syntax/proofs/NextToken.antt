@@ -4,9 +4,9 @@ use Rattle.s80_lex.specs.declared.token.Token.{Token}
 use Rattle.s80_lex.specs.declared.token.TokenKind.{TokenKind}
 use Rattle.s80_lex.specs.declared.token.TokenKind.TheVariants as kind
 use Rattle.s80_lex.specs.Text.{IsSlice}
-use Rattle.s80_grammar.specs.Lexeme.{Lexeme, Lexemes, lexeme, lexemes, joins, is_joined}
-use Rattle.s80_grammar.specs.Grammar.{Takes}
-use Rattle.s80_grammar.specs.Word.{is_minus, minus}
+use Rattle.s80_syntax.specs.Lexeme.{Lexeme, Lexemes, lexeme, lexemes, joins, is_joined}
+use Rattle.s80_syntax.specs.Grammar.{Takes}
+use Rattle.s80_syntax.specs.Word.{is_minus, minus}
 use Rattle.std.specs.Str.{bytes_eq}
 use Rattle.s80_syntax.specs.Reads.{AreSlices, IsNotNext, bytes_of}
 

@@ -6,13 +6,13 @@ use Rattle.s80_base.specs.Literal.{LiteralTree, LiteralTrees, array, literal_of}
 use Rattle.s80_lex.specs.declared.token.Token.{Token}
 use Rattle.s80_lex.specs.declared.token.TokenKind.{TokenKind}
 use Rattle.s80_lex.specs.declared.token.TokenKind.TheVariants as kind
-use Rattle.s80_grammar.specs.Lexeme.{Lexeme, Lexemes, lexeme, lexemes}
-use Rattle.s80_grammar.specs.Literals.{IsLiteralKind}
-use Rattle.s80_grammar.specs.Grammar.{IsSingle, IsNegative, IsLiteral}
-use Rattle.s80_grammar.specs.Word.{is_minus}
-use Rattle.s80_grammar.specs.Faults.{Unexpected, Nested}
-use Rattle.s80_grammar.specs.Stack.{Symbol, Stack, Opens, Refuses, run, takes, assigns, primary_takes, primary, elements, close_paren}
-use Rattle.s80_grammar.proofs.TakenLiterals.{single_at_primary, negative_at_primary}
+use Rattle.s80_syntax.specs.Lexeme.{Lexeme, Lexemes, lexeme, lexemes}
+use Rattle.s80_syntax.specs.Literals.{IsLiteralKind}
+use Rattle.s80_syntax.specs.Grammar.{IsSingle, IsNegative, IsLiteral}
+use Rattle.s80_syntax.specs.Word.{is_minus}
+use Rattle.s80_syntax.specs.Faults.{Unexpected, Nested}
+use Rattle.s80_syntax.specs.Stack.{Symbol, Stack, Opens, Refuses, run, takes, assigns, primary_takes, primary, elements, close_paren}
+use Rattle.s80_syntax.proofs.TakenLiterals.{single_at_primary, negative_at_primary}
 use Rattle.s80_syntax.specs.declared.fault.ParseFault.{ParseFault}
 use Rattle.s80_syntax.specs.Reads.{AreSlices, IsNotNext, Stops, FailsAs, Took, Parsed, place_in, bytes_of}
 use Rattle.s80_syntax.specs.Literal.{IsTokenLiteral, NoMinus, IsArrayRest, IsOther, IsNegativeNext}

@@ -5,13 +5,13 @@ use Rattle.s80_lex.specs.declared.token.Token.{Token}
 use Rattle.s80_lex.specs.declared.token.TokenKind.{TokenKind}
 use Rattle.s80_lex.specs.declared.token.TokenKind.TheVariants as kind
 use Rattle.s80_tree.specs.declared.name.NameAt.{NameAt}
-use Rattle.s80_grammar.specs.Lexeme.{Lexeme, Lexemes, lexeme, lexemes}
-use Rattle.s80_grammar.specs.Grammar.{IsMark, IsDeclared, AreParameters}
-use Rattle.s80_grammar.specs.Word.{Names, names_in, is_reserved, is_minus, is_word, bar}
-use Rattle.s80_grammar.specs.Faults.{Unexpected}
-use Rattle.s80_grammar.specs.Stack.{Symbol, Stack, Action, may_end, Pushes, Pops, Refuses, run, takes, colon_takes, declared_takes, body_takes, sign_takes, body, block_scope, block_start, parameter, after_parameter}
-use Rattle.s80_grammar.proofs.Moves.{pushes}
-use Rattle.s80_grammar.proofs.TakenSigns.{declared_taken}
+use Rattle.s80_syntax.specs.Lexeme.{Lexeme, Lexemes, lexeme, lexemes}
+use Rattle.s80_syntax.specs.Grammar.{IsMark, IsDeclared, AreParameters}
+use Rattle.s80_syntax.specs.Word.{Names, names_in, is_reserved, is_minus, is_word, bar}
+use Rattle.s80_syntax.specs.Faults.{Unexpected}
+use Rattle.s80_syntax.specs.Stack.{Symbol, Stack, Action, may_end, Pushes, Pops, Refuses, run, takes, colon_takes, declared_takes, body_takes, sign_takes, body, block_scope, block_start, parameter, after_parameter}
+use Rattle.s80_syntax.proofs.Moves.{pushes}
+use Rattle.s80_syntax.proofs.TakenSigns.{declared_taken}
 use Rattle.s80_syntax.specs.Reads.{AreSlices, IsNotNext, Stops, Took, place_in, bytes_of}
 use Rattle.s80_syntax.specs.Names.{NoDeclared, IsDeclaredNext, parameter_symbol}
 use Rattle.s80_syntax.proofs.NextToken.{takes_next, tail_slices}

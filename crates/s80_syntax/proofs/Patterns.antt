@@ -8,14 +8,14 @@ use Rattle.s80_lex.specs.declared.token.TokenKind.TheVariants as kind
 use Rattle.s80_tree.specs.declared.name.NameAt.{NameAt}
 use Rattle.s80_tree.specs.declared.name.NamesAt.{NamesAt}
 use Rattle.s80_tree.specs.Name.{names_of}
-use Rattle.s80_grammar.specs.Lexeme.{Lexeme, Lexemes, lexeme, lexemes}
-use Rattle.s80_grammar.specs.Grammar.{Takes, IsDeclared, AreKeywords, IsPattern}
-use Rattle.s80_grammar.specs.Word.{Names, names_in, is_reserved, is_minus}
-use Rattle.s80_grammar.specs.Faults.{Unexpected}
-use Rattle.s80_grammar.specs.Stack.{Stack, Pushes, Refuses, run, takes, level, assigns, keyword_takes, pattern_takes, head_takes, method_start, binary_parameter, keyword_parameter, after_keyword, after_pattern}
-use Rattle.s80_grammar.proofs.Moves.{pushes}
-use Rattle.s80_grammar.proofs.TakenSigns.{declared_taken}
-use Rattle.s80_grammar.proofs.TakenTexts.{Follows, NotKeyword, pattern_taken}
+use Rattle.s80_syntax.specs.Lexeme.{Lexeme, Lexemes, lexeme, lexemes}
+use Rattle.s80_syntax.specs.Grammar.{Takes, IsDeclared, AreKeywords, IsPattern}
+use Rattle.s80_syntax.specs.Word.{Names, names_in, is_reserved, is_minus}
+use Rattle.s80_syntax.specs.Faults.{Unexpected}
+use Rattle.s80_syntax.specs.Stack.{Stack, Pushes, Refuses, run, takes, level, assigns, keyword_takes, pattern_takes, head_takes, method_start, binary_parameter, keyword_parameter, after_keyword, after_pattern}
+use Rattle.s80_syntax.proofs.Moves.{pushes}
+use Rattle.s80_syntax.proofs.TakenSigns.{declared_taken}
+use Rattle.s80_syntax.proofs.TakenTexts.{Follows, NotKeyword, pattern_taken}
 use Rattle.s80_syntax.specs.declared.fault.ParseFault.{ParseFault}
 use Rattle.s80_syntax.specs.Reads.{AreSlices, IsNotNext, Took, place_in, bytes_of}
 use Rattle.s80_syntax.specs.Literal.{KeywordNext}

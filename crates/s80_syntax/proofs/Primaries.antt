@@ -8,12 +8,12 @@ use Rattle.s80_lex.specs.declared.token.TokenKind.TheVariants as kind
 use Rattle.s80_tree.specs.declared.name.NameAt.{NameAt}
 use Rattle.s80_tree.specs.declared.expr.Primary.{Primary}
 use Rattle.s80_tree.specs.Tree.{ExprTree, PrimaryTree, name, literal, block, paren, primary_of}
-use Rattle.s80_grammar.specs.Lexeme.{Lexeme, Lexemes, lexeme, lexemes}
-use Rattle.s80_grammar.specs.Grammar.{Takes, IsLiteral, IsExpr, IsPrimary}
-use Rattle.s80_grammar.specs.Word.{is_minus}
-use Rattle.s80_grammar.specs.Faults.{Unexpected}
-use Rattle.s80_grammar.specs.Stack.{Stack, Opens, Refuses, run, takes, primary_takes, primary, expr_start, close_paren, close_bracket, block_start}
-use Rattle.s80_grammar.proofs.Moves.{pushes}
+use Rattle.s80_syntax.specs.Lexeme.{Lexeme, Lexemes, lexeme, lexemes}
+use Rattle.s80_syntax.specs.Grammar.{Takes, IsLiteral, IsExpr, IsPrimary}
+use Rattle.s80_syntax.specs.Word.{is_minus}
+use Rattle.s80_syntax.specs.Faults.{Unexpected}
+use Rattle.s80_syntax.specs.Stack.{Stack, Opens, Refuses, run, takes, primary_takes, primary, expr_start, close_paren, close_bracket, block_start}
+use Rattle.s80_syntax.proofs.Moves.{pushes}
 use Rattle.s80_syntax.specs.declared.fault.ParseFault.{ParseFault}
 use Rattle.s80_syntax.specs.declared.fault.ParseFault.TheVariants as fault
 use Rattle.s80_syntax.specs.Reads.{AreSlices, IsNotNext, Stands, Stops, FailsAs, Parsed, Parses, place_in, bytes_of}

@@ -4,13 +4,13 @@ use Rattle.s80_lex.specs.declared.token.Token.{Token}
 use Rattle.s80_lex.specs.declared.token.TokenKind.{TokenKind}
 use Rattle.s80_lex.specs.declared.token.TokenKind.TheVariants as kind
 use Rattle.s80_tree.specs.Tree.{ExprTree, BodyTree, StmtTree, no_stmts, stmts, body_append}
-use Rattle.s80_grammar.specs.Lexeme.{Lexeme, Lexemes, lexeme, lexemes}
-use Rattle.s80_grammar.specs.Grammar.{IsMark, IsCaret, IsExpr, IsBetween, IsBody}
-use Rattle.s80_grammar.specs.Word.{is_minus}
-use Rattle.s80_grammar.specs.Stack.{Stack, Pops, run, body_takes, period_takes, expr_start, body, after_statement, after_return}
-use Rattle.s80_grammar.proofs.Moves.{pushes, pops, ends}
-use Rattle.s80_grammar.proofs.Begins.{Operand}
-use Rattle.s80_grammar.proofs.TakenExprs.{body_is_expr}
+use Rattle.s80_syntax.specs.Lexeme.{Lexeme, Lexemes, lexeme, lexemes}
+use Rattle.s80_syntax.specs.Grammar.{IsMark, IsCaret, IsExpr, IsBetween, IsBody}
+use Rattle.s80_syntax.specs.Word.{is_minus}
+use Rattle.s80_syntax.specs.Stack.{Stack, Pops, run, body_takes, period_takes, expr_start, body, after_statement, after_return}
+use Rattle.s80_syntax.proofs.Moves.{pushes, pops, ends}
+use Rattle.s80_syntax.proofs.Begins.{Operand}
+use Rattle.s80_syntax.proofs.TakenExprs.{body_is_expr}
 use Rattle.s80_syntax.specs.declared.fault.ParseFault.{ParseFault}
 use Rattle.s80_syntax.specs.Reads.{AreSlices, IsNotNext, Stands, FailsAs, Parsed}
 use Rattle.s80_syntax.specs.Expr.{begins_statement, statement_next, TookCaret, after}

@@ -4,11 +4,11 @@ use Rattle.std.specs.Borrow.{Bor}
 use Rattle.std.proofs.lemmas.Bool.Decides.{Decides-ltb}
 use Rattle.s80_lex.specs.declared.token.Token.{Token}
 use Rattle.s80_lex.specs.declared.token.TokenKind.{TokenKind}
-use Rattle.s80_grammar.specs.Lexeme.{Lexeme, Lexemes, lexeme, lexemes}
-use Rattle.s80_grammar.specs.Limits.{may_open}
-use Rattle.s80_grammar.specs.Faults.{Wrong, Unexpected, Nested, NotAssignable}
-use Rattle.s80_grammar.specs.Stack.{Symbol, Stack, Action, Outcome, Pushes, Opens, Pops, Refuses, Fails, run, takes, act, step, finish, may_end, level, assigns}
-use Rattle.s80_grammar.proofs.Moves.{pops, ends, opens}
+use Rattle.s80_syntax.specs.Lexeme.{Lexeme, Lexemes, lexeme, lexemes}
+use Rattle.s80_syntax.specs.Limits.{may_open}
+use Rattle.s80_syntax.specs.Faults.{Wrong, Unexpected, Nested, NotAssignable}
+use Rattle.s80_syntax.specs.Stack.{Symbol, Stack, Action, Outcome, Pushes, Opens, Pops, Refuses, Fails, run, takes, act, step, finish, may_end, level, assigns}
+use Rattle.s80_syntax.proofs.Moves.{pops, ends, opens}
 use Rattle.s80_syntax.specs.declared.fault.ParseFault.{ParseFault}
 use Rattle.s80_syntax.specs.declared.fault.ParseFault.TheVariants as fault
 use Rattle.s80_syntax.specs.Reads.{AreSlices, IsNotNext, IsMemory, Stands, Stops, FailsAs, Parsed, Parses, place_in}

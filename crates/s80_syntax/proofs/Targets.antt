@@ -3,13 +3,13 @@ use Rattle.std.proofs.Common.{subst, ◌≡◌, ℕ, ◌<◌, List, [], ◌∷�
 use Rattle.s80_lex.specs.declared.token.Token.{Token}
 use Rattle.s80_lex.specs.declared.token.TokenKind.TheVariants as kind
 use Rattle.s80_tree.specs.declared.name.NameAt.{NameAt}
-use Rattle.s80_grammar.specs.Lexeme.{Lexeme, Lexemes, lexeme, lexemes}
-use Rattle.s80_grammar.specs.Grammar.{IsMark, IsName, IsTargets}
-use Rattle.s80_grammar.specs.Word.{is_minus}
-use Rattle.s80_grammar.specs.Limits.{may_assign}
-use Rattle.s80_grammar.specs.Faults.{NotAssignable}
-use Rattle.s80_grammar.specs.Stack.{Symbol, Stack, Assigns, Refuses, Fails, run, takes, act, step, assigns, expr_takes, assign_takes, expr_start, after_name}
-use Rattle.s80_grammar.proofs.Moves.{pushes, assigned}
+use Rattle.s80_syntax.specs.Lexeme.{Lexeme, Lexemes, lexeme, lexemes}
+use Rattle.s80_syntax.specs.Grammar.{IsMark, IsName, IsTargets}
+use Rattle.s80_syntax.specs.Word.{is_minus}
+use Rattle.s80_syntax.specs.Limits.{may_assign}
+use Rattle.s80_syntax.specs.Faults.{NotAssignable}
+use Rattle.s80_syntax.specs.Stack.{Symbol, Stack, Assigns, Refuses, Fails, run, takes, act, step, assigns, expr_takes, assign_takes, expr_start, after_name}
+use Rattle.s80_syntax.proofs.Moves.{pushes, assigned}
 use Rattle.s80_syntax.specs.Reads.{AreSlices, IsNotNext, Stops, bytes_of}
 use Rattle.s80_syntax.specs.Names.{IsTargetNext}
 use Rattle.s80_syntax.proofs.NextToken.{takes_next, tail_slices}

@@ -9,16 +9,16 @@ use Rattle.s80_tree.specs.declared.name.NameAt.{NameAt}
 use Rattle.s80_tree.specs.declared.method.MethodTree.{MethodTree}
 use Rattle.s80_tree.specs.declared.method.DoItTree.{DoItTree}
 use Rattle.s80_tree.specs.Tree.{MethodParts, DoItParts, BodyTree, method_of, doit_of}
-use Rattle.s80_grammar.specs.Lexeme.{Lexeme, Lexemes, lexeme, lexemes}
-use Rattle.s80_grammar.specs.Grammar.{IsBody, IsPattern, IsHead, AreOptionalTemporaries, IsMethod, IsDoIt}
-use Rattle.s80_grammar.specs.Limits.{home_assigns, IsLawfulMethod, IsLawfulDoIt}
-use Rattle.s80_grammar.specs.Word.{Names, names_in}
-use Rattle.s80_grammar.specs.Faults.{Wrong, Unexpected, Nested, NotAssignable, IsMethodText, IsDoItText, IsFault}
-use Rattle.s80_grammar.specs.Stack.{Symbol, Stack, Accepts, Fails, run, finish, step, method_start, doit_start, after_pattern, optional_temporaries, body, home_scope}
-use Rattle.s80_grammar.proofs.Moves.{pops}
-use Rattle.s80_grammar.proofs.Whole.{stops_at_fault}
-use Rattle.s80_grammar.proofs.Texts.{methods, doits}
-use Rattle.s80_grammar.proofs.UniqueTexts.{one_method, one_doit}
+use Rattle.s80_syntax.specs.Lexeme.{Lexeme, Lexemes, lexeme, lexemes}
+use Rattle.s80_syntax.specs.Grammar.{IsBody, IsPattern, IsHead, AreOptionalTemporaries, IsMethod, IsDoIt}
+use Rattle.s80_syntax.specs.Limits.{home_assigns, IsLawfulMethod, IsLawfulDoIt}
+use Rattle.s80_syntax.specs.Word.{Names, names_in}
+use Rattle.s80_syntax.specs.Faults.{Wrong, Unexpected, Nested, NotAssignable, IsMethodText, IsDoItText, IsFault}
+use Rattle.s80_syntax.specs.Stack.{Symbol, Stack, Accepts, Fails, run, finish, step, method_start, doit_start, after_pattern, optional_temporaries, body, home_scope}
+use Rattle.s80_syntax.proofs.Moves.{pops}
+use Rattle.s80_syntax.proofs.Whole.{stops_at_fault}
+use Rattle.s80_syntax.proofs.Texts.{methods, doits}
+use Rattle.s80_syntax.proofs.UniqueTexts.{one_method, one_doit}
 use Rattle.s80_syntax.specs.declared.fault.ParseFault.{ParseFault}
 use Rattle.s80_syntax.specs.declared.fault.ParseFault.TheVariants as fault
 use Rattle.s80_syntax.specs.Fault.{of_lex}

@@ -5,10 +5,10 @@ use Rattle.s80_lex.specs.declared.token.TokenKind.{TokenKind}
 use Rattle.s80_lex.specs.declared.token.TokenKind.TheVariants as kind
 use Rattle.s80_tree.specs.declared.name.NameAt.{NameAt}
 use Rattle.s80_tree.specs.Tree.{ExprTree, PrimaryTree, MessageTrees, MessageTree, BodyTree, block, paren, no_exprs, exprs, messages_append}
-use Rattle.s80_grammar.specs.Lexeme.{Lexemes, lexeme, lexemes}
-use Rattle.s80_grammar.specs.Grammar.{IsMark, IsExpr, IsOperand, IsChain, IsMessage, IsBody, AreParameters, IsBarBetween}
-use Rattle.s80_grammar.specs.Stack.{Symbol, Stack, run, unary_tail, after_statement, after_return}
-use Rattle.s80_grammar.specs.Word.{is_minus}
+use Rattle.s80_syntax.specs.Lexeme.{Lexemes, lexeme, lexemes}
+use Rattle.s80_syntax.specs.Grammar.{IsMark, IsExpr, IsOperand, IsChain, IsMessage, IsBody, AreParameters, IsBarBetween}
+use Rattle.s80_syntax.specs.Stack.{Symbol, Stack, run, unary_tail, after_statement, after_return}
+use Rattle.s80_syntax.specs.Word.{is_minus}
 use Rattle.s80_syntax.specs.declared.fault.ParseFault.{ParseFault}
 use Rattle.s80_syntax.specs.declared.fault.ParseFault.TheVariants as fault
 use Rattle.s80_syntax.specs.Reads.{AreSlices, IsNotNext, place_in}

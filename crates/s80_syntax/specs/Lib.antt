@@ -1,3 +1,11 @@
+pub mod Lexeme
+pub mod Word
+pub mod Literals
+pub mod Grammar
+pub mod Limits
+pub mod Faults
+pub mod Stack
+pub mod Laws
 pub mod Fault
 pub mod NameSet
 pub mod Scope

@@ -6,11 +6,11 @@ use Rattle.s80_base.specs.Literal.{LiteralTree, LiteralTrees, literal_of}
 use Rattle.s80_lex.specs.declared.token.Token.{Token}
 use Rattle.s80_lex.specs.declared.token.TokenKind.{TokenKind}
 use Rattle.s80_lex.specs.declared.token.TokenKind.TheVariants as kind
-use Rattle.s80_grammar.specs.Lexeme.{Lexemes, lexeme, lexemes}
-use Rattle.s80_grammar.specs.Literals.{IsLiteralKind, token_literal}
-use Rattle.s80_grammar.specs.Grammar.{IsMark, IsSingle, IsNegative, IsWord, IsArray, AreJoined, AreElements}
-use Rattle.s80_grammar.specs.Stack.{Stack, run, level, elements}
-use Rattle.s80_grammar.specs.Word.{is_minus}
+use Rattle.s80_syntax.specs.Lexeme.{Lexemes, lexeme, lexemes}
+use Rattle.s80_syntax.specs.Literals.{IsLiteralKind, token_literal}
+use Rattle.s80_syntax.specs.Grammar.{IsMark, IsSingle, IsNegative, IsWord, IsArray, AreJoined, AreElements}
+use Rattle.s80_syntax.specs.Stack.{Stack, run, level, elements}
+use Rattle.s80_syntax.specs.Word.{is_minus}
 use Rattle.s80_syntax.specs.declared.fault.ParseFault.{ParseFault}
 use Rattle.s80_syntax.specs.Reads.{AreSlices, FailsAs, Took, bytes_of}
 

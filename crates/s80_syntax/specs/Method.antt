@@ -9,11 +9,11 @@ use Rattle.s80_tree.specs.declared.name.NameAt.{NameAt}
 use Rattle.s80_tree.specs.declared.method.MethodTree.{MethodTree}
 use Rattle.s80_tree.specs.declared.method.DoItTree.{DoItTree}
 use Rattle.s80_tree.specs.Tree.{method_of, doit_of}
-use Rattle.s80_grammar.specs.Lexeme.{Lexeme, Lexemes, lexemes}
-use Rattle.s80_grammar.specs.Grammar.{Takes, IsSign, IsBar, IsDeclared, AreDeclared, IsMethod, IsDoIt}
-use Rattle.s80_grammar.specs.Faults.{Wrong, Unexpected, Nested, NotAssignable, fault_place}
-use Rattle.s80_grammar.specs.Stack.{Symbol, Stack, Accepts, Fails, run, method_start, doit_start, after_keyword, after_bar, temporaries, body, home_scope}
-use Rattle.s80_grammar.specs.Word.{Names, greater, primitive_value, primitive_word}
+use Rattle.s80_syntax.specs.Lexeme.{Lexeme, Lexemes, lexemes}
+use Rattle.s80_syntax.specs.Grammar.{Takes, IsSign, IsBar, IsDeclared, AreDeclared, IsMethod, IsDoIt}
+use Rattle.s80_syntax.specs.Faults.{Wrong, Unexpected, Nested, NotAssignable, fault_place}
+use Rattle.s80_syntax.specs.Stack.{Symbol, Stack, Accepts, Fails, run, method_start, doit_start, after_keyword, after_bar, temporaries, body, home_scope}
+use Rattle.s80_syntax.specs.Word.{Names, greater, primitive_value, primitive_word}
 use Rattle.s80_syntax.specs.declared.fault.ParseFault.{ParseFault}
 use Rattle.s80_syntax.specs.declared.fault.ParseFault.TheVariants as fault
 use Rattle.s80_syntax.specs.Reads.{AreSlices, bytes_of}

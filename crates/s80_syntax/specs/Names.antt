@@ -6,10 +6,10 @@ use Rattle.s80_lex.specs.declared.token.TokenKind.TheVariants as kind
 use Rattle.s80_tree.specs.declared.name.NameAt.{NameAt}
 use Rattle.s80_tree.specs.declared.name.NamesAt.{NamesAt}
 use Rattle.s80_tree.specs.Name.{names_of}
-use Rattle.s80_grammar.specs.Lexeme.{lexemes}
-use Rattle.s80_grammar.specs.Grammar.{IsDeclared, IsTargets, AreParameters}
-use Rattle.s80_grammar.specs.Stack.{Symbol, Stack, run, assigns, expr_start, block_start, after_parameter}
-use Rattle.s80_grammar.specs.Word.{Names, names_in, is_reserved}
+use Rattle.s80_syntax.specs.Lexeme.{lexemes}
+use Rattle.s80_syntax.specs.Grammar.{IsDeclared, IsTargets, AreParameters}
+use Rattle.s80_syntax.specs.Stack.{Symbol, Stack, run, assigns, expr_start, block_start, after_parameter}
+use Rattle.s80_syntax.specs.Word.{Names, names_in, is_reserved}
 use Rattle.s80_syntax.specs.declared.fault.ParseFault.{ParseFault}
 use Rattle.s80_syntax.specs.Reads.{AreSlices, IsNotNext, FailsAs, Took, bytes_of}
 

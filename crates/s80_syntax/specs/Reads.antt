@@ -6,9 +6,9 @@ use Rattle.std.specs.Borrow.{Bor}
 use Rattle.s80_lex.specs.declared.token.Token.{Token}
 use Rattle.s80_lex.specs.declared.token.TokenKind.{TokenKind}
 use Rattle.s80_lex.specs.Text.{IsSlice}
-use Rattle.s80_grammar.specs.Lexeme.{Lexeme, Lexemes, lexemes, place}
-use Rattle.s80_grammar.specs.Faults.{Wrong, Unexpected, Nested, NotAssignable, fault_place}
-use Rattle.s80_grammar.specs.Stack.{Stack, Fails, run, level, assigns}
+use Rattle.s80_syntax.specs.Lexeme.{Lexeme, Lexemes, lexemes, place}
+use Rattle.s80_syntax.specs.Faults.{Wrong, Unexpected, Nested, NotAssignable, fault_place}
+use Rattle.s80_syntax.specs.Stack.{Stack, Fails, run, level, assigns}
 use Rattle.s80_syntax.specs.declared.fault.ParseFault.{ParseFault}
 use Rattle.s80_syntax.specs.declared.fault.ParseFault.TheVariants as fault
 

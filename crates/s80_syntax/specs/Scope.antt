@@ -1,6 +1,6 @@
 -- Which names may be assigned at a place.
 use Rattle.std.specs.Prelude.{ℕ, List, Bool, not, ◌&&◌, ◌||◌}
-use Rattle.s80_grammar.specs.Word.{is_reserved}
+use Rattle.s80_syntax.specs.Word.{is_reserved}
 use Rattle.s80_syntax.specs.NameSet.{has_word}
 use Rattle.s80_syntax.specs.declared.scope.Scope.{Scope}
 use Rattle.s80_syntax.specs.declared.scope.Scope.TheOpen.{Scope-F}

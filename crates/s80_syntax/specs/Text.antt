@@ -4,10 +4,10 @@ use Rattle.s80_lex.specs.declared.token.Token.{Token}
 use Rattle.s80_lex.specs.declared.fault.LexFault.TheVariants as lex
 use Rattle.s80_lex.specs.Text.{AreTokens, IsFirstFault}
 use Rattle.s80_tree.specs.Tree.{MethodParts, DoItParts}
-use Rattle.s80_grammar.specs.Lexeme.{Lexeme, Lexemes, lexemes}
-use Rattle.s80_grammar.specs.Grammar.{IsMethod, IsDoIt}
-use Rattle.s80_grammar.specs.Limits.{IsLawfulMethod, IsLawfulDoIt}
-use Rattle.s80_grammar.specs.Faults.{Wrong, Unexpected, Nested, NotAssignable, IsFault, fault_place}
+use Rattle.s80_syntax.specs.Lexeme.{Lexeme, Lexemes, lexemes}
+use Rattle.s80_syntax.specs.Grammar.{IsMethod, IsDoIt}
+use Rattle.s80_syntax.specs.Limits.{IsLawfulMethod, IsLawfulDoIt}
+use Rattle.s80_syntax.specs.Faults.{Wrong, Unexpected, Nested, NotAssignable, IsFault, fault_place}
 use Rattle.s80_syntax.specs.declared.fault.ParseFault.{ParseFault}
 use Rattle.s80_syntax.specs.declared.fault.ParseFault.TheVariants as fault
 

@@ -1,9 +1,9 @@
 // Expressions and statements, read by descent.
 ghost use Rattle.std.specs.Prelude.{◌≡◌, ◌<◌, ◌≤◌, ◌∷◌, [], length};
-ghost use Rattle.s80_grammar.specs.Grammar.{IsBody, IsCascade, IsChain, IsExpr, IsOperand, IsPrimary};
-ghost use Rattle.s80_grammar.specs.Limits.{block_assigns};
-ghost use Rattle.s80_grammar.specs.Stack.{primary as primary_symbol, expr_start, unary_tail, binary_tail, keyword_tail, cascade, message as message_symbol, close_paren, close_bracket, block_start, body as body_symbol};
-ghost use Rattle.s80_grammar.specs.Word.{names_in};
+ghost use Rattle.s80_syntax.specs.Grammar.{IsBody, IsCascade, IsChain, IsExpr, IsOperand, IsPrimary};
+ghost use Rattle.s80_syntax.specs.Limits.{block_assigns};
+ghost use Rattle.s80_syntax.specs.Stack.{primary as primary_symbol, expr_start, unary_tail, binary_tail, keyword_tail, cascade, message as message_symbol, close_paren, close_bracket, block_start, body as body_symbol};
+ghost use Rattle.s80_syntax.specs.Word.{names_in};
 ghost use Rattle.s80_lex.specs.Text.{IsSlice};
 ghost use Rattle.s80_lex.specs.declared.token.TokenKind.TheVariants as kind;
 ghost use Rattle.s80_syntax.specs.Expr.{AreBinary, IsAnyMessage, IsBinaryRest, IsBlockBody, IsBlockRest, IsKeywordMessage, IsParenRest, MessageNext};

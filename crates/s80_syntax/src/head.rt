@@ -1,8 +1,8 @@
 // What stands before a body: temporaries, and in a method a primitive.
 ghost use Rattle.std.specs.Prelude.{◌≡◌, ◌<◌, ◌∷◌, ◌++◌, [], Bool, IfOk, length};
-ghost use Rattle.s80_grammar.specs.Grammar.{AreOptionalTemporaries, IsHead};
-ghost use Rattle.s80_grammar.specs.Stack.{Stack, after_bar, after_pattern, optional_temporaries as optional_symbol, primitive_then, temporaries as temporaries_symbol};
-ghost use Rattle.s80_grammar.specs.Word.{Names, names_in, primitive_value};
+ghost use Rattle.s80_syntax.specs.Grammar.{AreOptionalTemporaries, IsHead};
+ghost use Rattle.s80_syntax.specs.Stack.{Stack, after_bar, after_pattern, optional_temporaries as optional_symbol, primitive_then, temporaries as temporaries_symbol};
+ghost use Rattle.s80_syntax.specs.Word.{Names, names_in, primitive_value};
 ghost use Rattle.s80_base.specs.Literal.{literal_of};
 ghost use Rattle.s80_syntax.specs.Method.{AreTemporariesRest, GoesTo, IsNumberNext, IsPrimitiveRest, home_body};
 ghost use Rattle.s80_syntax.specs.Reads.{AreSlices};

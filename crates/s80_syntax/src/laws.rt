@@ -1,6 +1,6 @@
 // What the contracts of the parser say together: each law is what its function ensures, for every text.
 ghost use Rattle.std.specs.Prelude.{◌≡◌, ◌≢◌, ℕ, List};
-ghost use Rattle.s80_grammar.specs.Faults.{IsDoItText, IsMethodText};
+ghost use Rattle.s80_syntax.specs.Faults.{IsDoItText, IsMethodText};
 ghost use Rattle.s80_syntax.specs.declared.fault.ParseFault.{ParseFault};
 ghost use Rattle.s80_syntax.specs.declared.fault.ParseFault.TheVariants.{Memory};
 ghost use Rattle.s80_syntax.specs.Text.{IsDoItOf, IsFaultOf, IsMethodOf};

@@ -1,8 +1,8 @@
 // Literals, and the arrays among them.
 ghost use Rattle.std.specs.Prelude.{◌≡◌, ℕ, ◌<◌, ◌≤◌, ◌∷◌, [], List, Bool, IfOk, length};
 ghost use Rattle.s80_base.specs.Literal.{array, literal_of, literals_of};
-ghost use Rattle.s80_grammar.specs.Grammar.{AreElements, IsLiteral, IsMark};
-ghost use Rattle.s80_grammar.specs.Stack.{primary, elements as elements_symbol, close_paren};
+ghost use Rattle.s80_syntax.specs.Grammar.{AreElements, IsLiteral, IsMark};
+ghost use Rattle.s80_syntax.specs.Stack.{primary, elements as elements_symbol, close_paren};
 ghost use Rattle.s80_lex.specs.declared.token.TokenKind.TheVariants as kind;
 ghost use Rattle.s80_syntax.specs.Literal.{AreJoinedNext, IsArrayRest, IsOther, IsNegativeNext, IsSimpleNext, KeywordNext, ParsesElement, opens_array};
 ghost use Rattle.s80_syntax.specs.Reads.{AreSlices, Parses, bytes_of};

@@ -1,9 +1,9 @@
 // Whole texts: methods and doIts.
 ghost use Rattle.std.specs.Prelude.{◌<◌, ◌∷◌, [], length};
-ghost use Rattle.s80_grammar.specs.Grammar.{IsBody};
-ghost use Rattle.s80_grammar.specs.Limits.{home_assigns};
-ghost use Rattle.s80_grammar.specs.Stack.{body as body_symbol};
-ghost use Rattle.s80_grammar.specs.Word.{names_in};
+ghost use Rattle.s80_syntax.specs.Grammar.{IsBody};
+ghost use Rattle.s80_syntax.specs.Limits.{home_assigns};
+ghost use Rattle.s80_syntax.specs.Stack.{body as body_symbol};
+ghost use Rattle.s80_syntax.specs.Word.{names_in};
 ghost use Rattle.s80_syntax.specs.Method.{MeansDoIt, MeansMethod};
 ghost use Rattle.s80_syntax.specs.Reads.{AreSlices, Parses};
 ghost use Rattle.s80_tree.specs.Tree.{body_of};

@@ -1,6 +1,6 @@
-// Names among which one is found at little cost, however many they are.
+// Sets of names.
 ghost use Rattle.std.specs.Prelude.{◌≡◌, IfOk};
-ghost use Rattle.s80_grammar.specs.Word.{has_name, names_in};
+ghost use Rattle.s80_syntax.specs.Word.{has_name, names_in};
 ghost use Rattle.s80_syntax.specs.NameSet.{has_word};
 
 use s80_base::OutOfMemory;
@@ -8,13 +8,14 @@ use s80_tree::NameAt;
 use std::alloc::Global;
 use std::collections::BTreeSet;
 
-/// The words of declared names.
+/// The words of declared names, among which one is found at little cost, however many they are.
 #[derive(Drop)]
-pub(crate) struct NameSet {
+pub struct NameSet {
     words: BTreeSet<Vec<u8>>,
 }
 
 impl NameSet {
+    /// The words of these names.
     pub fn of(alloc: Global, names: &[NameAt]) -> Result<Self, OutOfMemory>
         ensures { IfOk result (λ set. has_word set ≡ has_name (names_in names.now)) }
     {
@@ -25,6 +26,7 @@ impl NameSet {
         Ok(NameSet { words })
     }
 
+    /// Whether a word is one of them.
     pub fn contains(&self, word: &[u8]) -> bool
         ensures { result ≡ has_word self.now word.now }
     {

@@ -1,6 +1,6 @@
 // The trees of texts.
 ghost use Rattle.std.specs.Prelude.{◌≤◌, IfOk, IfErr, length};
-ghost use Rattle.s80_grammar.specs.Faults.{IsMethodText, IsDoItText};
+ghost use Rattle.s80_syntax.specs.Faults.{IsMethodText, IsDoItText};
 ghost use Rattle.s80_syntax.specs.Text.{IsDoItOf, IsFaultOf, IsMethodOf};
 ghost use Rattle.s80_tree.specs.Tree.{method_of, doit_of};
 

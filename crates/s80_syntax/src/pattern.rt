@@ -1,9 +1,9 @@
 // The pattern of a method: its selector and its parameters.
 ghost use Rattle.std.specs.Prelude.{◌≡◌, ◌<◌, ◌∷◌, [], length};
-ghost use Rattle.s80_grammar.specs.Grammar.{IsPattern};
-ghost use Rattle.s80_grammar.specs.Stack.{after_pattern, binary_parameter, method_start};
+ghost use Rattle.s80_syntax.specs.Grammar.{IsPattern};
+ghost use Rattle.s80_syntax.specs.Stack.{after_pattern, binary_parameter, method_start};
 ghost use Rattle.s80_lex.specs.Text.{IsSlice};
-ghost use Rattle.s80_grammar.specs.Word.{names_in};
+ghost use Rattle.s80_syntax.specs.Word.{names_in};
 ghost use Rattle.s80_syntax.specs.Literal.{KeywordNext};
 ghost use Rattle.s80_syntax.specs.Method.{GoesTo, IsBinaryPattern};
 ghost use Rattle.s80_syntax.specs.Reads.{AreSlices, bytes_of};

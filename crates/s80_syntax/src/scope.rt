@@ -1,6 +1,6 @@
 // Which names may be assigned at a place.
 ghost use Rattle.std.specs.Prelude.{◌≡◌};
-ghost use Rattle.s80_grammar.specs.Word.{is_reserved};
+ghost use Rattle.s80_syntax.specs.Word.{is_reserved};
 ghost use Rattle.s80_syntax.specs.NameSet.{has_word};
 ghost use Rattle.s80_syntax.specs.Scope.{assigns_at_home, assigns_in, assigns_in_block};
 
@@ -56,7 +56,7 @@ impl<'s> Scope<'s> {
 }
 
 /// Whether a word is reserved: no variable can be named so.
-#[tactic(auto, unfolding(s80_grammar::specs::Word::is_reserved))]
+#[tactic(auto, unfolding(crate::specs::Word::is_reserved))]
 pub fn is_reserved(word: &[u8]) -> bool
     ensures { result ≡ is_reserved word.now }
 {

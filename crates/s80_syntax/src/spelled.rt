@@ -1,7 +1,7 @@
 // What single tokens spell.
 ghost use Rattle.std.specs.Prelude.{◌≡◌, ◌<◌, ◌≤◌, ◌∷◌, [], IfOk, IfSome, MatchOption, drop, length, slice_index};
 ghost use Rattle.s80_base.specs.Literal.{literal_of};
-ghost use Rattle.s80_grammar.specs.Literals.{between_ends, name_literal, unquoted};
+ghost use Rattle.s80_syntax.specs.Literals.{between_ends, name_literal, unquoted};
 ghost use Rattle.s80_lex.specs.Text.{IsSlice};
 ghost use Rattle.s80_syntax.specs.Literal.{IsTokenLiteral};
 ghost use Rattle.s80_syntax.specs.Reads.{bytes_of};

@@ -1,7 +1,7 @@
 // Looking at the next token. The tokens that are left are a slice.
 ghost use Rattle.std.specs.Prelude.{◌≡◌, ◌<◌, ◌∷◌, [], MatchOption, IfOk, length};
-ghost use Rattle.s80_grammar.specs.Lexeme.{is_joined, joins, lexeme};
-ghost use Rattle.s80_grammar.specs.Word.{is_minus};
+ghost use Rattle.s80_syntax.specs.Lexeme.{is_joined, joins, lexeme};
+ghost use Rattle.s80_syntax.specs.Word.{is_minus};
 ghost use Rattle.s80_lex.specs.Text.{IsSlice};
 ghost use Rattle.s80_lex.specs.declared.token.Token.{Token};
 ghost use Rattle.s80_syntax.specs.Reads.{AreSlices, IsNotNext, IsNotSign, bytes_of, place_in};
@@ -93,7 +93,7 @@ fn joins(kind: TokenKind, next: TokenKind) -> bool
 }
 
 /// Whether a token is a minus that begins a number.
-#[tactic(auto, unfolding(s80_grammar::specs::Word::is_minus))]
+#[tactic(auto, unfolding(crate::specs::Word::is_minus))]
 pub(crate) fn is_minus(text: &[u8], token: Token, later: &[Token]) -> bool
     requires { IsSlice text.now token }
     ensures { result ≡ is_minus (lexeme text.now token later.now) }

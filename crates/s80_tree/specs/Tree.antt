@@ -1,5 +1,6 @@
 -- Trees without where they lie in memory.
-use Rattle.std.specs.Prelude.{ℕ, List, [], ◌∷◌, Bool}
+use Rattle.std.specs.Prelude.{ℕ, List, [], ◌∷◌, Bool, true, false, codes}
+use Rattle.std.specs.Str.{bytes_eq}
 use Rattle.s80_base.specs.Literal.{LiteralTree, literal_of}
 use Rattle.s80_tree.specs.Name.{names_of}
 use Rattle.s80_tree.specs.declared.name.NameAt.{NameAt}
@@ -103,6 +104,16 @@ messages_append (messages s es ms) more = messages s es (messages_append ms more
 abbrev pub body_append : BodyTree → BodyTree → BodyTree
 body_append no_stmts more = more
 body_append (stmts r e ss) more = stmts r e (body_append ss more)
+
+-- an expression that is its receiver, and nothing else
+abbrev pub is_bare : ExprTree → Bool
+is_bare (expr [] p no_messages no_messages) = true
+is_bare _ = false
+
+-- `super`, by its name
+abbrev pub is_super : PrimaryTree → Bool
+is_super (name n) = bytes_eq n.name (codes "super")
+is_super _ = false
 
 -- one layer of each type, with the trees of its parts
 abbrev pub primary_layer : Primary-F PrimaryTree BlockTree BodyTree ExprTree ExprTrees MessageTree MessageTrees StmtTree → PrimaryTree

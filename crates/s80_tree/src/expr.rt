@@ -2,7 +2,7 @@
 ghost use Rattle.std.specs.Prelude.{◌≡◌, ◌<◌, length, slice_get, Some, OnOk, OnErr};
 ghost use Rattle.s80_base.specs.Literal.{literal_of};
 ghost use Rattle.s80_tree.specs.Name.{names_of};
-ghost use Rattle.s80_tree.specs.Tree.{expr, name as name_tree, literal as literal_tree, block as block_tree, paren as paren_tree, no_exprs, exprs, no_messages, messages as message_trees, no_stmts, stmts, expr_of, primary_of, block_of, message_of, stmt_of, exprs_of, messages_of, body_of, exprs_list, messages_list, body_list, exprs_append, messages_append, body_append};
+ghost use Rattle.s80_tree.specs.Tree.{expr, name as name_tree, literal as literal_tree, block as block_tree, paren as paren_tree, no_exprs, exprs, no_messages, messages as message_trees, no_stmts, stmts, expr_of, primary_of, block_of, message_of, stmt_of, exprs_of, messages_of, body_of, exprs_list, messages_list, body_list, exprs_append, messages_append, body_append, is_bare, is_super};
 
 use crate::name::{NameAt, NamesAt};
 use s80_base::{Literal, OutOfMemory, Text};
@@ -85,6 +85,16 @@ impl Expr {
             cascades,
         }
     }
+
+    /// Whether it is its receiver, and nothing else.
+    #[tactic(auto, using(crate::proofs::lemmas::Opens::bare_is))]
+    pub fn is_bare(&self) -> bool
+        ensures { result ≡ is_bare (expr_of self.now) }
+    {
+        self.targets.items.is_empty()
+            && self.messages.items.is_empty()
+            && self.cascades.items.is_empty()
+    }
 }
 
 impl Primary {
@@ -110,6 +120,16 @@ impl Primary {
         ensures { primary_of result ≡ paren_tree (expr_of inner.value) }
     {
         Primary::Paren(inner)
+    }
+
+    /// Whether it is `super`, by its name.
+    pub fn is_super(&self) -> bool
+        ensures { result ≡ is_super (primary_of self.now) }
+    {
+        match self {
+            Primary::Name(name) => name.name.bytes() == b"super".as_slice(),
+            Primary::Literal(_) | Primary::Block(_) | Primary::Paren(_) => false,
+        }
     }
 }
 
@@ -150,7 +170,7 @@ impl Exprs {
     }
 
     /// Adds an expression at the end. When out of memory, the list is as before.
-    #[tactic(auto, using(crate::proofs::Lists::exprs_added))]
+    #[tactic(auto, using(crate::proofs::lemmas::Lists::exprs_added))]
     pub fn push(&mut self, expr: Expr) -> Result<(), OutOfMemory>
         ensures ok { OnOk result (exprs_of self.new ≡ exprs_append (exprs_of self.old) (exprs (expr_of expr) no_exprs)) }
         ensures err { OnErr result (exprs_of self.new ≡ exprs_of self.old) }
@@ -159,14 +179,14 @@ impl Exprs {
         Ok(())
     }
 
-    #[tactic(auto, using(crate::proofs::Lists::exprs_read))]
+    #[tactic(auto, using(crate::proofs::lemmas::Lists::exprs_read))]
     pub fn count(&self) -> usize
         ensures { result ≡ length (exprs_list (exprs_of self.now)) }
     {
         self.items.len()
     }
 
-    #[tactic(auto, using(crate::proofs::Lists::exprs_read))]
+    #[tactic(auto, using(crate::proofs::lemmas::Lists::exprs_read))]
     pub fn at(&self, i: usize) -> &Expr
         requires { i < length (exprs_list (exprs_of self.now)) }
         ensures { slice_get (exprs_list (exprs_of self.now)) i ≡ Some (expr_of result.now) }
@@ -185,7 +205,7 @@ impl Messages {
     }
 
     /// Adds a message at the end. When out of memory, the list is as before.
-    #[tactic(auto, using(crate::proofs::Lists::messages_added))]
+    #[tactic(auto, using(crate::proofs::lemmas::Lists::messages_added))]
     pub fn push(&mut self, message: Message) -> Result<(), OutOfMemory>
         ensures ok { OnOk result (messages_of self.new ≡ messages_append (messages_of self.old) (message_trees (message_of message).0 (message_of message).1 no_messages)) }
         ensures err { OnErr result (messages_of self.new ≡ messages_of self.old) }
@@ -194,14 +214,14 @@ impl Messages {
         Ok(())
     }
 
-    #[tactic(auto, using(crate::proofs::Lists::messages_read))]
+    #[tactic(auto, using(crate::proofs::lemmas::Lists::messages_read))]
     pub fn count(&self) -> usize
         ensures { result ≡ length (messages_list (messages_of self.now)) }
     {
         self.items.len()
     }
 
-    #[tactic(auto, using(crate::proofs::Lists::messages_read))]
+    #[tactic(auto, using(crate::proofs::lemmas::Lists::messages_read))]
     pub fn at(&self, i: usize) -> &Message
         requires { i < length (messages_list (messages_of self.now)) }
         ensures { slice_get (messages_list (messages_of self.now)) i ≡ Some (message_of result.now) }
@@ -220,7 +240,7 @@ impl Body {
     }
 
     /// Adds a statement at the end. When out of memory, the list is as before.
-    #[tactic(auto, using(crate::proofs::Lists::body_added))]
+    #[tactic(auto, using(crate::proofs::lemmas::Lists::body_added))]
     pub fn push(&mut self, stmt: Stmt) -> Result<(), OutOfMemory>
         ensures ok { OnOk result (body_of self.new ≡ body_append (body_of self.old) (stmts (stmt_of stmt).0 (stmt_of stmt).1 no_stmts)) }
         ensures err { OnErr result (body_of self.new ≡ body_of self.old) }
@@ -229,14 +249,14 @@ impl Body {
         Ok(())
     }
 
-    #[tactic(auto, using(crate::proofs::Lists::body_read))]
+    #[tactic(auto, using(crate::proofs::lemmas::Lists::body_read))]
     pub fn count(&self) -> usize
         ensures { result ≡ length (body_list (body_of self.now)) }
     {
         self.items.len()
     }
 
-    #[tactic(auto, using(crate::proofs::Lists::body_read))]
+    #[tactic(auto, using(crate::proofs::lemmas::Lists::body_read))]
     pub fn at(&self, i: usize) -> &Stmt
         requires { i < length (body_list (body_of self.now)) }
         ensures { slice_get (body_list (body_of self.now)) i ≡ Some (stmt_of result.now) }

@@ -6,15 +6,16 @@ use Rattle.s80_code.specs.declared.code.Entry.{Entry}
 use Rattle.s80_code.specs.declared.instruction.Instruction.{Instruction}
 use Rattle.s80_code.specs.declared.instruction.Instruction.TheVariants.{PushContext, SendSpecial, Jump}
 use Rattle.s80_code.specs.Entries.{EntryTree, owner, entry_of, entries_of}
+use Rattle.s80_code.specs.Special.{block_copy}
 use Rattle.s80_code.specs.Table.{Stands, decoded}
-use Rattle.s80_code.proofs.TableLemmas.{value}
+use Rattle.s80_code.proofs.lemmas.TableLemmas.{value}
 use Rattle.s80_verify.specs.Header.{BeforeOwner}
 use Rattle.s80_verify.specs.Operands.{HasOwner}
 use Rattle.s80_verify.specs.Reach.{IsPlace, Counts, Begins}
 use Rattle.s80_verify.specs.declared.operands.Beginning.{Beginning}
 use Rattle.s80_verify.specs.Found.{held, ArePlaces, CountsAt, JumpsLong, IsLongJump, IsBegun, IsBeginning}
-use Rattle.s80_verify.proofs.ListLemmas.{get_last}
-use Rattle.s80_verify.proofs.PlaceLemmas.{same_instruction, moved, place_behind, one_block, one_count}
+use Rattle.s80_verify.proofs.lemmas.ListLemmas.{get_last}
+use Rattle.s80_verify.proofs.lemmas.PlaceLemmas.{same_instruction, moved, place_behind, one_block, one_count}
 
 -- what stands before the 200 of a beginning is what the array says
 pub push_is : (code : Code) (before : List (Option ℕ)) (at arguments start : ℕ) → ArePlaces code.bytes before → (b : Begins code at arguments start) → held (slice_get before at) ≡ Some b.push
@@ -45,15 +46,15 @@ not_context code before at push context h e f none = λ arguments start b.
     let same : context ≡ b.context = value (sym f ∙ context_is code before at arguments start push h b e) in
     none (b.push, moved code.bytes b.context context PushContext b.push (sym same) b.is_context)
 
-pub no_copy : (code : Code) (at : ℕ) → ((next : ℕ) → Stands code.bytes at (SendSpecial 24) next → ⊥) → IsBeginning code at None
+pub no_copy : (code : Code) (at : ℕ) → ((next : ℕ) → Stands code.bytes at (SendSpecial block_copy) next → ⊥) → IsBeginning code at None
 no_copy code at none = λ arguments start b. none b.jump b.is_copy
 
 pub jumps_long : (code : Code) (at arguments start : ℕ) (b : Begins code at arguments start) → JumpsLong code.bytes b.jump start
 jumps_long code at arguments start b = record { byte = b.byte; distance = b.distance; begun = b.begun; low = b.low; high = b.high; is_jump = b.is_jump }
 
-pub no_start : (code : Code) (at jump : ℕ) → Stands code.bytes at (SendSpecial 24) jump → IsLongJump code.bytes jump None → IsBeginning code at None
+pub no_start : (code : Code) (at jump : ℕ) → Stands code.bytes at (SendSpecial block_copy) jump → IsLongJump code.bytes jump None → IsBeginning code at None
 no_start code at jump s none = λ arguments start b.
-    let same = (same_instruction code.bytes at (SendSpecial 24) (SendSpecial 24) b.jump jump b.is_copy s).place in
+    let same = (same_instruction code.bytes at (SendSpecial block_copy) (SendSpecial block_copy) b.jump jump b.is_copy s).place in
     none start (subst (λ (p : ℕ). JumpsLong code.bytes p start) same (jumps_long code at arguments start b))
 
 -- the place behind an instruction, of one that is known to end there
@@ -62,7 +63,7 @@ ends_there bytes at next end i j s t =
     subst (λ (q : ℕ). Stands bytes at i q) (same_instruction bytes at i j next end s t).place s
 
 pub begins_at : (code : Code) (before : List (Option ℕ)) (at push context jump start arguments : ℕ) → ArePlaces code.bytes before → held (slice_get before at) ≡ Some push → CountsAt code push arguments
-    → held (slice_get before push) ≡ Some context → (next : ℕ) × Stands code.bytes context PushContext next → Stands code.bytes at (SendSpecial 24) jump → JumpsLong code.bytes jump start
+    → held (slice_get before push) ≡ Some context → (next : ℕ) × Stands code.bytes context PushContext next → Stands code.bytes at (SendSpecial block_copy) jump → JumpsLong code.bytes jump start
     → IsBegun code at (record { push = push; arguments = arguments; jump = jump; start = start })
 begins_at code before at push context jump start arguments h e count f (next, is_context) copy long =
     let (placed, (i, s)) = h.sound at push e in

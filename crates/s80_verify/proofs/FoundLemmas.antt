@@ -4,7 +4,7 @@ use Rattle.std.specs.Prelude.{is_some, not, IfSome}
 use Rattle.s80_code.specs.declared.code.Code.{Code}
 use Rattle.s80_code.specs.declared.instruction.Instruction.{Instruction}
 use Rattle.s80_code.specs.Table.{Stands}
-use Rattle.s80_code.proofs.TableLemmas.{value}
+use Rattle.s80_code.proofs.lemmas.TableLemmas.{value}
 use Rattle.s80_verify.specs.declared.stack.Stack.{Stack}
 use Rattle.s80_verify.specs.declared.stack.Stack.TheVariants.{OfHome, OfBlock}
 use Rattle.s80_verify.specs.declared.point.Point.{Point}
@@ -15,7 +15,7 @@ use Rattle.s80_verify.specs.Reach.{Reached, Leads}
 use Rattle.s80_verify.specs.Fault.{room_of, taken}
 use Rattle.s80_verify.specs.Record.{Depths, Fits}
 use Rattle.s80_verify.specs.Found.{held, depth_in, depths_of, free, Sets, Clashes, IsKnown, point_at, IsSound, Grows, IsDone, AreDone, depths_in, IsStep, AreSteps}
-use Rattle.s80_verify.proofs.ListLemmas.{same_or_not, get_front, get_last, get_either, get_below, get_past, set_here, set_there, fewer_blanks, nothing_held}
+use Rattle.s80_verify.proofs.lemmas.ListLemmas.{same_or_not, get_front, get_last, get_either, get_below, get_past, set_here, set_there, fewer_blanks, nothing_held}
 
 pub stacks : (s t : Stack) → (s ≡ t) ⊎ (s ≢ t)
 stacks OfHome OfHome = inl refl

@@ -1,9 +1,5 @@
+pub mod lemmas
 pub mod BlockLemmas
 pub mod FoundLemmas
 pub mod HeaderLemmas
-pub mod JumpLemmas
-pub mod LawLemmas
-pub mod ListLemmas
-pub mod PlaceLemmas
 pub mod PlacesLemmas
-pub mod SelectorLemmas

@@ -3,12 +3,12 @@ use Rattle.std.proofs.Common.{◌≡◌, ◌≢◌, ◌∙◌, ap, sym, subst, r
 use Rattle.std.proofs.lemmas.Bool.{cases_lt}
 use Rattle.s80_code.specs.declared.instruction.Instruction.{Instruction}
 use Rattle.s80_code.specs.Table.{Stands, decoded}
-use Rattle.s80_code.proofs.TableLemmas.{value}
+use Rattle.s80_code.proofs.lemmas.TableLemmas.{value}
 use Rattle.s80_verify.specs.Reach.{IsPlaceAfter, IsPlace, IsInstruction}
 use Rattle.s80_verify.specs.Found.{held, ArePlaces, PlacesSoFar}
-use Rattle.s80_verify.proofs.PlaceLemmas.{same_instruction, goes_forward, Precedes, order, place_behind, one_before}
-use Rattle.s80_verify.proofs.LawLemmas.{none_stands}
-use Rattle.s80_verify.proofs.ListLemmas.{same_or_not, set_here, set_there, nothing_held, replicate_long, set_long}
+use Rattle.s80_verify.proofs.lemmas.PlaceLemmas.{same_instruction, goes_forward, Precedes, order, place_behind, one_before}
+use Rattle.s80_verify.proofs.lemmas.LawLemmas.{none_stands}
+use Rattle.s80_verify.proofs.lemmas.ListLemmas.{same_or_not, set_here, set_there, nothing_held, replicate_long, set_long}
 
 pub no_places : (bytes : List ℕ) → PlacesSoFar bytes (replicate 1024 None) 0
 no_places bytes =

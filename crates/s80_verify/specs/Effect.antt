@@ -1,18 +1,8 @@
 -- What each instruction takes from the stack and leaves on it, and where it goes on.
-use Rattle.std.specs.Prelude.{◌≡◌, ℕ, ◌+◌, ℤ, pos, ◌+ℤ◌, ◌⊎◌, List, [], ◌∷◌, get_or, Bool, true, false, Option, Some, None}
+use Rattle.std.specs.Prelude.{◌≡◌, ℕ, ◌+◌, ℤ, pos, ◌+ℤ◌, ◌⊎◌, get_or, Bool, true, false, Option, Some, None}
 use Rattle.s80_code.specs.declared.instruction.Instruction.{Instruction}
 use Rattle.s80_code.specs.declared.instruction.Instruction.TheVariants.{Push, Store, PopInto, PushFixed, ReturnFixed, ReturnTop, ReturnFromBlock, Send, SendSuper, SendSpecial, Pop, Duplicate, PushContext, Jump, JumpOnTrue, JumpOnFalse}
-
--- the arguments of the 32 messages that have bytes of their own:
--- + - < > <= >= = ~=, * / \\ @ bitShift: // bitAnd: bitOr:,
--- at: at:put: size next nextPut: atEnd == class, blockCopy: value value: do: new new: x y
-abbrev pub special_arguments : List ℕ
-special_arguments =
-    1 ∷ 1 ∷ 1 ∷ 1 ∷ 1 ∷ 1 ∷ 1 ∷ 1
-    ∷ 1 ∷ 1 ∷ 1 ∷ 1 ∷ 1 ∷ 1 ∷ 1 ∷ 1
-    ∷ 1 ∷ 2 ∷ 0 ∷ 0 ∷ 1 ∷ 0 ∷ 1 ∷ 0
-    ∷ 1 ∷ 0 ∷ 1 ∷ 1 ∷ 0 ∷ 1 ∷ 0 ∷ 0
-    ∷ []
+use Rattle.s80_code.specs.Special.{special_arguments}
 
 -- how many values it takes; a message takes its receiver and its arguments
 abbrev pub takes : Instruction → ℕ

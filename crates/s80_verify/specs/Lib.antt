@@ -5,4 +5,3 @@ pub mod Header
 pub mod Operands
 pub mod Reach
 pub mod Record
-pub mod Selector

@@ -8,11 +8,12 @@ use Rattle.s80_code.specs.declared.instruction.Storage.TheVariants.{Receiver, Te
 use Rattle.s80_code.specs.declared.instruction.Instruction.{Instruction}
 use Rattle.s80_code.specs.declared.instruction.Instruction.TheVariants.{Push, Store, PopInto, ReturnFromBlock, Send, SendSuper, SendSpecial}
 use Rattle.s80_code.specs.Entries.{EntryTree, constant, class_variable, outer, owner, entries_of}
+use Rattle.s80_code.specs.Special.{block_copy}
 use Rattle.s80_verify.specs.declared.stack.Stack.{Stack}
 use Rattle.s80_verify.specs.declared.stack.Stack.TheVariants.{OfBlock}
 use Rattle.s80_verify.specs.Effect.{Jumps}
 use Rattle.s80_verify.specs.Reach.{Begins, IsReached}
-use Rattle.s80_verify.specs.Selector.{IsSelectorOf}
+use Rattle.s80_lex.specs.Selector.{IsSelectorOf}
 
 abbrev pub HasConstant : Code → ℕ → Type 0
 HasConstant code number = (value : LiteralTree) × (slice_get (entries_of code.literals) number ≡ Some (constant value))
@@ -56,7 +57,7 @@ Suits code at stack (Store storage) = IsWritable code storage
 Suits code at stack (PopInto storage) = IsWritable code storage
 Suits code at stack (Send arguments selector) = Sends code arguments selector
 Suits code at stack (SendSuper arguments selector) = Sends code arguments selector × HasOwner code
-Suits code at stack (SendSpecial number) = number ≡ 24 → (arguments start : ℕ) × Begins code at arguments start
+Suits code at stack (SendSpecial number) = number ≡ block_copy → (arguments start : ℕ) × Begins code at arguments start
 Suits code at stack ReturnFromBlock = stack ≡ OfBlock
 Suits code at stack _ = Unit {0}
 

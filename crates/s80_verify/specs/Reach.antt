@@ -6,6 +6,7 @@ use Rattle.s80_code.specs.declared.instruction.Storage.TheVariants.{Constant}
 use Rattle.s80_code.specs.declared.instruction.Instruction.{Instruction}
 use Rattle.s80_code.specs.declared.instruction.Instruction.TheVariants.{Push, PushFixed, PushContext, SendSpecial, Jump}
 use Rattle.s80_code.specs.Entries.{constant, entries_of}
+use Rattle.s80_code.specs.Special.{block_copy}
 use Rattle.s80_code.specs.Table.{Stands}
 use Rattle.s80_verify.specs.declared.stack.Stack.{Stack}
 use Rattle.s80_verify.specs.declared.stack.Stack.TheVariants.{OfHome, OfBlock}
@@ -42,7 +43,7 @@ pub record Begins (code : Code) (at arguments start : ℕ) : Type 0 where
   pub is_context : Stands code.bytes context PushContext push
   pub is_count : Stands code.bytes push count at
   pub counted : Counts code count arguments
-  pub is_copy : Stands code.bytes at (SendSpecial 24) jump
+  pub is_copy : Stands code.bytes at (SendSpecial block_copy) jump
   pub is_jump : Stands code.bytes jump (Jump distance) start
   pub begun : slice_get code.bytes jump ≡ Some byte
   pub low : 164 ≤ byte

@@ -1,24 +1,8 @@
 // What each instruction does to the stack, and where it goes on.
-ghost use Rattle.std.specs.Prelude.{◌≡◌, ◌<◌, get_or};
-ghost use Rattle.s80_verify.specs.Effect.{special_arguments, takes, leaves, goes_on, distance_of};
+ghost use Rattle.std.specs.Prelude.{◌≡◌, ◌<◌};
+ghost use Rattle.s80_verify.specs.Effect.{takes, leaves, goes_on, distance_of};
 
-use s80_code::Instruction;
-
-/// The arguments of the 32 messages that have bytes of their own.
-const SPECIAL_ARGUMENTS: [u8; 32] = [
-    1, 1, 1, 1, 1, 1, 1, 1, 1, 1, 1, 1, 1, 1, 1, 1, 1, 2, 0, 0, 1, 0, 1, 0, 1, 0, 1, 1, 0, 1, 0, 0,
-];
-
-fn special_arguments(number: u8) -> u8
-    ensures { result ≡ get_or special_arguments number 0 }
-{
-    let number = usize::from(number);
-    if number < SPECIAL_ARGUMENTS.len() {
-        SPECIAL_ARGUMENTS[number]
-    } else {
-        0
-    }
-}
+use s80_code::{Instruction, special_arguments};
 
 /// How many values an instruction takes from the stack.
 pub(crate) fn takes(instruction: Instruction) -> u32

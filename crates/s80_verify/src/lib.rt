@@ -9,12 +9,10 @@ mod operands;
 mod places;
 mod point;
 mod search;
-mod selector;
 mod stack;
 mod verified;
 
 pub use fault::{VerifyFault, VerifyKind};
 pub use laws::{depths_verify, one_depth, steps_are_reached, what_is_reached_fits};
-pub use selector::parameters_of;
 pub use stack::Stack;
 pub use verified::{Verified, verify};

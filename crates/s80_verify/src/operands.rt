@@ -2,18 +2,19 @@
 ghost use Rattle.std.specs.Prelude.{◌≡◌, ℕ, ◌<◌, ◌↔◌, IsTrue, Some, option_map, length, slice_get};
 ghost use Rattle.s80_code.specs.Entries.{entry_of, entries_of};
 ghost use Rattle.s80_verify.specs.Found.{ArePlaces, CountsAt, IsBeginning, IsLongJump};
+ghost use Rattle.s80_code.specs.Special.{block_copy};
 ghost use Rattle.s80_code.specs.Table.{Stands};
 ghost use Rattle.s80_verify.specs.Operands.{HasVariable, IsReadable, IsWritable, Sends, HasOwner, Suits};
 ghost use Rattle.s80_verify.specs.Reach.{Begins, Counts};
-ghost use Rattle.s80_verify.specs.Selector.{IsSelectorOf};
+ghost use Rattle.s80_lex.specs.Selector.{IsSelectorOf};
 ghost use Rattle.s80_code.specs.declared.instruction.Instruction.TheVariants.{PushContext, SendSpecial};
 
 use crate::header::before_owner;
 use crate::places::Places;
-use crate::selector::parameters_of;
 use crate::stack::Stack;
 use s80_base::{Literal, Text};
-use s80_code::{Code, Entry, Instruction, Storage, decode};
+use s80_code::{BLOCK_COPY, Code, Entry, Instruction, Storage, decode};
+use s80_lex::parameters_of;
 
 /// The beginning of a real block, by its 200.
 #[derive(Clone, Copy, Drop)]
@@ -128,10 +129,10 @@ fn is_context(code: &Code, at: u32) -> bool
 /// The place behind a 200.
 fn behind_copy(code: &Code, at: u32) -> Option<u32>
     requires { length code.now.bytes < 1024 }
-    ensures { (next : ℕ) → result ≡ Some next ↔ Stands code.now.bytes at (SendSpecial 24) next }
+    ensures { (next : ℕ) → result ≡ Some next ↔ Stands code.now.bytes at (SendSpecial block_copy) next }
 {
     match decode(code, at) {
-        Some((Instruction::SendSpecial(24), width)) => Some(at + width),
+        Some((Instruction::SendSpecial(BLOCK_COPY), width)) => Some(at + width),
         _ => None,
     }
 }
@@ -217,7 +218,7 @@ pub(crate) fn suits(
             arguments,
             selector,
         } => sends(code, arguments, selector) && has_owner(code),
-        Instruction::SendSpecial(24) => begins_block(code, places, at),
+        Instruction::SendSpecial(BLOCK_COPY) => begins_block(code, places, at),
         Instruction::ReturnFromBlock => stack == Stack::OfBlock,
         _ => true,
     }

@@ -9,7 +9,7 @@ ghost use Rattle.std.specs.Process.{exit_status};
 ghost use Rattle.s80_program.specs.Ending.{number_of};
 
 pub use real::RealOutside;
-use s80_program::{Status, st80};
+pub use s80_program::{Status, st80};
 use std::env;
 use std::process::ExitCode;
 use words::words_of;

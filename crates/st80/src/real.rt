@@ -153,6 +153,21 @@ impl<R: Files<File = File> + AllocGlobal + Input + Print + SystemClock + Drop> D
 
 impl<R: Files<File = File> + AllocGlobal + Input + Print + SystemClock + Drop> Outside
     for RealOutside<R> {
+    ghost shown = { λ o. record {
+      tells = Self.tells o;
+      files = Self.reads o;
+      left = Self.left o;
+      taken = Self.taken o;
+      told = Self.told o;
+      seconds = Self.seconds o;
+    } };
+
+    ghost shown_is = { λ o. refl };
+
+    ghost faults = { λ o. record { read = Self.read_faults o; write = Self.write_faults o; disk = Self.disk_faults o } };
+
+    ghost faults_is = { λ o. refl };
+
     ghost beside_is = { λ o. refl };
 
     ghost take_keeps_files = { λ o p h. files_untold (λ x. faults_of_real x.disk) (λ x. Self.beside x) o p (ap faults_of_real h.0) };

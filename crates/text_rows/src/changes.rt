@@ -300,7 +300,7 @@ fn refusals(alloc: Global) -> Result<Text> {
     }
     let name = Text::from_bytes(alloc, b"A")?;
     add_refusal(alloc, &mut out, &Refusal::HasSubclasses(name))?;
-    add_refusal(alloc, &mut out, &Refusal::LogFull(1_073_741_820))?;
+    add_refusal(alloc, &mut out, &Refusal::LogFull(68_719_476_732))?;
     Ok(out)
 }
 

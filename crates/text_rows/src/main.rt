@@ -1,8 +1,9 @@
 //! Reads rows from standard input and prints behind each what the public calls answer to it: texts, their tokens, trees and core trees,
-//! changes, and the tables of classes and methods. What it is given and what it prints are tables of the repository's tests.
+//! changes, the tables of classes and methods, and look-ups. What it is given and what it prints are tables of the repository's tests.
 #![tactic(auto)]
 
 mod changes;
+mod lookups;
 mod tables;
 mod texts;
 
@@ -17,6 +18,9 @@ fn answer(alloc: Global, word: &str, rest: &str) -> Result<Text> {
         return Ok(lines);
     }
     if let Some(lines) = changes::row(alloc, word, rest)? {
+        return Ok(lines);
+    }
+    if let Some(lines) = lookups::row(alloc, word, rest)? {
         return Ok(lines);
     }
     match tables::row(alloc, word, rest)? {

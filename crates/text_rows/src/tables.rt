@@ -19,7 +19,7 @@ pub(crate) fn row(alloc: Global, word: &str, rest: &str) -> Result<Option<Text>>
 }
 
 /// The words of a step.
-fn step_words<'a>(alloc: Global, step: &'a str) -> Result<Vec<&'a str>> {
+pub(crate) fn step_words<'a>(alloc: Global, step: &'a str) -> Result<Vec<&'a str>> {
     let mut list = Vec::new(alloc);
     for word in step.split(' ') {
         list.push(word)?;
@@ -113,7 +113,7 @@ fn code_line(alloc: Global, entry: Option<&MethodEntry<u64>>) -> Result<String> 
     }
 }
 
-fn method_entry(alloc: Global, code: u64, category: &str) -> Result<MethodEntry<u64>> {
+pub(crate) fn method_entry(alloc: Global, code: u64, category: &str) -> Result<MethodEntry<u64>> {
     Ok(MethodEntry {
         category: Text::from_bytes(alloc, category.as_bytes())?,
         source: Text::from_bytes(alloc, b"yes")?,
@@ -125,7 +125,7 @@ fn method_entry(alloc: Global, code: u64, category: &str) -> Result<MethodEntry<
 }
 
 /// Makes room for a method, puts it, and says what was there.
-fn put(
+pub(crate) fn put(
     alloc: Global,
     table: &mut MethodTable<u64>,
     number: u32,
@@ -134,6 +134,7 @@ fn put(
     entry: MethodEntry<u64>,
 ) -> Result<String>
     requires { number < length table.old.sides }
+    ensures { length table.new.sides ≡ length table.old.sides }
 {
     table.make_room(number, side, selector.copy(alloc)?)?;
     let before = table.insert(number, side, selector, entry);
@@ -209,7 +210,7 @@ fn kind_named(name: &str) -> Result<Kind> {
 }
 
 /// A kind, and how many instance variables and class-side variables.
-fn own_totals(kind: &str, variables: &[&str]) -> Result<Totals> {
+pub(crate) fn own_totals(kind: &str, variables: &[&str]) -> Result<Totals> {
     let [inst_vars, class_side_vars] = variables else {
         bail!("two counts are wanted");
     };
@@ -237,7 +238,11 @@ fn numbers_line(alloc: Global, numbers: &[u32]) -> Result<String> {
     Ok(String::from_str(alloc, std::str::from_utf8(out.bytes())?)?)
 }
 
-fn find(alloc: Global, table: &ClassTable, name: &[u8]) -> Result<Option<u32>, OutOfMemory>
+pub(crate) fn find(
+    alloc: Global,
+    table: &ClassTable,
+    name: &[u8],
+) -> Result<Option<u32>, OutOfMemory>
     ensures { IfOk result (λ found. IfSome found (λ c. IsNumberOf table.now.names c name.now)) }
 {
     Ok(table.find(&Text::from_bytes(alloc, name)?))
@@ -263,7 +268,7 @@ fn variables(alloc: Global, count: usize) -> Result<Names, OutOfMemory> {
     Ok(names)
 }
 
-fn class_entry(
+pub(crate) fn class_entry(
     alloc: Global,
     name: Text,
     superclass: Option<u32>,

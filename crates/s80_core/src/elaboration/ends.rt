@@ -2,7 +2,6 @@
 ghost use Rattle.std.specs.Prelude.{◌≡◌, IfOk, map};
 ghost use Rattle.s80_tree.specs.Tree.{expr_of, primary_of};
 ghost use Rattle.s80_scope.specs.FitWeight.{short_returns};
-ghost use Rattle.s80_scope.specs.Inlined.{is_bare};
 ghost use Rattle.s80_core.specs.Core.{core_of};
 ghost use Rattle.s80_core.specs.Elaborate.{empty_body, fixed_primary, fixed_return, last_statement, place_in, statement};
 ghost use Rattle.s80_core.specs.Walk.{joined};
@@ -70,7 +69,7 @@ pub(super) fn empty_body(alloc: Global, within: Enclosing) -> Result<Core, OutOf
 fn fixed_return(expr: &Expr) -> Option<u8>
     ensures { result ≡ fixed_return (expr_of expr.now) }
 {
-    if !is_bare(expr) {
+    if !expr.is_bare() {
         return None;
     }
     fixed_primary(&expr.receiver)
@@ -99,20 +98,6 @@ fn fixed_word(word: &[u8]) -> Option<u8>
     } else {
         None
     }
-}
-
-/// Whether an expression is its receiver, and nothing else.
-#[tactic(auto, using(s80_scope::proofs::Opens::bare_is))]
-fn is_bare(expr: &Expr) -> bool
-    ensures { result ≡ is_bare (expr_of expr.now) }
-{
-    if !expr.targets.items.is_empty() {
-        return false;
-    }
-    if !expr.messages.items.is_empty() {
-        return false;
-    }
-    expr.cascades.items.is_empty()
 }
 
 /// Trees for their effect alone, and then the last.

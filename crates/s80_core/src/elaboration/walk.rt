@@ -3,7 +3,7 @@ ghost use Rattle.std.specs.Prelude.{◌≡◌, ◌+◌, IfOk, OnOk, Bool, List, 
 ghost use Rattle.s80_tree.specs.Tree.{block as block_tree, block_of, body_of, expr_of, exprs_of, message_of, messages_of, primary_of};
 ghost use Rattle.s80_tree.specs.declared.expr.Expr.{out-Expr};
 ghost use Rattle.s80_scope.specs.FitStack.{body_parameters, expr_parameters, exprs_parameters, messages_parameters, primary_parameters};
-ghost use Rattle.s80_scope.specs.Inlined.{are_arms, expr_ending, is_arm, is_inlined, is_loop, is_plain_block, is_super};
+ghost use Rattle.s80_scope.specs.Inlined.{are_arms, expr_ending, is_arm, is_inlined, is_plain_block};
 ghost use Rattle.s80_scope.specs.Names.{body_uses, expr_uses, exprs_uses, messages_uses, primary_uses};
 ghost use Rattle.s80_scope.specs.Walk.{last_has_arms};
 ghost use Rattle.s80_core.specs.Core.{SendTrees, core_of, cores_of, sends_of};
@@ -12,7 +12,7 @@ ghost use Rattle.s80_core.specs.Walk.{IsHome, IsPart, arguments_core, ended, mea
 
 use super::ends::{empty_body, joined, last_statement, statement};
 use super::names::{assigned, leaf};
-use super::{Enclosing, Home, copies};
+use super::{Enclosing, Home};
 use crate::core_tree::{Core, CoreMessage, CoreMessages, Cores, Leaf};
 use s80_base::{OutOfMemory, Text};
 use s80_scope::{Ending, ending_of};
@@ -34,8 +34,8 @@ fn expr(home: &Home, number: &mut u8, expr: &Expr) -> Result<Core, OutOfMemory>
     ensures number { OnOk result (number.new ≡ number.old + expr_parameters (expr_of expr.now)) }
 {
     let ending = ending_of(expr);
-    let to_super = is_super(&expr.receiver);
-    let first = receiver(home, number, is_loop(ending), &expr.receiver)?;
+    let to_super = expr.receiver.is_super();
+    let first = receiver(home, number, ending.is_loop(), &expr.receiver)?;
     let chain = messages(home, number, &expr.messages, ending, first, to_super)?;
     let more = sends(home, number, &expr.cascades)?;
     let made = finished(home.alloc, chain, ending, more)?;
@@ -59,7 +59,7 @@ fn receiver(
     match primary {
         Primary::Name(name) => Ok(Core::leaf(leaf(home, name)?)),
         Primary::Literal(literal) => {
-            let copy = copies::literal(home.alloc, literal)?;
+            let copy = literal.copy(home.alloc)?;
             Ok(Core::leaf(Leaf::Constant(copy)))
         }
         Primary::Paren(inner) => {
@@ -137,7 +137,7 @@ fn last_arguments(
     ensures cores { IfOk result (λ cores. cores_of cores ≡ arguments_core (meaning_in home.now) ending number.old (exprs_of arguments.now)) }
     ensures number { OnOk result (number.new ≡ number.old + exprs_parameters (exprs_of arguments.now)) }
 {
-    if is_inlined(ending) {
+    if ending.is_inlined() {
         arms(home, number, arguments)
     } else {
         exprs(home, number, arguments)
@@ -283,27 +283,5 @@ fn control(
         Ending::Shortcut(on) => Ok(Core::shortcut(on, condition, first)),
         Ending::Loop(on) => Ok(Core::repeat(on, condition, first)),
         Ending::Sent | Ending::Cascaded => unreachable!(),
-    }
-}
-
-fn is_inlined(ending: Ending) -> bool
-    ensures { result ≡ is_inlined ending }
-{
-    !matches!(ending, Ending::Sent | Ending::Cascaded)
-}
-
-fn is_loop(ending: Ending) -> bool
-    ensures { result ≡ is_loop ending }
-{
-    matches!(ending, Ending::Loop(_))
-}
-
-/// `super`, by its name.
-fn is_super(primary: &Primary) -> bool
-    ensures { result ≡ is_super (primary_of primary.now) }
-{
-    match primary {
-        Primary::Name(name) => name.name.bytes() == b"super".as_slice(),
-        Primary::Literal(_) | Primary::Block(_) | Primary::Paren(_) => false,
     }
 }

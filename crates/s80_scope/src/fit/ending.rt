@@ -2,7 +2,7 @@
 ghost use Rattle.std.specs.Prelude.{◌≡◌, map};
 ghost use Rattle.s80_tree.specs.Tree.{expr_of, exprs_of, message_of, messages_from, primary_of};
 ghost use Rattle.s80_scope.specs.FitStack.{values_below};
-ghost use Rattle.s80_scope.specs.Inlined.{are_arms, branch, cascade_to_super, chain_ending, expr_ending, is_arm, is_bare, is_inlined, is_loop, is_plain_block, is_super, loop_or_branch, message_ending};
+ghost use Rattle.s80_scope.specs.Inlined.{are_arms, branch, cascade_to_super, chain_ending, expr_ending, is_arm, is_inlined, is_loop, is_plain_block, loop_or_branch, message_ending};
 
 use s80_tree::{Expr, Exprs, Message, Primary};
 
@@ -24,13 +24,14 @@ pub enum Ending {
 }
 
 impl Ending {
-    pub(crate) fn is_inlined(self) -> bool
+    /// Whether its last message is compiled to jumps.
+    pub fn is_inlined(self) -> bool
         ensures { result ≡ is_inlined self }
     {
         !matches!(self, Ending::Sent | Ending::Cascaded)
     }
 
-    pub(crate) fn is_loop(self) -> bool
+    pub fn is_loop(self) -> bool
         ensures { result ≡ is_loop self }
     {
         matches!(self, Ending::Loop(_))
@@ -48,7 +49,7 @@ impl Ending {
 }
 
 /// How an expression ends (Blue Book). Arms are literal blocks without parameters, written without parentheses.
-#[tactic(auto, using(crate::proofs::Opens::ending_is))]
+#[tactic(auto, using(crate::proofs::lemmas::Opens::ending_is))]
 pub fn ending_of(expr: &Expr) -> Ending
     ensures { result ≡ expr_ending (expr_of expr.now) }
 {
@@ -57,7 +58,7 @@ pub fn ending_of(expr: &Expr) -> Ending
     }
     let receiver = &expr.receiver;
     chain_ending(
-        is_super(receiver),
+        receiver.is_super(),
         is_plain_block(receiver),
         &expr.messages.items,
     )
@@ -135,29 +136,15 @@ fn are_arms(arguments: &Exprs) -> bool
 fn is_arm(expr: &Expr) -> bool
     ensures { result ≡ is_arm (expr_of expr.now) }
 {
-    is_bare(expr) && is_plain_block(&expr.receiver)
-}
-
-/// Whether an expression is its receiver, and nothing else.
-#[tactic(auto, using(crate::proofs::Opens::bare_is))]
-pub(crate) fn is_bare(expr: &Expr) -> bool
-    ensures { result ≡ is_bare (expr_of expr.now) }
-{
-    if !expr.targets.items.is_empty() {
-        return false;
-    }
-    if !expr.messages.items.is_empty() {
-        return false;
-    }
-    expr.cascades.items.is_empty()
+    expr.is_bare() && is_plain_block(&expr.receiver)
 }
 
 /// Whether the messages of a cascade are sent to super, as the only message before them is.
-#[tactic(auto, using(crate::proofs::Opens::single_is))]
+#[tactic(auto, using(crate::proofs::lemmas::Opens::single_is))]
 pub(crate) fn cascade_to_super(expr: &Expr) -> bool
     ensures { result ≡ cascade_to_super (expr_of expr.now) }
 {
-    if !is_super(&expr.receiver) {
+    if !expr.receiver.is_super() {
         return false;
     }
     expr.messages.items.len() == 1
@@ -169,14 +156,5 @@ fn is_plain_block(primary: &Primary) -> bool
     match primary {
         Primary::Block(block) => block.parameters.items.is_empty(),
         Primary::Name(_) | Primary::Literal(_) | Primary::Paren(_) => false,
-    }
-}
-
-pub(crate) fn is_super(primary: &Primary) -> bool
-    ensures { result ≡ is_super (primary_of primary.now) }
-{
-    match primary {
-        Primary::Name(name) => name.name.bytes() == b"super".as_slice(),
-        Primary::Literal(_) | Primary::Block(_) | Primary::Paren(_) => false,
     }
 }

@@ -2,14 +2,14 @@
 ghost use Rattle.std.specs.Prelude.{◌≡◌, ◌<◌, ◌^◌, OnOk, pos};
 ghost use Rattle.std.specs.FinSet as set;
 ghost use Rattle.s80_base.specs.Literal.{literal_of, small};
-ghost use Rattle.s80_grammar.specs.Word.{has_name};
-ghost use Rattle.s80_scope.specs.FitLiterals.{arithmetic_selectors, common_selectors, constant_entries, is_special, name_entries, selector_entries};
+ghost use Rattle.s80_scope.specs.FitLiterals.{constant_entries, is_special, name_entries, selector_entries};
 ghost use Rattle.s80_scope.specs.Scope.{declared_in};
 ghost use Rattle.s80_scope.specs.Walk.{with_entries};
 
 use crate::fit::key::{constant_key, count_key, selector_key, variable_key};
 use crate::fit::scope::Scope;
 use s80_base::{Literal, OutOfMemory};
+use s80_code::special_number;
 use s80_syntax::is_reserved;
 use std::alloc::Global;
 use std::collections::BTreeSet;
@@ -24,7 +24,7 @@ pub(crate) struct Entries {
 impl Model for Entries {
     ghost use Rattle.std.specs.Coded.{coded_list, coded_ℕ};
     ghost use Rattle.std.specs.FinSet as set;
-    ghost use Rattle.s80_grammar.specs.Word.{has_name};
+    ghost use Rattle.s80_syntax.specs.Word.{has_name};
     ghost use Rattle.s80_scope.specs.FitLiterals.{Keys};
     ghost use Rattle.s80_scope.specs.Key.{IsCounted, keys_of};
 
@@ -107,51 +107,10 @@ impl Entries {
     }
 }
 
-/// Whether the send of a selector has a byte of its own. `blockCopy:` has one, which begins a block.
+/// Whether the send of a selector has a byte of its own.
 #[tactic(auto, unfolding(crate::specs::FitLiterals::is_special))]
 fn is_special(selector: &[u8]) -> bool
     ensures { result ≡ is_special selector.now }
 {
-    is_arithmetic(selector) || is_common(selector)
-}
-
-fn is_arithmetic(selector: &[u8]) -> bool
-    ensures { result ≡ has_name arithmetic_selectors selector.now }
-{
-    selector == b"+".as_slice()
-        || selector == b"-".as_slice()
-        || selector == b"<".as_slice()
-        || selector == b">".as_slice()
-        || selector == b"<=".as_slice()
-        || selector == b">=".as_slice()
-        || selector == b"=".as_slice()
-        || selector == b"~=".as_slice()
-        || selector == b"*".as_slice()
-        || selector == b"/".as_slice()
-        || selector == b"\\\\".as_slice()
-        || selector == b"@".as_slice()
-        || selector == b"bitShift:".as_slice()
-        || selector == b"//".as_slice()
-        || selector == b"bitAnd:".as_slice()
-        || selector == b"bitOr:".as_slice()
-}
-
-fn is_common(selector: &[u8]) -> bool
-    ensures { result ≡ has_name common_selectors selector.now }
-{
-    selector == b"at:".as_slice()
-        || selector == b"at:put:".as_slice()
-        || selector == b"size".as_slice()
-        || selector == b"next".as_slice()
-        || selector == b"nextPut:".as_slice()
-        || selector == b"atEnd".as_slice()
-        || selector == b"==".as_slice()
-        || selector == b"class".as_slice()
-        || selector == b"value".as_slice()
-        || selector == b"value:".as_slice()
-        || selector == b"do:".as_slice()
-        || selector == b"new".as_slice()
-        || selector == b"new:".as_slice()
-        || selector == b"x".as_slice()
-        || selector == b"y".as_slice()
+    special_number(selector).is_some()
 }

@@ -1,7 +1,7 @@
 // Entries as keys: lists of numbers, which can be put in order.
 ghost use Rattle.std.specs.Prelude.{◌≡◌, ◌<◌, ◌^◌, ◌∷◌, ◌++◌, IfOk, OnOk, [], pos};
-ghost use Rattle.s80_base.specs.Literal.{literal_of, literals_of, small, symbol};
-ghost use Rattle.s80_scope.specs.FitLiterals.{constant, ended, key as key_of, kind_number, label, literal_key, literals_key, variable};
+ghost use Rattle.s80_base.specs.Literal.{kind_number, literal_of, literals_of, small, symbol};
+ghost use Rattle.s80_scope.specs.FitLiterals.{constant, ended, key as key_of, label, literal_key, literals_key, variable};
 
 use s80_base::{Literal, Literals, NumberKind, OutOfMemory};
 use std::alloc::Global;

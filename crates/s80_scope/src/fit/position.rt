@@ -1,13 +1,13 @@
 // Where an expression or a body stands.
 ghost use Rattle.std.specs.Prelude.{◌≡◌, nat_eq, if◌then◌else◌};
-ghost use Rattle.s80_grammar.specs.Word.{has_name};
+ghost use Rattle.s80_syntax.specs.Word.{has_name};
 ghost use Rattle.s80_tree.specs.Name.{names_of};
 ghost use Rattle.s80_tree.specs.Tree.{expr_of, primary_of};
 ghost use Rattle.s80_scope.specs.FitWeight.{arm_leaves, arm_position, dropped, empty_weight, is_short, is_short_name, method_leaves, own_weight, position_within, short_returns, statement_position, statement_weight};
 ghost use Rattle.s80_scope.specs.Walk.{cut};
 ghost use Rattle.s80_scope.specs.declared.fit.position.Leaves.TheVariants.{Nothing};
 
-use crate::fit::ending::{Ending, is_bare};
+use crate::fit::ending::Ending;
 use s80_tree::{Expr, NamesAt, Primary};
 
 /// Whether the value of an expression is wanted.
@@ -134,7 +134,7 @@ pub(crate) fn statement_weight(leaves: Leaves, returns: bool, expr: &Expr, weigh
 fn is_short(expr: &Expr) -> bool
     ensures { result ≡ is_short (expr_of expr.now) }
 {
-    is_bare(expr) && is_short_name(&expr.receiver)
+    expr.is_bare() && is_short_name(&expr.receiver)
 }
 
 fn is_short_name(primary: &Primary) -> bool

@@ -8,14 +8,15 @@ ghost use Rattle.s80_scope.specs.Scope.{declared_in};
 ghost use Rattle.s80_scope.specs.Walk.{IsMethodCount, arguments_counts, arm_counts, arms_counts, body_counts, cut_off, expr_counts, last_counts, last_has_arms, messages_counts, receiver_counts, sent_counts, statement_counts, with_entries};
 
 use crate::fit::counts::Counts;
-use crate::fit::ending::{Ending, cascade_to_super, ending_of, is_super};
+use crate::fit::ending::{Ending, cascade_to_super, ending_of};
 use crate::fit::entries::Entries;
 use crate::fit::position::{
     Leaves, Position, arm_leaves, arm_position, dropped, empty_weight, leaves_before,
     method_leaves, own_weight, position_within, statement_position, statement_weight,
 };
-use crate::fit::scope::{NameSet, Scope};
+use crate::fit::scope::Scope;
 use s80_base::OutOfMemory;
+use s80_syntax::NameSet;
 use s80_tree::{Block, Body, Expr, Exprs, Message, Messages, MethodTree, NameAt, Primary, Stmt};
 use std::alloc::Global;
 
@@ -90,7 +91,7 @@ fn expr(
 {
     let ending = ending_with_arms(expr);
     let within = position_within(&expr.targets, position);
-    let to_super = is_super(&expr.receiver);
+    let to_super = expr.receiver.is_super();
     let chain = Chain {
         before: Ending::Sent,
         last: ending,

@@ -2,9 +2,10 @@ use Rattle.std.proofs.Common.{◌∙◌, ◌+◌, ap, refl, sym, subst, arith, V
 use Rattle.std.specs.Option.{IsSome}
 use Rattle.std.specs.FinMap as map
 use Rattle.s80_dict.specs.Dict.{HasRoom}
+use Rattle.s80_dict.specs.Table.{methods_at}
 use Rattle.s80_apply.specs.declared.step.PlacedMethod.{PlacedMethod}
 use Rattle.s80_apply.specs.System.{SystemState}
-use Rattle.s80_apply.proofs.Recompiled.{IsAdding, adding_all, adding_more, adding_none, adding_same, is_recompiled}
+use Rattle.s80_apply.proofs.Recompiled.{IsAdding, adding_all, adding_more, adding_none, adding_same, is_recompiled, keys_once}
 use Rattle.s80_apply.proofs.recompile.recompile_named.Goals as goal
 use Rattle.s80_apply.proofs.recompile.recompile_named.Goals.{in-Some+in_ok-copy+in_ok-recompiled_entry+in_ok-push, in_default}
 
@@ -25,6 +26,7 @@ loop-i-preserved c =
     elim c.match-get.branch [
       | in-Some+in_ok-copy+in_ok-recompiled_entry+in_ok-push w ↦
           adding_more system c.args.class c.args.side c.args.selectors.now c.loop-i.i key c.at-selector.ensures before c.loop-i.recompiled.items c.loop-i.invariant
+          (keys_once (methods_at system.methods c.args.class c.args.side) c.args.selectors.now c.requires.selectors)
           (record { number = c.args.class; side = c.args.side; selector = w.in_ok-copy.field-0; entry = w.in_ok-recompiled_entry.field-0 }) c.match-get.recompiled.items
           (is_recompiled system c.args.class c.args.side key w.in_ok-copy.field-0 w.in-Some.entry.now w.in_ok-recompiled_entry.field-0 c.requires.dictionaries c.requires.class c.requires.sources w.in_ok-copy.ensures
           (sym (w.in-Some.ensures.value ∙ ap (λ d. map.get d.methods key) c.dict-dict.ensures))

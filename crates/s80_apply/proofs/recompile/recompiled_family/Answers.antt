@@ -21,7 +21,9 @@ pub loop-class-preserved : goal.loop-class-preserved
 loop-class-preserved c =
     let system : SystemState = record { table = c.args.classes.now; methods = c.args.methods.now } in
     let numbers = c.deref-class-items.result.now in
-    compiling_more system numbers c.loop-class.class-index _ c.loop-class.recompiled.items c.recompile_side.new.recompiled.items _ (slice_get-get_or numbers c.loop-class.class-index 0 c.loop-class-test.true) c.loop-class.invariant
+    let family : AreFamily c.args.classes.now c.requires.class.0 numbers =
+    subst (AreFamily c.args.classes.now c.requires.class.0) (sym c.deref-class-items.ensures.value) (c.in_ok-family.ensures c.requires.class.0 c.requires.class.1) in
+    compiling_more system numbers c.loop-class.class-index _ c.loop-class.recompiled.items c.recompile_side.new.recompiled.items _ family.distinct (slice_get-get_or numbers c.loop-class.class-index 0 c.loop-class-test.true) c.loop-class.invariant
     c.in_ok-recompile_side.ensures c.in_ok-recompile_side-2.ensures
 
 pub returns : goal.returns

@@ -1,7 +1,7 @@
 use Rattle.std.proofs.Common.{rules}
 use Rattle.std.proofs.lemmas.Result.{IfOk-weaker}
 use Rattle.s80_tree.specs.Tree.{doit_of}
-use Rattle.s80_change.proofs.TextOf.{form_of_text, fault_in_text}
+use Rattle.s80_change.proofs.lemmas.TextOf.{form_of_text, fault_in_text}
 use Rattle.s80_change.proofs.block.is_definition.Goals as goal
 
 pub returns-in-Ok : goal.returns-in-Ok

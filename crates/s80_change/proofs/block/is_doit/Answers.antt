@@ -1,6 +1,6 @@
 use Rattle.std.proofs.Common.{rules, refl, subst}
 use Rattle.s80_chunk.specs.Chunks.{IsPlainText}
-use Rattle.s80_change.proofs.TextOf.{doit_of_text}
+use Rattle.s80_change.proofs.lemmas.TextOf.{doit_of_text}
 use Rattle.s80_change.proofs.block.is_doit.Goals as goal
 
 pub returns : goal.returns

@@ -1,4 +1,4 @@
-use Rattle.s80_change.proofs.TextOf.{no_change}
+use Rattle.s80_change.proofs.lemmas.TextOf.{no_change}
 use Rattle.s80_change.proofs.block.read_plain.Goals as goal
 
 pub returns : goal.returns

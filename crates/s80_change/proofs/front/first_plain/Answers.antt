@@ -1,5 +1,5 @@
 use Rattle.std.proofs.lemmas.Result.{err_from_is_err_and}
-use Rattle.s80_change.proofs.FirstFrames.{plain_fails, plain_there}
+use Rattle.s80_change.proofs.FirstFramings.{plain_fails, plain_there}
 use Rattle.s80_change.proofs.front.first_plain.Goals as goal
 
 pub returns-in_err-text : goal.returns-in_err-text

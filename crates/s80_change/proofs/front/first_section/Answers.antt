@@ -1,6 +1,6 @@
 use Rattle.std.proofs.lemmas.Result.{err_from_is_err_and}
 use Rattle.std.proofs.lemmas.List.{take_rest}
-use Rattle.s80_change.proofs.FirstFrames.{head_fails, source_fails, section_there}
+use Rattle.s80_change.proofs.FirstFramings.{head_fails, source_fails, section_there}
 use Rattle.s80_change.proofs.front.first_section.Goals as goal
 
 pub returns-in_err-head : goal.returns-in_err-head

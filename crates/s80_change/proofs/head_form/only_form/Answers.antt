@@ -1,16 +1,16 @@
-use Rattle.s80_tree.specs.Tree.{doit_of, expr_of, messages_of}
-use Rattle.s80_change.proofs.HeadForms.{no_expression, no_messages_sent, no_side}
+use Rattle.s80_tree.specs.Tree.{doit_of, message_of}
+use Rattle.s80_change.proofs.Heads.{none_sent, no_beginning, form_shown}
 use Rattle.s80_change.proofs.head_form.only_form.Goals as goal
 
-pub returns-in_err-only_expression : goal.returns-in_err-only_expression
-returns-in_err-only_expression c = no_expression (doit_of c.args.tree.now) c.from_residual.result c.in_err-only_expression.ensures c.from_residual.ensures
+pub returns-in_err-sending : goal.returns-in_err-sending
+returns-in_err-sending c = none_sent (doit_of c.args.tree.now) c.from_residual.result c.from_residual.ensures c.in_err-sending.ensures
 
-pub returns-in_err-receiver : goal.returns-in_err-receiver
-returns-in_err-receiver c =
-    no_messages_sent (doit_of c.args.tree.now) (expr_of c.in_ok-only_expression.field-0.now) c.from_residual-in_err-receiver.result
-    c.in_ok-only_expression.ensures c.in_err-receiver.ensures c.from_residual-in_err-receiver.ensures
+pub returns-in_err-category : goal.returns-in_err-category
+returns-in_err-category c =
+    no_beginning (doit_of c.args.tree.now) c.in_ok-sending.sending.receiver.now c.in_ok-sending.sending.side (message_of c.in_ok-sending.sending.message.now)
+    c.from_residual-in_err-category.result c.from_residual-in_err-category.ensures c.in_ok-sending.ensures c.in_err-category.ensures
 
-pub returns-in_err-side : goal.returns-in_err-side
-returns-in_err-side c =
-    no_side (doit_of c.args.tree.now) (expr_of c.in_ok-only_expression.field-0.now) c.in_ok-receiver.receiver.now (messages_of c.in_ok-receiver.messages.now) c.from_residual-in_err-side.result
-    c.in_ok-only_expression.ensures c.in_ok-receiver.ensures c.in_err-side.ensures c.from_residual-in_err-side.ensures
+pub returns : goal.returns
+returns c =
+    form_shown (doit_of c.args.tree.now) c.in_ok-sending.sending.receiver.now c.in_ok-sending.sending.side (message_of c.in_ok-sending.sending.message.now) _
+    c.in_ok-sending.ensures c.in_ok-category.ensures

@@ -1,4 +1,4 @@
-use Rattle.s80_class.proofs.Lines.{lineage_line as law}
+use Rattle.s80_class.proofs.lemmas.Lines.{lineage_line as law}
 use Rattle.s80_class.proofs.laws.lineage_is_the_line.Goals as goal
 
 pub returns : goal.returns

@@ -1,4 +1,4 @@
-use Rattle.s80_class.proofs.Lines.{one_line as law}
+use Rattle.s80_class.proofs.lemmas.Lines.{one_line as law}
 use Rattle.s80_class.proofs.laws.one_line.Goals as goal
 
 pub returns : goal.returns

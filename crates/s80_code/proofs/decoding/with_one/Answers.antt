@@ -2,7 +2,7 @@ use Rattle.std.proofs.Common.{◌∙◌, ap, sym, Some, w32, rules, arith}
 use Rattle.std.proofs.lemmas.Int.{to_z-of_z}
 use mir.Val.{SFits}
 use Rattle.s80_code.specs.declared.instruction.Instruction.TheVariants.{Jump, JumpOnTrue, JumpOnFalse}
-use Rattle.s80_code.proofs.TableLemmas.{jump_at, true_at, false_at}
+use Rattle.s80_code.proofs.lemmas.TableLemmas.{jump_at, true_at, false_at}
 use Rattle.s80_code.proofs.decoding.with_one.Goals as goal
 
 pub returns-in-160-to-167 : goal.returns-in-160-to-167

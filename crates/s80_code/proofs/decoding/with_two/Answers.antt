@@ -1,5 +1,5 @@
 use Rattle.std.proofs.Common.{sym, arith}
-use Rattle.s80_code.proofs.TableLemmas.{no_two_at}
+use Rattle.s80_code.proofs.lemmas.TableLemmas.{no_two_at}
 use Rattle.s80_code.proofs.decoding.with_two.Goals as goal
 
 pub returns-in_default : goal.returns-in_default

@@ -1,4 +1,4 @@
-use Rattle.s80_code.proofs.TableLemmas.{row_law}
+use Rattle.s80_code.proofs.lemmas.TableLemmas.{row_law}
 use Rattle.s80_code.proofs.laws.a_byte_has_one_row.Goals as goal
 
 pub returns : goal.returns

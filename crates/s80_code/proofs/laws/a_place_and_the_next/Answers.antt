@@ -1,4 +1,4 @@
-use Rattle.s80_code.proofs.TableLemmas.{place_law}
+use Rattle.s80_code.proofs.lemmas.TableLemmas.{place_law}
 use Rattle.s80_code.proofs.laws.a_place_and_the_next.Goals as goal
 
 pub returns : goal.returns

@@ -1,4 +1,4 @@
-use Rattle.s80_code.proofs.SpellingLemmas.{decoded_spells}
+use Rattle.s80_code.proofs.lemmas.SpellingLemmas.{decoded_spells}
 use Rattle.s80_code.proofs.laws.a_spelling_is_the_shortest.Goals as goal
 
 pub returns : goal.returns

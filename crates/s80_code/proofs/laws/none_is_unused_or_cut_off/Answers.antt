@@ -1,4 +1,4 @@
-use Rattle.s80_code.proofs.TableLemmas.{none_law}
+use Rattle.s80_code.proofs.lemmas.TableLemmas.{none_law}
 use Rattle.s80_code.proofs.laws.none_is_unused_or_cut_off.Goals as goal
 
 pub returns : goal.returns

@@ -1,4 +1,4 @@
-use Rattle.s80_code.proofs.TableLemmas.{used_is_decoded}
+use Rattle.s80_code.proofs.lemmas.TableLemmas.{used_is_decoded}
 use Rattle.s80_code.proofs.laws.used_bytes_stand_for_instructions.Goals as goal
 
 pub returns : goal.returns

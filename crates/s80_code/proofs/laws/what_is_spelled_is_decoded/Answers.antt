@@ -1,4 +1,4 @@
-use Rattle.s80_code.proofs.SpellingLemmas.{spelled_tells}
+use Rattle.s80_code.proofs.lemmas.SpellingLemmas.{spelled_tells}
 use Rattle.s80_code.proofs.laws.what_is_spelled_is_decoded.Goals as goal
 
 pub returns : goal.returns

@@ -1,5 +1,5 @@
 use Rattle.std.proofs.Common.{List, ℕ, drop, subst, sym, arith, length-drop}
-use Rattle.s80_code.proofs.TableLemmas.{decodes}
+use Rattle.s80_code.proofs.lemmas.TableLemmas.{decodes}
 use Rattle.s80_code.proofs.LineLemmas.{SoFar, begun, goes_on}
 use Rattle.s80_code.proofs.listing.disassemble.Goals as goal
 

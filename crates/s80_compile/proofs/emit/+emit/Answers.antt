@@ -16,7 +16,7 @@ use Rattle.s80_base.specs.declared.literal.Literal.TheVariants.{Small}
 use Rattle.s80_compile.proofs.Firsts.{room_first}
 use Rattle.s80_compile.proofs.MadeArms.{count_there, small_open, shortcut_made, number_there}
 use Rattle.s80_compile.proofs.Parts.{CountRow}
-use Rattle.s80_agree.specs.Rows.{jump_unless, shortcut_number}
+use Rattle.s80_compile.specs.Rows.{jump_unless, shortcut_number}
 use Rattle.s80_code.specs.declared.instruction.Instruction.TheVariants.{PushFixed}
 use Rattle.s80_compile.proofs.emit.+emit.Goals.{shortcut-then-on, shortcut-else-on}
 use Rattle.s80_compile.proofs.Fitting as fit

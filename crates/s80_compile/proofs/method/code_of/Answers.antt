@@ -4,8 +4,8 @@ use Rattle.s80_tree.specs.Tree.{method_of}
 use Rattle.s80_scope.specs.Fit.{measures}
 use Rattle.s80_scope.specs.FitStack.{stack, temporaries}
 use Rattle.s80_core.specs.Core.{core_of}
-use Rattle.s80_core.proofs.FitAll.{fits_small}
-use Rattle.s80_agree.specs.Compiles.{last_entries}
+use Rattle.s80_core.proofs.lemmas.FitAll.{fits_small}
+use Rattle.s80_compile.specs.Compiles.{last_entries}
 use Rattle.s80_compile.proofs.Headed.{begins, whole}
 use Rattle.s80_compile.proofs.method.code_of.Goals as goal
 

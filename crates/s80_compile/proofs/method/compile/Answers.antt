@@ -3,8 +3,8 @@ use Rattle.s80_tree.specs.Tree.{method_of}
 use Rattle.s80_scope.specs.Fit.{measures}
 use Rattle.s80_core.specs.Core.{core_of}
 use Rattle.s80_core.proofs.Declared.{declared}
-use Rattle.s80_core.proofs.FitAll.{fits_small}
-use Rattle.s80_agree.proofs.Related.{related}
+use Rattle.s80_core.proofs.lemmas.FitAll.{fits_small}
+use Rattle.s80_compile.proofs.Related.{related}
 use Rattle.s80_compile.proofs.Headed.{ready}
 use Rattle.s80_compile.proofs.method.compile.Goals as goal
 

@@ -2,7 +2,7 @@ use Rattle.std.proofs.Common.{codes}
 use Rattle.std.specs.Prelude.{IfOk}
 use Rattle.s80_base.specs.declared.names.Side.TheVariants as side
 use Rattle.s80_tree.specs.Tree.{method_of}
-use Rattle.s80_agree.specs.Compiles.{Compiles}
+use Rattle.s80_compile.specs.Compiles.{Compiles}
 use Rattle.s80_compile.proofs.Headed.{doit_related}
 use Rattle.s80_compile.proofs.method.compile_doit.Goals as goal
 

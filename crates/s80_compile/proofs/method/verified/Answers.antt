@@ -1,4 +1,4 @@
-use Rattle.s80_verify.proofs.LawLemmas.{no_fault}
+use Rattle.s80_verify.proofs.lemmas.LawLemmas.{no_fault}
 use Rattle.s80_compile.proofs.method.verified.Goals as goal
 
 pub unreachable-requires : goal.unreachable-requires

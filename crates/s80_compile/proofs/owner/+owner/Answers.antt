@@ -1,6 +1,6 @@
 use Rattle.std.proofs.Common.{true, false, ap, sym, ◌∙◌}
 use Rattle.s80_core.specs.Core.{cores_of, sends_of}
-use Rattle.s80_agree.specs.Compiles.{any_to_super, sends_to_super}
+use Rattle.s80_compile.specs.Compiles.{any_to_super, sends_to_super}
 use Rattle.s80_compile.proofs.OpenCore.{cores_left, cores_open, sends_open}
 use Rattle.s80_compile.proofs.Supers.{messages_left, trees_next, trees_done, messages_next, messages_done}
 use Rattle.s80_compile.proofs.owner.+owner.Goals as goal

@@ -1,6 +1,6 @@
 use Rattle.std.proofs.Common.{◌≡◌}
 use Rattle.s80_core.specs.Core.{cores_of, sends_of}
-use Rattle.s80_agree.specs.Compiles.{any_to_super, sends_to_super}
+use Rattle.s80_compile.specs.Compiles.{any_to_super, sends_to_super}
 use Rattle.s80_compile.proofs.OpenCore.{cores_left}
 use Rattle.s80_compile.proofs.Supers.{messages_left}
 use Rattle.s80_compile.proofs.owner.+owner.Given as goal

@@ -1,6 +1,5 @@
-use Rattle.std.proofs.Common.{arith, length-append}
+use Rattle.std.proofs.Common.{arith}
 use Rattle.s80_tree.specs.Tree.{method_of}
-use Rattle.s80_scope.specs.Names.{declarations_of}
 use Rattle.s80_core.proofs.Declared.{declared}
 use Rattle.s80_core.proofs.elaboration.elaborate.Goals as goal
 

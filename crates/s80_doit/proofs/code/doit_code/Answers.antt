@@ -5,8 +5,8 @@ use Rattle.s80_tree.specs.Tree.{MethodParts, doit_of, method_of}
 use Rattle.s80_scope.specs.Fit.{fit, measures}
 use Rattle.s80_scope.specs.Names.{AreInOrder, uses_of}
 use Rattle.s80_scope.specs.declared.fit.Fit.TheVariants as fits
-use Rattle.s80_agree.specs.Compiles.{Compiles}
-use Rattle.s80_agree.specs.Sent.{AreWellSent}
+use Rattle.s80_compile.specs.Compiles.{Compiles}
+use Rattle.s80_compile.specs.Sent.{AreWellSent}
 use Rattle.s80_doit.specs.DoIt.{IsDoItCode}
 use Rattle.s80_doit.proofs.Fitting.{is_code}
 use Rattle.s80_doit.proofs.code.doit_code.Goals as goal

@@ -3,7 +3,7 @@ use Rattle.std.specs.List.{filter}
 use Rattle.std.specs.Slice.Iter.{split_rest, split_done, split_callee}
 use Rattle.std.proofs.lemmas.Iterator.Consumers.{YieldsList-end}
 use Rattle.std.proofs.lemmas.Iterator.Splits.{YieldsList-from_slice_split}
-use Rattle.s80_chunk.specs.Chunks.{is_separator}
+use Rattle.s80_base.specs.Byte.{is_separator}
 use Rattle.s80_form.specs.Definition.{is_empty}
 use Rattle.s80_form.proofs.Forms.{pieces_are}
 use Rattle.s80_form.proofs.names.split_names.Goals as goal

@@ -1,5 +1,5 @@
 use Rattle.std.proofs.Common.{◌∙◌, sym}
-use Rattle.s80_form.proofs.Cuts.{kinds_same}
+use Rattle.s80_form.proofs.lemmas.Cuts.{kinds_same}
 use Rattle.s80_form.proofs.Reading.{head_cut, head_none}
 use Rattle.s80_form.proofs.read.first_words.Goals as goal
 

@@ -1,5 +1,6 @@
 use Rattle.std.proofs.lemmas.Result.{IfOk-weaker}
-use Rattle.s80_form.specs.Read.{FindsString, FindsLine}
+use Rattle.s80_form.specs.TextParts.{FindsString}
+use Rattle.s80_form.specs.Read.{FindsLine}
 use Rattle.s80_form.proofs.Reading.{line_found}
 use Rattle.s80_form.proofs.read.line.Goals as goal
 

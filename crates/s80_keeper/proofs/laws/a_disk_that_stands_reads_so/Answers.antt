@@ -1,4 +1,4 @@
-use Rattle.s80_keeper.proofs.Standing.{reads_so}
+use Rattle.s80_keeper.proofs.lemmas.Standing.{reads_so}
 use Rattle.s80_keeper.proofs.laws.a_disk_that_stands_reads_so.Goals as goal
 
 pub returns : goal.returns

@@ -2,9 +2,11 @@ use Rattle.std.proofs.Common.{◌<◌, ℕ, IsTrue, List, length, take, drop, Er
 use Rattle.std.proofs.lemmas.Result.{err_from_is_err_and}
 use Rattle.s80_log.specs.Log.{log_file, held_in}
 use Rattle.s80_change.specs.Blocks.{BeginsWith, BeginsWithNone}
+use Rattle.s80_change.specs.declared.change.Change.{Change}
 use Rattle.s80_log.specs.Faults.{IfBad}
 use Rattle.s80_keeper.proofs.OneList.{block_length}
-use Rattle.s80_keeper.proofs.Replayed.{lawful_checked, no_disk, replayed_more, replayed_refused, replayed_bad, replayed_all, held_length}
+use Rattle.s80_keeper.proofs.Replayed.{lawful_checked, no_disk, replayed_none, replayed_more, replayed_refused, replayed_bad, replayed_all, held_length}
+use Rattle.s80_keeper.proofs.Unless.{unless_at_all, unless_block}
 use Rattle.s80_keeper.proofs.start.replay.Goals as goal
 use Rattle.s80_keeper.proofs.start.replay.Goals.{In_ok-change}
 
@@ -55,13 +57,32 @@ returns-clause-answer g c = λ told long.
     replayed_all (held_in reads log) c.loop-at.at c.loop-at.count c.loop-at.system (c.loop-at.invariant.replayed told long)
     (omega (arith, held_length reads log long, c.loop-at-test.false, c.length.ensures))
 
+pub loop-at-init : goal.loop-at-init
+loop-at-init g c = record {
+  replayed = λ told long. replayed_none (held_in (g.D.Disk.reads c.args.disk.now) c.args.log.now) c.in_ok-system.system c.in_ok-system.ensures.state c.in_ok-system.ensures.places;
+  few = omega arith;
+  within = omega arith;
+  untouched = search rules;
+  faults_stay = refl;
+}
+
 pub loop-at-preserved : goal.loop-at-preserved
 loop-at-preserved g c =
     let change = c.in_ok-change.change in
     let next = c.in_ok-change.ensures.next in
     record {
-      replayed = λ told long. replayed_more _ c.loop-at.at c.loop-at.count c.loop-at.system (c.loop-at.invariant.replayed told long) change (begins g (goal.at.loop-at-preserved g c).In_ok-change told) c.in_ok-accept_owned.field-0 c.in_ok-change.next c.accept_owned.new.system next.1 c.in_ok-accept_owned.ensures.answer;
+      replayed = λ told long. replayed_more _ c.loop-at.at c.loop-at.count c.loop-at.system (c.loop-at.invariant.replayed told long) change (begins g (goal.at.loop-at-preserved g c).In_ok-change told) c.in_ok-accept_owned.field-0 c.in_ok-change.next c.accept_owned.new.system next.1 c.in_ok-accept_owned.ensures.answer c.in_ok-accept_owned.ensures.places;
       few = omega (arith, next.1, block_length change, c.loop-at.invariant.few);
       within = next.2;
       untouched = search rules;
+      faults_stay = c.in_ok-change.ensures.faults_stay ∙ c.loop-at.invariant.faults_stay;
     }
+
+pub returns-in_err-change-clause-faults_stay : goal.returns-in_err-change-clause-faults_stay
+returns-in_err-change-clause-faults_stay g c =
+    let p = err_from_is_err_and c.from_residual-in_err-change.result c.from_residual-in_err-change.ensures.1 in
+    unless_block (Change × ℕ) _ _ c.from_residual-in_err-change.result c.in_err-change.field-0.0 p.0 p.1 p.2 (λ same. same ∙ c.loop-at.invariant.faults_stay) c.in_err-change.ensures.faults_stay
+
+pub returns-in_err-accept_owned-clause-faults_stay : goal.returns-in_err-accept_owned-clause-faults_stay
+returns-in_err-accept_owned-clause-faults_stay g c =
+    unless_at_all _ c.from_residual-in_err-accept_owned.result (c.in_ok-change.ensures.faults_stay ∙ c.loop-at.invariant.faults_stay)

@@ -1,6 +1,6 @@
-use Rattle.std.proofs.Common.{◌-◌, ◌≤◌, IsTrue, length}
+use Rattle.std.proofs.Common.{◌≡◌, ◌-◌, ◌≤◌, IsTrue, length}
+use Rattle.s80_disk.specs.Untouched.{IsUntouched}
 use Rattle.s80_log.specs.Log.{log_file, held_in}
-use Rattle.s80_keeper.specs.Untouched.{IsUntouched}
 use Rattle.s80_keeper.proofs.Replayed.{ReplayedTo}
 use Rattle.s80_keeper.proofs.start.replay.Given as goal
 
@@ -10,6 +10,7 @@ invariant-loop-at g l = record {
   few : l.count ≤ l.at;
   within : l.at ≤ l.log.end;
   untouched : IsUntouched g.D.Disk.tells g.D.Disk.reads g.D.Disk.may_leave g.D.Disk.moment g.D.Disk.left_since g.D.Disk.beside g.D.Disk.disk_faults l.fn.disk l.disk;
+  faults_stay : g.D.Disk.disk_faults l.disk ≡ g.D.Disk.disk_faults l.fn.disk;
 }
 
 abbrev pub decreases-loop-at : goal.decreases-loop-at

@@ -1,6 +1,6 @@
 use Rattle.s80_lex.specs.declared.token.TokenKind.TheVariants.{Character}
-use Rattle.s80_lex.proofs.Standing.{takes_stands, dollar_wrong}
-use Rattle.s80_lex.proofs.Taken.{character_takes}
+use Rattle.s80_lex.proofs.lemmas.Standing.{takes_stands, dollar_wrong}
+use Rattle.s80_lex.proofs.lemmas.Taken.{character_takes}
 use Rattle.s80_lex.proofs.front.character.Goals as goal
 
 pub returns-then-bytes-gt1 : goal.returns-then-bytes-gt1

@@ -1,7 +1,7 @@
 use Rattle.std.proofs.Common.{true, false}
 use Rattle.s80_lex.specs.Spelling.{begins_with}
-use Rattle.s80_lex.proofs.Fronts.{at_rest}
-use Rattle.s80_lex.proofs.Signs.{assign_takes, colon_takes}
+use Rattle.s80_lex.proofs.lemmas.Fronts.{at_rest}
+use Rattle.s80_lex.proofs.lemmas.Signs.{assign_takes, colon_takes}
 use Rattle.s80_lex.proofs.front.colon.Goals as goal
 
 pub returns-then-begins_with : goal.returns-then-begins_with

@@ -1,4 +1,4 @@
-use Rattle.s80_lex.proofs.Standing.{comment_stands, comment_wrong, double_quote_next}
+use Rattle.s80_lex.proofs.lemmas.Standing.{comment_stands, comment_wrong, double_quote_next}
 use Rattle.s80_lex.proofs.front.comment.Goals as goal
 
 pub quoted_len-requires : goal.quoted_len-requires

@@ -1,8 +1,8 @@
 use Rattle.std.proofs.Common.{sym}
 use Rattle.s80_lex.specs.declared.class.Class.TheVariants as class
 use Rattle.s80_lex.specs.declared.token.TokenKind.TheVariants.{Assign, Binary}
-use Rattle.s80_lex.proofs.Standing.{other_stands, byte_wrong, other_none, operator_either, separator_stands}
-use Rattle.s80_lex.proofs.Taken.{binary_takes, underscore_takes, mark_takes}
+use Rattle.s80_lex.proofs.lemmas.Standing.{other_stands, byte_wrong, other_none, operator_either, separator_stands}
+use Rattle.s80_lex.proofs.lemmas.Taken.{binary_takes, underscore_takes, mark_takes}
 use Rattle.s80_lex.proofs.front.front.Goals as goal
 
 pub returns-in-Letter : goal.returns-in-Letter

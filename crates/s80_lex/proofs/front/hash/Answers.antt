@@ -1,4 +1,4 @@
-use Rattle.s80_lex.proofs.Standing.{other_stands}
+use Rattle.s80_lex.proofs.lemmas.Standing.{other_stands}
 use Rattle.s80_lex.proofs.front.hash.Goals as goal
 
 pub returns-in-Some : goal.returns-in-Some

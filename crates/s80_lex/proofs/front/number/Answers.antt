@@ -1,8 +1,8 @@
 use Rattle.std.proofs.Common.{subst, sym}
 use Rattle.s80_lex.specs.declared.token.TokenKind.TheVariants.{Number}
 use Rattle.s80_lex.specs.Front.{Takes}
-use Rattle.s80_lex.proofs.Standing.{takes_stands, number_wrong}
-use Rattle.s80_lex.proofs.Taken.{digit_run, number_takes}
+use Rattle.s80_lex.proofs.lemmas.Standing.{takes_stands, number_wrong}
+use Rattle.s80_lex.proofs.lemmas.Taken.{digit_run, number_takes}
 use Rattle.s80_lex.proofs.front.number.Goals as goal
 
 pub number_len-length-requires : goal.number_len-length-requires

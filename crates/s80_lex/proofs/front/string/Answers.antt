@@ -1,6 +1,6 @@
 use Rattle.s80_lex.specs.declared.token.TokenKind.TheVariants.{Str}
-use Rattle.s80_lex.proofs.Standing.{takes_stands, string_wrong, quote_next}
-use Rattle.s80_lex.proofs.Taken.{string_takes}
+use Rattle.s80_lex.proofs.lemmas.Standing.{takes_stands, string_wrong, quote_next}
+use Rattle.s80_lex.proofs.lemmas.Taken.{string_takes}
 use Rattle.s80_lex.proofs.front.string.Goals as goal
 
 pub quoted_len-requires : goal.quoted_len-requires

@@ -1,6 +1,6 @@
 use Rattle.std.proofs.Common.{subst, sym, ◌+◌}
-use Rattle.s80_lex.proofs.Parts.{Up, up_more, up_all}
-use Rattle.s80_lex.proofs.Slices.{slices, in_order}
+use Rattle.s80_lex.proofs.lemmas.Parts.{Up, up_more, up_all}
+use Rattle.s80_lex.proofs.lemmas.Slices.{slices, in_order}
 use Rattle.s80_lex.proofs.list.tokens.Goals as goal
 
 pub loop-place-preserved : goal.loop-place-preserved

@@ -1,5 +1,5 @@
 use Rattle.std.proofs.Common.{◌-◌, length}
-use Rattle.s80_lex.proofs.Parts.{Up}
+use Rattle.s80_lex.proofs.lemmas.Parts.{Up}
 use Rattle.s80_lex.proofs.list.tokens.Given as goal
 
 abbrev pub invariant-loop-place : goal.invariant-loop-place

@@ -1,7 +1,7 @@
 use Rattle.std.proofs.Common.{true, false, ◌+◌}
 use Rattle.s80_lex.specs.Spelling.{begins_with}
-use Rattle.s80_lex.proofs.Fronts.{at_rest}
-use Rattle.s80_lex.proofs.Quotes.{so_far_one, so_far_two, quoted_found}
+use Rattle.s80_lex.proofs.lemmas.Fronts.{at_rest}
+use Rattle.s80_lex.proofs.lemmas.Quotes.{so_far_one, so_far_two, quoted_found}
 use Rattle.s80_lex.proofs.quoted.quoted_len.Goals as goal
 
 pub loop-length-preserved-then-bytes-length : goal.loop-length-preserved-then-bytes-length

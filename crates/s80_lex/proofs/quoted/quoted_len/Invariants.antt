@@ -1,5 +1,5 @@
 use Rattle.std.proofs.Common.{◌-◌, length}
-use Rattle.s80_lex.proofs.Quotes.{SoFar}
+use Rattle.s80_lex.proofs.lemmas.Quotes.{SoFar}
 use Rattle.s80_lex.proofs.quoted.quoted_len.Given as goal
 
 abbrev pub invariant-loop-length : goal.invariant-loop-length

@@ -1,8 +1,8 @@
 use Rattle.std.proofs.Common.{sym, ◌∙◌}
 use Rattle.s80_lex.specs.declared.class.Class.TheVariants.{Special}
 use Rattle.s80_lex.specs.Front.{first_class}
-use Rattle.s80_lex.proofs.Fronts.{at_rest}
-use Rattle.s80_lex.proofs.Selectors.{binary_one, binary_two}
+use Rattle.s80_lex.proofs.lemmas.Fronts.{at_rest}
+use Rattle.s80_lex.proofs.lemmas.Selectors.{binary_one, binary_two}
 use Rattle.s80_lex.proofs.word.operator_len.Goals as goal
 
 pub returns-in-Special : goal.returns-in-Special

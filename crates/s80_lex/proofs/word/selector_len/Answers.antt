@@ -1,4 +1,4 @@
-use Rattle.s80_lex.proofs.Selectors.{keywords_select, name_selects}
+use Rattle.s80_lex.proofs.lemmas.Selectors.{keywords_select, name_selects}
 use Rattle.s80_lex.proofs.word.selector_len.Goals as goal
 
 pub returns-in-Some : goal.returns-in-Some

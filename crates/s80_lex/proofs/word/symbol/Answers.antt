@@ -2,8 +2,8 @@ use Rattle.std.proofs.Common.{true, false, subst}
 use Rattle.std.proofs.lemmas.List.{take_rest}
 use Rattle.s80_lex.specs.Spelling.{begins_with, IsSelector}
 use Rattle.s80_lex.specs.Front.{IsMost, Lacks}
-use Rattle.s80_lex.proofs.Fronts.{at_rest}
-use Rattle.s80_lex.proofs.Signs.{array_takes, symbol_takes, no_symbol}
+use Rattle.s80_lex.proofs.lemmas.Fronts.{at_rest}
+use Rattle.s80_lex.proofs.lemmas.Signs.{array_takes, symbol_takes, no_symbol}
 use Rattle.s80_lex.proofs.word.symbol.Goals as goal
 
 pub returns-then-begins_with : goal.returns-then-begins_with

@@ -1,7 +1,7 @@
 use Rattle.std.proofs.Common.{true, false, ◌+◌, subst, sym}
 use Rattle.s80_lex.specs.declared.token.TokenKind.TheVariants.{Name, Keyword}
 use Rattle.s80_lex.specs.Front.{Takes}
-use Rattle.s80_lex.proofs.Taken.{name_takes, keyword_takes}
+use Rattle.s80_lex.proofs.lemmas.Taken.{name_takes, keyword_takes}
 use Rattle.s80_lex.proofs.Words.{run_seen}
 use Rattle.s80_lex.proofs.word.word.Goals as goal
 

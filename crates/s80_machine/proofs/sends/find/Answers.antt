@@ -1,7 +1,7 @@
 use Rattle.std.proofs.Common.{◌∙◌, subst, sym}
 use Rattle.s80_prims.specs.Classes.{class_of}
 use Rattle.s80_machine.specs.Step.{places_of}
-use Rattle.s80_machine.specs.Seen.{IsFound}
+use Rattle.s80_class.specs.Lookup.{IsFound}
 use Rattle.s80_machine.specs.Came.{given_of}
 use Rattle.s80_machine.specs.Messages.{finds}
 use Rattle.s80_machine.proofs.CameClasses.{has_class, place_missing, place_there}

@@ -1,6 +1,6 @@
 use Rattle.std.proofs.Common.{◌∙◌, inl, refl, subst, sym}
-use Rattle.s80_verify.specs.Selector.{IsSelectorOf}
-use Rattle.s80_verify.proofs.SelectorLemmas.{name_is}
+use Rattle.s80_lex.specs.Selector.{IsSelectorOf}
+use Rattle.s80_lex.proofs.lemmas.SelectorLemmas.{name_is}
 use Rattle.s80_machine.proofs.sends.unary.Goals as goal
 
 pub returns-clause-unary : goal.returns-clause-unary

@@ -21,13 +21,13 @@ run_close g c =
     let file = D.reads d Mark in
     let old = c.args.old.now in
     let next = c.args.next.now in
-    let read = c.read.ensures in
+    let read = c.read.ensures.untouched in
     let slots = c.in_ok-slots.slots in
     let spare = c.spare-spare.result in
     let was_open = c.is_open.result in
     stepped D.moment D.left_since D.may_leave D.tells D.reads D.beside old next d c.read.new.disk c.close_gate.new.disk (Closes spare was_open)
     (unwritten D.moment D.left_since D.may_leave D.tells D.reads D.beside old next d c.read.new.disk read.any_moment)
-    c.close_gate.ensures.any_moment read.beside (follows_still Mark (D.may_leave d) (D.may_leave c.read.new.disk) read.crash)
+    c.close_gate.ensures.any_moment read.rest (follows_still Mark (D.may_leave d) (D.may_leave c.read.new.disk) read.crash)
     (λ can e left new closes.
     let is = c.in_ok-slots.ensures.value can.told in
     let P : List ℕ → Type 0 = λ l. Closes spare was_open l new in
@@ -44,14 +44,14 @@ both g c can =
     let is = c.in_ok-slots.ensures.value can.told in
     let holds = spare_holds file slots spare c.args.old.now is c.spare-spare.ensures can.valid in
     let P : List ℕ → Type 0 = λ l. IsClosed spare was_open l (D.reads c.close_gate.new.disk Mark) in
-    let told : IsTrue (D.tells c.read.new.disk) = c.read.ensures.tells ∙ can.told in
-    let closed = subst P (c.read.ensures.same Mark) (c.in_ok-close_gate.ensures.closed told) (open_long file (other_of spare) c.args.old.now holds) (gate_read file slots spare was_open is c.is_open.ensures) in
+    let told : IsTrue (D.tells c.read.new.disk) = c.read.ensures.untouched.telling ∙ can.told in
+    let closed = subst P (c.read.ensures.untouched.same Mark) (c.in_ok-close_gate.ensures.closed told) (open_long file (other_of spare) c.args.old.now holds) (gate_read file slots spare was_open is c.is_open.ensures) in
     (closed.0 ∙ holds, closed.1)
 
 pub returns-in_err-slots-clause-any_moment : goal.returns-in_err-slots-clause-any_moment
 returns-in_err-slots-clause-any_moment g c =
     let D = g.D.Disk in
-    unwritten D.moment D.left_since D.may_leave D.tells D.reads D.beside c.args.old.now c.args.next.now c.args.disk.now c.read.new.disk c.read.ensures.any_moment
+    unwritten D.moment D.left_since D.may_leave D.tells D.reads D.beside c.args.old.now c.args.next.now c.args.disk.now c.read.new.disk c.read.ensures.untouched.any_moment
 
 pub returns-in_err-slots-clause-left : goal.returns-in_err-slots-clause-left
 returns-in_err-slots-clause-left g c =
@@ -72,25 +72,25 @@ returns-clause-committed g c = λ can.
     let slots = both g (goal.at.returns-clause-committed g c).In_ok-close_gate can in
     on_ok_weaker c.write_slot.result
     (filled c.args.old.now c.args.next.now c.spare-spare.result (D.reads c.close_gate.new.disk Mark) slots.0 can.follows (D.reads c.write_slot.new.disk Mark))
-    (c.write_slot.ensures.filled (c.close_gate.ensures.tells ∙ c.read.ensures.tells ∙ can.told))
+    (c.write_slot.ensures.filled (c.close_gate.ensures.tells ∙ c.read.ensures.untouched.telling ∙ can.told))
 
 pub returns-clause-any_moment : goal.returns-clause-any_moment
 returns-clause-any_moment g c =
     let D = g.D.Disk in
     let d = c.args.disk.now in
     let mid = c.close_gate.new.disk in
-    let read = c.read.ensures in
+    let read = c.read.ensures.untouched in
     let closed = c.close_gate.ensures in
     let spare = c.spare-spare.result in
     let next = c.args.next.now in
     let at = goal.at.returns-clause-any_moment g c in
     stepped D.moment D.left_since D.may_leave D.tells D.reads D.beside c.args.old.now next d mid c.write_slot.new.disk (Fills (D.tells mid) spare next)
-    (run_close g at.After-close_gate) c.write_slot.ensures.any_moment (closed.beside ∙ read.beside)
+    (run_close g at.After-close_gate) c.write_slot.ensures.any_moment (closed.beside ∙ read.rest)
     (follows_through Mark Anything (Closes spare c.is_open.result) Anything _ _ _ (follows_still Mark (D.may_leave d) (D.may_leave c.read.new.disk) read.crash) closed.crash (λ _ _ _ _ _. tt))
     (λ can e left new fills.
     let slots = both g at.In_ok-close_gate can in
     let P : List ℕ → Type 0 = λ l. Fills (D.tells mid) spare next l new in
-    filling c.args.old.now next spare (D.reads mid Mark) slots.0 (D.tells mid) (closed.tells ∙ read.tells ∙ can.told) slots.1 can.follows new (subst P (c.in_ok-close_gate.ensures.durable e left) fills))
+    filling c.args.old.now next spare (D.reads mid Mark) slots.0 (D.tells mid) (closed.tells ∙ read.telling ∙ can.told) slots.1 can.follows new (subst P (c.in_ok-close_gate.ensures.durable e left) fills))
 
 pub returns-clause-left : goal.returns-clause-left
 returns-clause-left g c =
@@ -98,7 +98,7 @@ returns-clause-left g c =
     left_now D.moment D.left_since D.may_leave D.tells D.reads D.beside c.args.old.now c.args.next.now c.args.disk.now c.write_slot.new.disk (g.met.D.Disk.counts_now c.write_slot.new.disk) (returns-clause-any_moment g c)
 
 pub returns-clause-others : goal.returns-clause-others
-returns-clause-others g c = λ other ne. c.write_slot.ensures.others other ne ∙ c.close_gate.ensures.others other ne ∙ c.read.ensures.same other
+returns-clause-others g c = λ other ne. c.write_slot.ensures.others other ne ∙ c.close_gate.ensures.others other ne ∙ c.read.ensures.untouched.same other
 
 pub returns-clause-unwritten : goal.returns-clause-unwritten
 returns-clause-unwritten g c =

@@ -1,7 +1,7 @@
 use Rattle.std.proofs.Common.{ap, ◌∙◌}
 use Rattle.s80_disk.specs.declared.disk.FileId.TheVariants.{Mark, Log0, Log1}
 use Rattle.s80_disk.specs.Moments.{Beside, ComesFrom, LeavesOnly}
-use Rattle.s80_disk.proofs.Run.{weaker, joined}
+use Rattle.s80_disk.proofs.lemmas.Run.{weaker, joined}
 use Rattle.s80_mark.specs.Stays.{Anything}
 use Rattle.s80_mark.specs.Init.{EmptyLogs, StaysEmpty, SyncsFirst, StaysWithout}
 use Rattle.s80_mark.proofs.First.{stay_empty, syncs_still, syncs_on, stays_without}
@@ -14,12 +14,12 @@ run g c =
     let D = g.D.Disk in
     let d = c.args.disk.now in
     let mid = c.sync_logs.new.disk in
-    let synced = c.sync_logs.ensures in
+    let synced = c.sync_logs.ensures.untouched in
     let P = ComesFrom (D.may_leave d) (D.beside d).told Mark Anything in
     joined D.moment D.left_since d mid c.write_first.new.disk P _
     (weaker D.moment D.left_since d mid _ P synced.any_moment (comes_still Mark (D.may_leave d) (D.beside d).told))
     c.write_first.ensures.any_moment
-    (comes_later Mark Anything (D.may_leave d) (D.may_leave mid) (D.beside d).told (D.beside mid).told (ap (λ (b : Beside). b.told) synced.beside) synced.crash)
+    (comes_later Mark Anything (D.may_leave d) (D.may_leave mid) (D.beside d).told (D.beside mid).told (ap (λ (b : Beside). b.told) synced.rest) synced.crash)
 
 pub returns-in_err-write_first-clause-any_moment : goal.returns-in_err-write_first-clause-any_moment
 returns-in_err-write_first-clause-any_moment g c = run g (goal.at.returns-in_err-write_first-clause-any_moment g c).After-write_first
@@ -46,12 +46,12 @@ synced g c =
     let D = g.D.Disk in
     let d = c.args.disk.now in
     let mid = c.sync_logs.new.disk in
-    let logs = c.sync_logs.ensures in
+    let logs = c.sync_logs.ensures.untouched in
     let P = SyncsFirst (D.reads d) (D.may_leave d) (D.beside d).told in
     joined D.moment D.left_since d mid c.write_first.new.disk P _
     (weaker D.moment D.left_since d mid _ P logs.any_moment (syncs_still (D.reads d) (D.may_leave d) (D.beside d).told))
     c.write_first.ensures.any_moment
-    (syncs_on (D.reads d) (D.may_leave d) (D.beside d).told (D.may_leave mid) (D.beside mid).told (ap (λ (b : Beside). b.told) logs.beside) (λ image left. c.in_ok-sync_logs.ensures.log0 image left ∙ logs.same Log0) (λ image left. c.in_ok-sync_logs.ensures.log1 image left ∙ logs.same Log1))
+    (syncs_on (D.reads d) (D.may_leave d) (D.beside d).told (D.may_leave mid) (D.beside mid).told (ap (λ (b : Beside). b.told) logs.rest) (λ image left. c.in_ok-sync_logs.ensures.log0 image left ∙ logs.same Log0) (λ image left. c.in_ok-sync_logs.ensures.log1 image left ∙ logs.same Log1))
 
 pub returns-in_err-write_first-clause-synced_first : goal.returns-in_err-write_first-clause-synced_first
 returns-in_err-write_first-clause-synced_first g c = synced g (goal.at.returns-in_err-write_first-clause-synced_first g c).After-write_first
@@ -63,7 +63,7 @@ pub returns-in_err-sync_logs-clause-synced_first : goal.returns-in_err-sync_logs
 returns-in_err-sync_logs-clause-synced_first g c =
     let D = g.D.Disk in
     let d = c.args.disk.now in
-    weaker D.moment D.left_since d c.sync_logs.new.disk _ (SyncsFirst (D.reads d) (D.may_leave d) (D.beside d).told) c.sync_logs.ensures.any_moment (syncs_still (D.reads d) (D.may_leave d) (D.beside d).told)
+    weaker D.moment D.left_since d c.sync_logs.new.disk _ (SyncsFirst (D.reads d) (D.may_leave d) (D.beside d).told) c.sync_logs.ensures.untouched.any_moment (syncs_still (D.reads d) (D.may_leave d) (D.beside d).told)
 
 pub returns-in_err-write_first-clause-stays_without : goal.returns-in_err-write_first-clause-stays_without
 returns-in_err-write_first-clause-stays_without g c tells empty nothing =

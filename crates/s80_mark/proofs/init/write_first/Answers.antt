@@ -2,7 +2,7 @@ use Rattle.std.proofs.Common.{IsTrue, refl, ◌∙◌, ap}
 use Rattle.std.proofs.lemmas.Result.{on_ok_weaker}
 use Rattle.s80_disk.specs.declared.disk.FileId.TheVariants.{Mark}
 use Rattle.s80_disk.specs.Moments.{Beside, ComesFrom}
-use Rattle.s80_disk.proofs.Run.{weaker, joined}
+use Rattle.s80_disk.proofs.lemmas.Run.{weaker, joined}
 use Rattle.s80_mark.specs.Stays.{Anything}
 use Rattle.s80_mark.proofs.Images.{comes_looser, comes_through, follows_through}
 use Rattle.s80_mark.proofs.First.{first_valid}

@@ -1,6 +1,6 @@
 use Rattle.std.proofs.lemmas.Result.{on_ok_weaker}
 use Rattle.s80_disk.specs.declared.disk.FileId.TheVariants.{Mark}
-use Rattle.s80_disk.proofs.Run.{weaker}
+use Rattle.s80_disk.proofs.lemmas.Run.{weaker}
 use Rattle.s80_mark.specs.Writes.{Closes}
 use Rattle.s80_mark.proofs.Images.{follows_looser, comes_looser}
 use Rattle.s80_mark.proofs.Writes.{closes, is_closed}

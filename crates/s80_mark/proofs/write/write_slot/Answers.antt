@@ -2,7 +2,7 @@ use Rattle.std.proofs.Common.{◌≡◌, ◌≤◌, List, ℕ, length, ap, ◌�
 use Rattle.std.proofs.lemmas.Result.{on_ok_weaker}
 use Rattle.s80_disk.specs.declared.disk.FileId.TheVariants.{Mark}
 use Rattle.s80_disk.specs.Moments.{Beside, LeavesOnly, ComesFrom}
-use Rattle.s80_disk.proofs.Run.{weaker, joined}
+use Rattle.s80_disk.proofs.lemmas.Run.{weaker, joined}
 use Rattle.s80_mark.specs.Mark.{mark_behind}
 use Rattle.s80_mark.specs.Slots.{place_of}
 use Rattle.s80_mark.specs.Writes.{Fills}

@@ -2,8 +2,8 @@ use Rattle.std.proofs.Common.{◌≤◌, length, subst, sym}
 use Rattle.std.proofs.lemmas.Result.{IfOk-weaker}
 use Rattle.s80_tree.specs.Tree.{method_of}
 use Rattle.s80_scope.specs.declared.shape.Shape.{Shape}
-use Rattle.s80_agree.specs.Compiles.{Compiles}
-use Rattle.s80_class.proofs.Walks.{same_name}
+use Rattle.s80_compile.specs.Compiles.{Compiles}
+use Rattle.s80_class.proofs.lemmas.Walks.{same_name}
 use Rattle.s80_method.specs.Code.{IsMethodCode}
 use Rattle.s80_method.proofs.Fitting.{is_code}
 use Rattle.s80_method.proofs.code.compile_source.Goals as goal

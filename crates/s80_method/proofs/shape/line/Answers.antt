@@ -2,7 +2,7 @@ use Rattle.std.proofs.Common.{◌+◌, ◌∙◌, All, Some, ap, rules, subst, s
 use Rattle.std.proofs.lemmas.List.Elements.{All-push}
 use Rattle.s80_class.specs.Classes.{lineage}
 use Rattle.s80_class.specs.Table.{IsClass, IsSuperclass}
-use Rattle.s80_class.proofs.Walks.{left, left_none, left_end}
+use Rattle.s80_class.proofs.lemmas.Walks.{left, left_none, left_end}
 use Rattle.s80_method.proofs.Numbered.{starts, goes_up, ended, told}
 use Rattle.s80_method.proofs.shape.line.Goals as goal
 

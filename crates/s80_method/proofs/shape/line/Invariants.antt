@@ -2,7 +2,7 @@ use Rattle.std.proofs.Common.{◌≡◌, All, Some, map as list_map}
 use Rattle.std.specs.FinMap as map
 use Rattle.s80_class.specs.Classes.{Name, lineage}
 use Rattle.s80_class.specs.Table.{IsClass, IsNumberOf, IsSuperclass}
-use Rattle.s80_class.proofs.Walks.{left}
+use Rattle.s80_class.proofs.lemmas.Walks.{left}
 use Rattle.s80_method.proofs.Numbered.{told}
 use Rattle.s80_method.proofs.shape.line.Given as goal
 

@@ -1,5 +1,8 @@
-use Rattle.s80_model.proofs.Asking.{one_ask}
+use Rattle.s80_model.proofs.Asking.{all_ask_once, one_ask}
 use Rattle.s80_model.proofs.laws.one_ask.Goals as goal
 
-pub returns : goal.returns
-returns c = one_ask
+pub returns-clause-one : goal.returns-clause-one
+returns-clause-one c = one_ask c.a_doit_is_told_one_thing.ensures
+
+pub returns-clause-all : goal.returns-clause-all
+returns-clause-all c = all_ask_once c.a_doit_is_told_one_thing.ensures

@@ -1,6 +1,6 @@
 use Rattle.std.proofs.Common.{sym, subst}
 use Rattle.std.proofs.lemmas.Result.{IfOk-weaker}
-use Rattle.s80_grammar.specs.Faults.{IsDoItText}
+use Rattle.s80_syntax.specs.Faults.{IsDoItText}
 use Rattle.s80_syntax.specs.declared.fault.ParseFault.{ParseFault}
 use Rattle.s80_syntax.specs.Text.{IsFaultOf}
 use Rattle.s80_change.specs.declared.head.HeadFault.{HeadFault}

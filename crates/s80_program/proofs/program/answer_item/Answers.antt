@@ -1,6 +1,6 @@
 use Rattle.std.proofs.Common.{Bool}
 use Rattle.std.proofs.lemmas.Result.{err_from_is_err_and}
-use Rattle.s80_session.specs.Run.{shown}
+use Rattle.s80_session.specs.Session.{was_of}
 use Rattle.s80_program.specs.Leaves.{beginning}
 use Rattle.s80_program.proofs.Ends.{no_damage_err, item_counts, item_counts_err, item_counts_ok, item_done, item_ended}
 use Rattle.s80_program.proofs.program.answer_item.Goals as goal
@@ -8,11 +8,11 @@ use Rattle.s80_program.proofs.program.answer_item.Goals as goal
 pub returns-in_err-step-clause-worked : goal.returns-in_err-step-clause-worked
 returns-in_err-step-clause-worked g c = λ changes before calm at.
     let p = err_from_is_err_and c.from_residual.result c.from_residual.ensures.1 in
-    rw (p.1, p.2) (item_ended (Unit {0}) _ (g.O.Disk.may_leave c.step.new.outside) (shown g.O.Disk.tells g.O.Disk.reads g.O.Source.left g.O.Sink.taken g.O.Sink.told c.step.new.outside) _ _ changes c.args.item before (c.in_err-step.ensures.stepped (beginning changes) before c.requires.readable at))
+    rw (p.1, p.2) (item_ended (Unit {0}) _ (g.O.Disk.may_leave c.step.new.outside) (g.O.Outside.shown c.step.new.outside) _ (was_of c.args.session.now) changes c.args.item before (c.in_err-step.ensures.stepped (beginning changes) before c.requires.readable at))
 
 pub returns-clause-worked : goal.returns-clause-worked
 returns-clause-worked g c = λ changes before calm at.
-    rw c.troubled.ensures (item_done (g.O.Disk.may_leave c.step.new.outside) (shown g.O.Disk.tells g.O.Disk.reads g.O.Source.left g.O.Sink.taken g.O.Sink.told c.step.new.outside) _ _ changes c.args.item before (c.in_ok-step.ensures.stepped (beginning changes) before c.requires.readable at) calm)
+    rw c.troubled.ensures (item_done (g.O.Disk.may_leave c.step.new.outside) (g.O.Outside.shown c.step.new.outside) _ (was_of c.args.session.now) changes c.args.item before (c.in_ok-step.ensures.stepped (beginning changes) before c.requires.readable at) calm)
 
 pub returns-clause-any_moment : goal.returns-clause-any_moment
 returns-clause-any_moment g c = λ changes before at. c.step.ensures.any_moment (beginning changes) before c.requires.readable at

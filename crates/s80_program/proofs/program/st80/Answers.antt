@@ -1,7 +1,6 @@
 use Rattle.std.proofs.Common.{List, ℕ, sym, subst, ◌∙◌}
 use Rattle.s80_change.specs.declared.change.Change.{Change}
 use Rattle.s80_disk.specs.Moments.{LeavesOnly}
-use Rattle.s80_session.specs.Run.{shown}
 use Rattle.s80_program.specs.Command.{Command, item_for}
 use Rattle.s80_program.specs.Ending.{status_after}
 use Rattle.s80_program.specs.Leaves.{StartsWith, Leaves, CommandKeeps}
@@ -13,9 +12,9 @@ use Rattle.s80_program.proofs.program.st80.Goals as goal
 use Rattle.s80_program.proofs.program.st80.Goals.{After-work}
 
 -- what the words ask for is done
-done : (g : _) (c : After-work g) (folder : List ℕ) (command : Command) (changes : List Change) (input before : List ℕ) → Asks c.args.words.now folder command → StartsWith (g.O.Disk.may_leave c.args.outside.now) (shown g.O.Disk.tells g.O.Disk.reads g.O.Source.left g.O.Sink.taken g.O.Sink.told c.args.outside.now) changes input before → Leaves command (status_after c.work.result) (g.O.Disk.may_leave c.work.new.outside) (shown g.O.Disk.tells g.O.Disk.reads g.O.Source.left g.O.Sink.taken g.O.Sink.told c.work.new.outside) changes input before
+done : (g : _) (c : After-work g) (folder : List ℕ) (command : Command) (changes : List Change) (input before : List ℕ) → Asks c.args.words.now folder command → StartsWith (g.O.Disk.may_leave c.args.outside.now) (g.O.Outside.shown c.args.outside.now) changes input before → Leaves command (status_after c.work.result) (g.O.Disk.may_leave c.work.new.outside) (g.O.Outside.shown c.work.new.outside) changes input before
 done g c folder command changes input before asked start =
-    let P : Command → Type 0 = λ k. Leaves k (status_after c.work.result) (g.O.Disk.may_leave c.work.new.outside) (shown g.O.Disk.tells g.O.Disk.reads g.O.Source.left g.O.Sink.taken g.O.Sink.told c.work.new.outside) changes input before in
+    let P : Command → Type 0 = λ k. Leaves k (status_after c.work.result) (g.O.Disk.may_leave c.work.new.outside) (g.O.Outside.shown c.work.new.outside) changes input before in
     subst P (sym (one_command _ folder _ command (command_of c.in-Some.request.task) asked c.in-Some.ensures.found)) (c.work.ensures.worked changes input before start)
 
 pub returns-in-Some-clause-leaves : goal.returns-in-Some-clause-leaves
@@ -29,11 +28,11 @@ returns-in-Some-clause-any_moment g c = λ folder command changes input before a
 
 pub returns-in-Some-clause-front : goal.returns-in-Some-clause-front
 returns-in-Some-clause-front g c = λ folder command changes input before asks asked start all.
-    front_of (item_for command) (status_after c.work.result) (g.O.Disk.may_leave c.work.new.outside) (shown g.O.Disk.tells g.O.Disk.reads g.O.Source.left g.O.Sink.taken g.O.Sink.told c.work.new.outside) changes input before asks (done g (goal.at.returns-in-Some-clause-front g c).After-work folder command changes input before asked start) all
+    front_of c.one_ask.ensures.one (item_for command) (status_after c.work.result) (g.O.Disk.may_leave c.work.new.outside) (g.O.Outside.shown c.work.new.outside) changes input before asks (done g (goal.at.returns-in-Some-clause-front g c).After-work folder command changes input before asked start) all
 
 pub returns-in-Some-clause-complete : goal.returns-in-Some-clause-complete
 returns-in-Some-clause-complete g c = λ folder command changes input before asked start within none.
-    rw c.status_of.ensures (whole_without_fault command (status_after c.work.result) _ _ (g.O.Disk.may_leave c.work.new.outside) (shown g.O.Disk.tells g.O.Disk.reads g.O.Source.left g.O.Sink.taken g.O.Sink.told c.work.new.outside) changes input before (done g (goal.at.returns-in-Some-clause-complete g c).After-work folder command changes input before asked start) c.work.ensures.reason none within)
+    rw c.status_of.ensures (whole_without_fault command (status_after c.work.result) _ _ (g.O.Disk.may_leave c.work.new.outside) (g.O.Outside.shown c.work.new.outside) changes input before (done g (goal.at.returns-in-Some-clause-complete g c).After-work folder command changes input before asked start) c.work.ensures.reason none within)
 
 pub returns-in-Some-clause-usage : goal.returns-in-Some-clause-usage
 returns-in-Some-clause-usage g c = λ is. absurd (c.work.ensures.useful (sym c.status_of.ensures ∙ is))

@@ -1,18 +1,18 @@
-use Rattle.std.proofs.Common.{List, ℕ, ap, sym, subst, ◌∙◌}
+use Rattle.std.proofs.Common.{List, ℕ, ap, refl, sym, subst, ◌∙◌}
 use Rattle.std.proofs.lemmas.Result.{err_from_is_err_and}
 use Rattle.s80_change.specs.declared.change.Change.{Change}
 use Rattle.s80_disk.specs.Image.{Image}
 use Rattle.s80_disk.specs.Moments.{LeavesOnly}
+use Rattle.s80_disk.specs.Shown.{Shown}
 use Rattle.s80_keeper.specs.declared.start.Damage.{Damage}
 use Rattle.s80_keeper.specs.Standing.{StandsFor}
 use Rattle.s80_keeper.specs.Start.{IsDamage}
-use Rattle.s80_keeper.proofs.Damages.{damaged_has_log, no_list}
-use Rattle.s80_session.specs.Run.{Shown, shown}
-use Rattle.s80_program.specs.Command.{item_for}
+use Rattle.s80_keeper.proofs.lemmas.Damages.{damaged_has_log, no_list}
+use Rattle.s80_program.specs.Command.{default_settings, item_for}
 use Rattle.s80_program.specs.Leaves.{StartsWith, KeepsFor}
 use Rattle.s80_program.specs.Task.{command_of}
-use Rattle.s80_program.proofs.Beginning.{starts_on, stands_on, lost_at_start, no_session, chosen, goes_on, session_begins, damaged_lasts, tells_damage, damage_found, knows_on, shown_but_files, shown_through}
-use Rattle.s80_program.proofs.Ends.{reason_err, later_reason, starts_reason, undamaged, never_usage, disk_undamaged, disk_tells, no_fewer}
+use Rattle.s80_program.proofs.Beginning.{starts_on, stands_on, lost_at_start, no_session, chosen, goes_on, session_begins, damaged_lasts, tells_damage, damage_found, knows_on, unchanged}
+use Rattle.s80_program.proofs.Ends.{reason_err, later_reason, starts_reason, undamaged, never_usage, disk_undamaged, disk_tells}
 use Rattle.s80_program.proofs.program.work.Goals as goal
 use Rattle.s80_program.proofs.program.work.Goals.{After-open_folder, After-start}
 
@@ -20,10 +20,10 @@ pub returns-in_err-open_folder-clause-worked : goal.returns-in_err-open_folder-c
 returns-in_err-open_folder-clause-worked g c = λ changes input before start.
     let p = err_from_is_err_and c.from_residual.result c.from_residual.ensures.1 in
     let same = c.open_folder.ensures.shown in
-    rw (p.1, p.2) (lost_at_start (item_for (command_of c.args.task)) _ (g.O.Disk.may_leave c.open_folder.new.outside) (shown g.O.Disk.tells g.O.Disk.reads g.O.Source.left g.O.Sink.taken g.O.Sink.told c.open_folder.new.outside) changes input before c.in_err-open_folder.ensures.disk (ap (λ (o : Shown). o.left) same ∙ start.left) (ap (λ (o : Shown). o.taken) same ∙ start.taken))
+    rw (p.1, p.2) (lost_at_start (item_for (command_of c.args.task)) _ (g.O.Disk.may_leave c.open_folder.new.outside) (g.O.Outside.shown c.open_folder.new.outside) changes input before c.in_err-open_folder.ensures.disk (ap (λ (o : Shown). o.left) same ∙ start.left) (ap (λ (o : Shown). o.taken) same ∙ start.taken))
 
 -- the folder is chosen
-opened : (g : _) (c : After-open_folder g) (changes : List Change) (input before : List ℕ) → StartsWith (g.O.Disk.may_leave c.args.outside.now) (shown g.O.Disk.tells g.O.Disk.reads g.O.Source.left g.O.Sink.taken g.O.Sink.told c.args.outside.now) changes input before → StandsFor (g.O.Disk.tells c.args.outside.now) (g.O.Disk.reads c.args.outside.now) (g.O.Disk.may_leave c.args.outside.now) changes → LeavesOnly g.O.Disk.moment g.O.Disk.left_since c.args.outside.now c.open_folder.new.outside (KeepsFor (item_for (command_of c.args.task)) changes input before)
+opened : (g : _) (c : After-open_folder g) (changes : List Change) (input before : List ℕ) → StartsWith (g.O.Disk.may_leave c.args.outside.now) (g.O.Outside.shown c.args.outside.now) changes input before → StandsFor (g.O.Outside.shown c.args.outside.now).tells (g.O.Outside.shown c.args.outside.now).files (g.O.Disk.may_leave c.args.outside.now) changes → LeavesOnly g.O.Disk.moment g.O.Disk.left_since c.args.outside.now c.open_folder.new.outside (KeepsFor (item_for (command_of c.args.task)) changes input before)
 opened g c changes input before start stands = chosen g.O.Disk.moment g.O.Disk.left_since (item_for (command_of c.args.task)) changes input before _ _ _ _ c.args.outside.now c.open_folder.new.outside stands start.told c.open_folder.ensures.any_moment
 
 pub returns-in_err-open_folder-clause-any_moment : goal.returns-in_err-open_folder-clause-any_moment
@@ -38,7 +38,7 @@ pub returns-in_err-open_folder-clause-damaged : goal.returns-in_err-open_folder-
 returns-in_err-open_folder-clause-damaged g c = λ damage tells h.
     let p = err_from_is_err_and c.from_residual.result c.from_residual.ensures.1 in
     let same = c.open_folder.ensures.shown in
-    (rw (p.1, p.2) (disk_tells _ c.in_err-open_folder.ensures.disk), shown_but_files (shown g.O.Disk.tells g.O.Disk.reads g.O.Source.left g.O.Sink.taken g.O.Sink.told c.args.outside.now) (shown g.O.Disk.tells g.O.Disk.reads g.O.Source.left g.O.Sink.taken g.O.Sink.told c.open_folder.new.outside) same, λ file. ap (λ (o : Shown). o.files file) same, c.open_folder.ensures.any_moment)
+    (rw (p.1, p.2) (disk_tells _ c.in_err-open_folder.ensures.disk), same, c.open_folder.ensures.any_moment)
 
 pub returns-in_err-open_folder-clause-reason : goal.returns-in_err-open_folder-clause-reason
 returns-in_err-open_folder-clause-reason g c =
@@ -50,21 +50,21 @@ returns-in_err-open_folder-clause-useful g c = never_usage _
 
 -- a session starts in it
 module _ (g : _) (c : After-start g) where
-  starts_mid : (changes : List Change) (input before : List ℕ) → StartsWith (g.O.Disk.may_leave c.args.outside.now) (shown g.O.Disk.tells g.O.Disk.reads g.O.Source.left g.O.Sink.taken g.O.Sink.told c.args.outside.now) changes input before → StartsWith (g.O.Disk.may_leave c.open_folder.new.outside) (shown g.O.Disk.tells g.O.Disk.reads g.O.Source.left g.O.Sink.taken g.O.Sink.told c.open_folder.new.outside) changes input before
-  starts_mid changes input before start = starts_on (shown g.O.Disk.tells g.O.Disk.reads g.O.Source.left g.O.Sink.taken g.O.Sink.told c.args.outside.now) (shown g.O.Disk.tells g.O.Disk.reads g.O.Source.left g.O.Sink.taken g.O.Sink.told c.open_folder.new.outside) c.open_folder.ensures.shown (g.O.Disk.may_leave c.args.outside.now) (g.O.Disk.may_leave c.open_folder.new.outside) c.open_folder.ensures.images changes input before start
+  starts_mid : (changes : List Change) (input before : List ℕ) → StartsWith (g.O.Disk.may_leave c.args.outside.now) (g.O.Outside.shown c.args.outside.now) changes input before → StartsWith (g.O.Disk.may_leave c.open_folder.new.outside) (g.O.Outside.shown c.open_folder.new.outside) changes input before
+  starts_mid changes input before start = starts_on (g.O.Outside.shown c.args.outside.now) (g.O.Outside.shown c.open_folder.new.outside) c.open_folder.ensures.shown (g.O.Disk.may_leave c.args.outside.now) (g.O.Disk.may_leave c.open_folder.new.outside) c.open_folder.ensures.images changes input before start
 
-  started : (changes : List Change) (input before : List ℕ) → StartsWith (g.O.Disk.may_leave c.args.outside.now) (shown g.O.Disk.tells g.O.Disk.reads g.O.Source.left g.O.Sink.taken g.O.Sink.told c.args.outside.now) changes input before → StandsFor (g.O.Disk.tells c.args.outside.now) (g.O.Disk.reads c.args.outside.now) (g.O.Disk.may_leave c.args.outside.now) changes → LeavesOnly g.O.Disk.moment g.O.Disk.left_since c.args.outside.now c.start.new.outside (KeepsFor (item_for (command_of c.args.task)) changes input before)
+  started : (changes : List Change) (input before : List ℕ) → StartsWith (g.O.Disk.may_leave c.args.outside.now) (g.O.Outside.shown c.args.outside.now) changes input before → StandsFor (g.O.Outside.shown c.args.outside.now).tells (g.O.Outside.shown c.args.outside.now).files (g.O.Disk.may_leave c.args.outside.now) changes → LeavesOnly g.O.Disk.moment g.O.Disk.left_since c.args.outside.now c.start.new.outside (KeepsFor (item_for (command_of c.args.task)) changes input before)
   started changes input before start stands =
       goes_on g.O.Disk.moment g.O.Disk.left_since (item_for (command_of c.args.task)) changes input before c.args.outside.now c.open_folder.new.outside c.start.new.outside
       (chosen g.O.Disk.moment g.O.Disk.left_since (item_for (command_of c.args.task)) changes input before _ _ _ _ c.args.outside.now c.open_folder.new.outside stands start.told c.open_folder.ensures.any_moment)
-      (session_begins g.O.Disk.moment g.O.Disk.left_since (item_for (command_of c.args.task)) changes input before _ c.open_folder.new.outside c.start.new.outside (starts_mid changes input before start).told (c.start.ensures.any_moment changes (stands_on (shown g.O.Disk.tells g.O.Disk.reads g.O.Source.left g.O.Sink.taken g.O.Sink.told c.args.outside.now) (shown g.O.Disk.tells g.O.Disk.reads g.O.Source.left g.O.Sink.taken g.O.Sink.told c.open_folder.new.outside) c.open_folder.ensures.shown (g.O.Disk.may_leave c.args.outside.now) (g.O.Disk.may_leave c.open_folder.new.outside) c.open_folder.ensures.images changes stands)))
+      (session_begins g.O.Disk.moment g.O.Disk.left_since (item_for (command_of c.args.task)) changes input before _ c.open_folder.new.outside c.start.new.outside (starts_mid changes input before start).told (c.start.ensures.any_moment changes (stands_on (g.O.Outside.shown c.args.outside.now) (g.O.Outside.shown c.open_folder.new.outside) c.open_folder.ensures.shown (g.O.Disk.may_leave c.args.outside.now) (g.O.Disk.may_leave c.open_folder.new.outside) c.open_folder.ensures.images changes stands)))
 
 pub returns-in_err-session-clause-worked : goal.returns-in_err-session-clause-worked
 returns-in_err-session-clause-worked g c = λ changes input before start.
     let p = err_from_is_err_and c.from_residual-in_err-session.result c.from_residual-in_err-session.ensures.1 in
     let at = starts_mid g (goal.at.returns-in_err-session-clause-worked g c).After-start changes input before start in
     let same = c.start.ensures.shown in
-    rw (p.1, p.2) (no_session (item_for (command_of c.args.task)) _ (g.O.Disk.may_leave c.start.new.outside) (shown g.O.Disk.tells g.O.Disk.reads g.O.Source.left g.O.Sink.taken g.O.Sink.told c.start.new.outside) changes input before (c.in_err-session.ensures.started changes before at.reads at.taken at.told) (ap (λ (o : Shown). o.left) same ∙ at.left) (ap (λ (o : Shown). o.taken) same ∙ at.taken))
+    rw (p.1, p.2) (no_session (item_for (command_of c.args.task)) _ (g.O.Disk.may_leave c.start.new.outside) (g.O.Outside.shown c.start.new.outside) changes input before (c.in_err-session.ensures.started default_settings changes before refl at.reads at.taken at.told) (ap (λ (o : Shown). o.left) same ∙ at.left) (ap (λ (o : Shown). o.taken) same ∙ at.taken))
 
 pub returns-in_err-session-clause-any_moment : goal.returns-in_err-session-clause-any_moment
 returns-in_err-session-clause-any_moment g c = started g (goal.at.returns-in_err-session-clause-any_moment g c).After-start
@@ -74,7 +74,7 @@ returns-in_err-session-clause-found g c = λ is tells.
     let p = err_from_is_err_and c.from_residual-in_err-session.result c.from_residual-in_err-session.ensures.1 in
     let same = c.open_folder.ensures.shown in
     let P : Image → Type 0 = λ files. (damage : Damage) × IsDamage files damage in
-    subst P (ap (λ (o : Shown). o.files) same) (damage_found (g.O.Disk.reads c.open_folder.new.outside) c.in_err-session.field-0.0 (rw (p.1, p.2) at is) (c.in_err-session.ensures.answer (ap (λ (o : Shown). o.tells) same ∙ tells)))
+    subst P (ap (λ (o : Shown). o.files) same) (damage_found (g.O.Outside.shown c.open_folder.new.outside).files c.in_err-session.field-0.0 (rw (p.1, p.2) at is) (c.in_err-session.ensures.answer (ap (λ (o : Shown). o.tells) same ∙ tells)))
 
 pub returns-in_err-session-clause-damaged : goal.returns-in_err-session-clause-damaged
 returns-in_err-session-clause-damaged g c = λ damage tells h.
@@ -83,12 +83,12 @@ returns-in_err-session-clause-damaged g c = λ damage tells h.
     let told = ap (λ (o : Shown). o.tells) same ∙ tells in
     let P : Image → Type 0 = λ files. IsDamage files damage in
     let damaged = subst P (sym (ap (λ (o : Shown). o.files) same)) h in
-    (rw (p.1, p.2) (tells_damage (g.O.Disk.reads c.open_folder.new.outside) c.in_err-session.field-0.0 (c.in_err-session.ensures.answer told)), shown_through (shown g.O.Disk.tells g.O.Disk.reads g.O.Source.left g.O.Sink.taken g.O.Sink.told c.args.outside.now) (shown g.O.Disk.tells g.O.Disk.reads g.O.Source.left g.O.Sink.taken g.O.Sink.told c.open_folder.new.outside) (shown g.O.Disk.tells g.O.Disk.reads g.O.Source.left g.O.Sink.taken g.O.Sink.told c.start.new.outside) same c.start.ensures.shown, λ file. c.start.ensures.untouched told (damaged_has_log (g.O.Disk.reads c.open_folder.new.outside) damage damaged) file ∙ ap (λ (o : Shown). o.files file) same, damaged_lasts g.O.Disk.moment g.O.Disk.left_since (g.O.Disk.reads c.open_folder.new.outside) damage _ (g.O.Disk.may_leave c.open_folder.new.outside) _ _ c.args.outside.now c.open_folder.new.outside c.start.new.outside damaged c.open_folder.ensures.images (ap (λ (o : Shown). o.told) same) c.open_folder.ensures.any_moment (c.start.ensures.leaves told))
+    (rw (p.1, p.2) (tells_damage (g.O.Outside.shown c.open_folder.new.outside).files c.in_err-session.field-0.0 (c.in_err-session.ensures.answer told)), unchanged (g.O.Outside.shown c.args.outside.now) (g.O.Outside.shown c.open_folder.new.outside) (g.O.Outside.shown c.start.new.outside) same c.start.ensures.shown (c.start.ensures.untouched told (damaged_has_log (g.O.Outside.shown c.open_folder.new.outside).files damage damaged)), damaged_lasts g.O.Disk.moment g.O.Disk.left_since (g.O.Outside.shown c.open_folder.new.outside).files damage _ (g.O.Disk.may_leave c.open_folder.new.outside) _ _ c.args.outside.now c.open_folder.new.outside c.start.new.outside damaged c.open_folder.ensures.images (ap (λ (o : Shown). o.told) same) c.open_folder.ensures.any_moment (c.start.ensures.leaves told))
 
 pub returns-in_err-session-clause-reason : goal.returns-in_err-session-clause-reason
 returns-in_err-session-clause-reason g c =
     let p = err_from_is_err_and c.from_residual-in_err-session.result c.from_residual-in_err-session.ensures.1 in
-    rw (p.1, p.2) (starts_reason _ _ _ _ c.open_folder.ensures.counts.later c.in_err-session.ensures.reason)
+    rw (p.1, p.2) (starts_reason _ _ _ _ c.in_ok-open_folder.ensures.counts.reason c.in_err-session.ensures.reason)
 
 pub returns-in_err-session-clause-useful : goal.returns-in_err-session-clause-useful
 returns-in_err-session-clause-useful g c = never_usage _
@@ -97,7 +97,7 @@ pub returns-clause-worked : goal.returns-clause-worked
 returns-clause-worked g c = λ changes input before start.
     let at = starts_mid g (goal.at.returns-clause-worked g c).After-start changes input before start in
     let same = c.start.ensures.shown in
-    c.do_task.ensures.worked changes input before (ap (λ (o : Shown). o.left) same ∙ at.left) c.in_ok-session.ensures.untroubled (c.in_ok-session.ensures.started changes before at.reads at.taken at.told)
+    c.do_task.ensures.worked changes input before (ap (λ (o : Shown). o.left) same ∙ at.left) c.in_ok-session.ensures.untroubled c.in_ok-session.ensures.begun.last_run (c.in_ok-session.ensures.started default_settings changes before refl at.reads at.taken at.told)
 
 pub returns-clause-any_moment : goal.returns-clause-any_moment
 returns-clause-any_moment g c = λ changes input before start stands.
@@ -105,15 +105,14 @@ returns-clause-any_moment g c = λ changes input before start stands.
     let at = starts_mid g after changes input before start in
     let same = c.start.ensures.shown in
     goes_on g.O.Disk.moment g.O.Disk.left_since (item_for (command_of c.args.task)) changes input before c.args.outside.now c.start.new.outside c.do_task.new.outside (started g after changes input before start stands)
-    (c.do_task.ensures.any_moment changes input before (ap (λ (o : Shown). o.left) same ∙ at.left) (c.in_ok-session.ensures.started changes before at.reads at.taken at.told))
+    (c.do_task.ensures.any_moment changes input before (ap (λ (o : Shown). o.left) same ∙ at.left) (c.in_ok-session.ensures.started default_settings changes before refl at.reads at.taken at.told))
 
 pub returns-clause-found : goal.returns-clause-found
 returns-clause-found g c = λ is tells.
-    let O = g.O in
     let chosen = c.open_folder.ensures.shown in
     let begins = c.in_ok-session in
     let found = begins.ensures.answer (ap (λ (o : Shown). o.tells) chosen ∙ tells) in
-    let knows = knows_on (O.Disk.reads c.open_folder.new.outside) (O.Disk.reads c.start.new.outside) _ found.0 c.start.ensures.others found.2 in
+    let knows = knows_on (g.O.Outside.shown c.open_folder.new.outside).files (g.O.Outside.shown c.start.new.outside).files _ found.0 c.start.ensures.others found.2 in
     absurd (undamaged c.do_task.result (c.do_task.ensures.sound (ap (λ (o : Shown). o.tells) c.start.ensures.shown ∙ ap (λ (o : Shown). o.tells) chosen ∙ tells) found.0 knows) is)
 
 pub returns-clause-damaged : goal.returns-clause-damaged
@@ -121,10 +120,10 @@ returns-clause-damaged g c = λ damage tells h.
     let same = c.open_folder.ensures.shown in
     let P : Image → Type 0 = λ files. IsDamage files damage in
     let found = c.in_ok-session.ensures.answer (ap (λ (o : Shown). o.tells) same ∙ tells) in
-    absurd (no_list (g.O.Disk.reads c.open_folder.new.outside) damage found.0 (subst P (sym (ap (λ (o : Shown). o.files) same)) h) found.1)
+    absurd (no_list (g.O.Outside.shown c.open_folder.new.outside).files damage found.0 (subst P (sym (ap (λ (o : Shown). o.files) same)) h) found.1)
 
 pub returns-clause-reason : goal.returns-clause-reason
-returns-clause-reason g c = later_reason c.do_task.result _ _ _ (no_fewer _ _ _ c.open_folder.ensures.counts.later c.start.ensures.later) c.do_task.ensures.counts.reason
+returns-clause-reason g c = later_reason c.do_task.result _ _ _ (c.in_ok-session.ensures.reason ∙ c.in_ok-open_folder.ensures.counts.reason) c.do_task.ensures.counts.reason
 
 pub returns-clause-useful : goal.returns-clause-useful
 returns-clause-useful g c = never_usage _

@@ -6,7 +6,7 @@ use Rattle.std.proofs.lemmas.Iterator.Consumers.{count_from_yields_List}
 use Rattle.std.proofs.lemmas.Iterator.Search.{YieldsList-from_take_while}
 use Rattle.std.proofs.lemmas.List.{take_rest}
 use Rattle.std.proofs.lemmas.List.Folds.{length-prefix_len}
-use Rattle.s80_chunk.specs.Chunks.{is_separator}
+use Rattle.s80_base.specs.Byte.{is_separator}
 use Rattle.s80_program.specs.Command.{behind_separators}
 use Rattle.s80_program.proofs.words.behind_separators.Goals as goal
 use Rattle.s80_program.proofs.words.behind_separators.Goals.{After-count-count}

@@ -4,7 +4,8 @@ use Rattle.s80_tree.specs.Tree.{block_of, body_of, expr_of, exprs_of, messages_o
 use Rattle.s80_tree.specs.declared.expr.Block.{out-Block}
 use Rattle.s80_tree.specs.declared.expr.Expr.{out-Expr}
 use Rattle.s80_scope.proofs.Loops.{body_breaks, body_steps, body_room, body_ends, messages_break, messages_step, messages_room, messages_end, exprs_break, exprs_step, exprs_room, exprs_end}
-use Rattle.s80_scope.proofs.Parts.{block_open, targets_open}
+use Rattle.s80_tree.proofs.lemmas.Opens.{block_open}
+use Rattle.s80_scope.proofs.Parts.{targets_open}
 use Rattle.s80_scope.proofs.Whole.{target_found, receiver_found, message_found, after_messages, block_found, block_passed}
 use Rattle.s80_scope.proofs.names.+walk.Goals as goal
 

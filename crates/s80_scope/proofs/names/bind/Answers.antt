@@ -2,7 +2,7 @@ use Rattle.std.proofs.Common.{arith}
 use Rattle.s80_tree.specs.Tree.{method_of}
 use Rattle.s80_scope.specs.Names.{is_at, uses_of}
 use Rattle.s80_scope.proofs.Meant.{found_means}
-use Rattle.s80_scope.proofs.Places.{counted_none}
+use Rattle.s80_scope.proofs.lemmas.Places.{counted_none}
 use Rattle.s80_scope.proofs.names.bind.Goals as goal
 
 pub unreachable-requires : goal.unreachable-requires

@@ -1,5 +1,5 @@
 use Rattle.s80_scope.specs.Names.{is_at}
-use Rattle.s80_scope.proofs.Places.{none_more}
+use Rattle.s80_scope.proofs.lemmas.Places.{none_more}
 use Rattle.s80_scope.proofs.Loops.{name_found}
 use Rattle.s80_scope.proofs.names.in_names.Goals as goal
 

@@ -1,7 +1,7 @@
 use Rattle.std.proofs.Common.{◌<◌, length, ap, sym, ◌∙◌, arith}
 use Rattle.std.specs.Str.{bytes_eq}
 use Rattle.std.proofs.lemmas.Option.{get_or_from_slice_get}
-use Rattle.s80_scope.proofs.Places.{place_found, place_kept}
+use Rattle.s80_scope.proofs.lemmas.Places.{place_found, place_kept}
 use Rattle.s80_scope.proofs.names.last_variable.Goals.{then-eq, else-eq}
 use Rattle.s80_scope.proofs.names.last_variable.Goals as goal
 

@@ -1,6 +1,6 @@
 use Rattle.std.proofs.Common.{◌<◌, length, sym, rules}
 use Rattle.std.specs.Str.{bytes_eq}
-use Rattle.s80_scope.proofs.Places.{last_place_below}
+use Rattle.s80_scope.proofs.lemmas.Places.{last_place_below}
 use Rattle.s80_scope.proofs.names.meaning.Goals as goal
 
 pub overflow_cast-result : goal.overflow_cast-result

@@ -1,7 +1,7 @@
 use Rattle.std.proofs.Common.{◌<◌, length, Some, None, cond, ap, sym, ◌∙◌, arith}
 use Rattle.std.specs.Str.{bytes_eq}
 use Rattle.std.proofs.lemmas.Option.{get_or_from_slice_get}
-use Rattle.s80_scope.proofs.Places.{first_found, none_more}
+use Rattle.s80_scope.proofs.lemmas.Places.{first_found, none_more}
 use Rattle.s80_scope.proofs.names.nearest.Goals as goal
 
 pub returns-then-eq : goal.returns-then-eq

@@ -4,7 +4,7 @@ use Rattle.s80_session.proofs.outside.put_all.Given as goal
 
 abbrev pub invariant-loop-rest : goal.invariant-loop-rest
 invariant-loop-rest g l =
-    UnderWay g.O.Disk.tells g.O.Disk.reads g.O.Disk.may_leave g.O.Disk.moment g.O.Disk.left_since g.O.Disk.disk_faults g.O.Disk.beside g.O.Sink.taken g.O.Sink.told g.O.Sink.write_faults l.fn.outside l.outside l.piece l.rest
+    UnderWay g.O.Disk.may_leave g.O.Disk.moment g.O.Disk.left_since g.O.Outside.shown g.O.Outside.faults l.fn.outside l.outside l.piece l.rest
 
 abbrev pub decreases-loop-rest : goal.decreases-loop-rest
 decreases-loop-rest g l = length l.rest

@@ -1,8 +1,8 @@
 use Rattle.std.proofs.Common.{subst, MatchBool, sym, ap, refl, ◌∙◌, ◌++◌, ◌∷◌, [], arith, true}
 use Rattle.std.proofs.lemmas.Result.{err_from_is_err_and}
 use Rattle.s80_tree.specs.Tree.{body_of, expr_of, paren}
-use Rattle.s80_grammar.specs.Grammar.{IsBody}
-use Rattle.s80_grammar.specs.Stack.{body as body_symbol}
+use Rattle.s80_syntax.specs.Grammar.{IsBody}
+use Rattle.s80_syntax.specs.Stack.{body as body_symbol}
 use Rattle.s80_syntax.specs.Reads.{Parses}
 use Rattle.s80_syntax.specs.Expr.{MessageNext, NoMessage}
 use Rattle.s80_syntax.proofs.NextToken.{tail_slices, tail_smaller}

@@ -1,7 +1,7 @@
 use Rattle.std.proofs.Common.{◌≡◌, ◌≤◌, ◌+◌, ◌*◌, ◌∷◌, length, true}
-use Rattle.s80_grammar.specs.Grammar.{IsBody, IsCascade, AreParts}
-use Rattle.s80_grammar.specs.Lexeme.{Lexemes, lexemes}
-use Rattle.s80_grammar.specs.Stack.{Stack, run, unary_tail, binary_tail, keyword_tail, cascade, body as body_symbol}
+use Rattle.s80_syntax.specs.Grammar.{IsBody, IsCascade, AreParts}
+use Rattle.s80_syntax.specs.Lexeme.{Lexemes, lexemes}
+use Rattle.s80_syntax.specs.Stack.{Stack, run, unary_tail, binary_tail, keyword_tail, cascade, body as body_symbol}
 use Rattle.s80_tree.specs.Tree.{BodyTree, MessageTrees, body_of, exprs_of, messages_of, body_append, messages_append}
 use Rattle.s80_syntax.specs.Expr.{AreBinary}
 use Rattle.s80_syntax.specs.Reads.{AreSlices, Stands}

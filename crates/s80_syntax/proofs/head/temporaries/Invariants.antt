@@ -1,8 +1,8 @@
 use Rattle.std.proofs.Common.{◌≡◌, ◌∷◌, [], Bool, length, true}
-use Rattle.s80_grammar.specs.Grammar.{AreDeclared}
-use Rattle.s80_grammar.specs.Lexeme.{lexemes}
-use Rattle.s80_grammar.specs.Stack.{run, temporaries}
-use Rattle.s80_grammar.specs.Word.{Names, names_in}
+use Rattle.s80_syntax.specs.Grammar.{AreDeclared}
+use Rattle.s80_syntax.specs.Lexeme.{lexemes}
+use Rattle.s80_syntax.specs.Stack.{run, temporaries}
+use Rattle.s80_syntax.specs.Word.{Names, names_in}
 use Rattle.s80_tree.specs.Name.{names_of}
 use Rattle.s80_syntax.specs.Reads.{AreSlices}
 use Rattle.s80_syntax.proofs.head.temporaries.Given as goal

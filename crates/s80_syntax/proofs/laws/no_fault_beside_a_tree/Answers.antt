@@ -1,4 +1,4 @@
-use Rattle.s80_syntax.proofs.OneReading.{method_only_memory, doit_only_memory}
+use Rattle.s80_syntax.proofs.lemmas.OneReading.{method_only_memory, doit_only_memory}
 use Rattle.s80_syntax.proofs.laws.no_fault_beside_a_tree.Goals as goal
 
 pub returns-clause-method : goal.returns-clause-method

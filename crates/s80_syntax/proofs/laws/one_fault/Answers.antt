@@ -1,5 +1,5 @@
-use Rattle.s80_grammar.specs.Faults.{IsMethodText, IsDoItText}
-use Rattle.s80_syntax.proofs.OneReading.{one_fault_of}
+use Rattle.s80_syntax.specs.Faults.{IsMethodText, IsDoItText}
+use Rattle.s80_syntax.proofs.lemmas.OneReading.{one_fault_of}
 use Rattle.s80_syntax.proofs.laws.one_fault.Goals as goal
 
 pub returns-clause-method : goal.returns-clause-method

@@ -1,4 +1,4 @@
-use Rattle.s80_syntax.proofs.OneReading.{one_method_of, one_doit_of}
+use Rattle.s80_syntax.proofs.lemmas.OneReading.{one_method_of, one_doit_of}
 use Rattle.s80_syntax.proofs.laws.one_tree.Goals as goal
 
 pub returns-clause-method : goal.returns-clause-method

@@ -1,8 +1,8 @@
 use Rattle.std.proofs.Common.{◌≡◌, ◌≤◌, ◌+◌, ◌*◌, ◌∷◌, length, true}
 use Rattle.s80_base.specs.Literal.{LiteralTrees, literals_of, literals_append}
-use Rattle.s80_grammar.specs.Grammar.{AreElements}
-use Rattle.s80_grammar.specs.Lexeme.{Lexemes, lexemes}
-use Rattle.s80_grammar.specs.Stack.{Stack, run, level, elements}
+use Rattle.s80_syntax.specs.Grammar.{AreElements}
+use Rattle.s80_syntax.specs.Lexeme.{Lexemes, lexemes}
+use Rattle.s80_syntax.specs.Stack.{Stack, run, level, elements}
 use Rattle.s80_syntax.specs.Reads.{AreSlices}
 use Rattle.s80_syntax.proofs.literal.+array.Given as goal
 

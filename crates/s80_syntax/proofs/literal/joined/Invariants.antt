@@ -1,6 +1,6 @@
 use Rattle.std.proofs.Common.{◌≤◌, ℕ, List, ◌++◌, length}
-use Rattle.s80_grammar.specs.Grammar.{AreJoined}
-use Rattle.s80_grammar.specs.Lexeme.{Lexemes, lexemes}
+use Rattle.s80_syntax.specs.Grammar.{AreJoined}
+use Rattle.s80_syntax.specs.Lexeme.{Lexemes, lexemes}
 use Rattle.s80_syntax.specs.Literal.{KeywordNext}
 use Rattle.s80_syntax.specs.Reads.{AreSlices}
 use Rattle.s80_syntax.proofs.literal.joined.Given as goal

@@ -1,6 +1,6 @@
 use Rattle.std.proofs.Common.{◌≡◌, ◌≤◌, ℕ, ◌∷◌, length, true}
-use Rattle.s80_grammar.specs.Lexeme.{lexemes}
-use Rattle.s80_grammar.specs.Stack.{Stack, run, unary_tail}
+use Rattle.s80_syntax.specs.Lexeme.{lexemes}
+use Rattle.s80_syntax.specs.Stack.{Stack, run, unary_tail}
 use Rattle.s80_tree.specs.Tree.{messages_of}
 use Rattle.s80_syntax.specs.Expr.{GoesOn}
 use Rattle.s80_syntax.specs.Reads.{AreSlices}

@@ -1,7 +1,7 @@
 use Rattle.std.proofs.Common.{subst, ◌∷◌, []}
 use Rattle.s80_tree.specs.Tree.{body_of}
-use Rattle.s80_grammar.specs.Grammar.{IsBody}
-use Rattle.s80_grammar.specs.Stack.{body as body_symbol}
+use Rattle.s80_syntax.specs.Grammar.{IsBody}
+use Rattle.s80_syntax.specs.Stack.{body as body_symbol}
 use Rattle.s80_syntax.specs.Reads.{Parses}
 use Rattle.s80_syntax.proofs.FoundNames.{at_home}
 use Rattle.s80_syntax.proofs.method.home_body.Goals as goal

@@ -1,5 +1,5 @@
 use Rattle.std.proofs.Common.{sym, ap, ◌∙◌}
-use Rattle.s80_grammar.specs.Word.{is_reserved}
+use Rattle.s80_syntax.specs.Word.{is_reserved}
 use Rattle.s80_syntax.proofs.Parameters.{declared_here}
 use Rattle.s80_syntax.proofs.names.declared.Goals as goal
 

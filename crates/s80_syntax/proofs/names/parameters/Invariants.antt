@@ -1,8 +1,8 @@
 use Rattle.std.proofs.Common.{◌≡◌, ◌≤◌, ◌∷◌, length, true}
-use Rattle.s80_grammar.specs.Grammar.{AreParameters}
-use Rattle.s80_grammar.specs.Lexeme.{lexemes}
-use Rattle.s80_grammar.specs.Stack.{Stack, run, block_start}
-use Rattle.s80_grammar.specs.Word.{names_in}
+use Rattle.s80_syntax.specs.Grammar.{AreParameters}
+use Rattle.s80_syntax.specs.Lexeme.{lexemes}
+use Rattle.s80_syntax.specs.Stack.{Stack, run, block_start}
+use Rattle.s80_syntax.specs.Word.{names_in}
 use Rattle.s80_tree.specs.Name.{names_of}
 use Rattle.s80_syntax.specs.Names.{parameter_symbol}
 use Rattle.s80_syntax.specs.Reads.{AreSlices}

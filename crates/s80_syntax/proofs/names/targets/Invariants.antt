@@ -1,7 +1,7 @@
 use Rattle.std.proofs.Common.{◌≡◌, ◌≤◌, ◌∷◌, length, true}
-use Rattle.s80_grammar.specs.Grammar.{IsTargets}
-use Rattle.s80_grammar.specs.Lexeme.{lexemes}
-use Rattle.s80_grammar.specs.Stack.{Stack, run, assigns, expr_start}
+use Rattle.s80_syntax.specs.Grammar.{IsTargets}
+use Rattle.s80_syntax.specs.Lexeme.{lexemes}
+use Rattle.s80_syntax.specs.Stack.{Stack, run, assigns, expr_start}
 use Rattle.s80_tree.specs.Name.{names_of}
 use Rattle.s80_syntax.specs.Reads.{AreSlices}
 use Rattle.s80_syntax.specs.Scope.{assigns_in}

@@ -1,8 +1,8 @@
 use Rattle.std.proofs.Common.{◌≡◌, ◌∷◌, [], length, true}
-use Rattle.s80_grammar.specs.Grammar.{AreKeywords}
-use Rattle.s80_grammar.specs.Lexeme.{lexemes}
-use Rattle.s80_grammar.specs.Stack.{run, method_start}
-use Rattle.s80_grammar.specs.Word.{names_in}
+use Rattle.s80_syntax.specs.Grammar.{AreKeywords}
+use Rattle.s80_syntax.specs.Lexeme.{lexemes}
+use Rattle.s80_syntax.specs.Stack.{run, method_start}
+use Rattle.s80_syntax.specs.Word.{names_in}
 use Rattle.s80_tree.specs.Name.{names_of}
 use Rattle.s80_syntax.specs.Method.{keyword_symbol}
 use Rattle.s80_syntax.specs.Reads.{AreSlices}

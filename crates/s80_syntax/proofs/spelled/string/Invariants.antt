@@ -1,5 +1,5 @@
 use Rattle.std.proofs.Common.{◌≡◌, ◌++◌, length}
-use Rattle.s80_grammar.specs.Literals.{unquoted}
+use Rattle.s80_syntax.specs.Literals.{unquoted}
 use Rattle.s80_syntax.proofs.spelled.string.Given as goal
 
 abbrev pub invariant-loop-byte : goal.invariant-loop-byte

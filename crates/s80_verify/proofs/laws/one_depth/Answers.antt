@@ -1,4 +1,4 @@
-use Rattle.s80_verify.proofs.LawLemmas.{one_there}
+use Rattle.s80_verify.proofs.lemmas.LawLemmas.{one_there}
 use Rattle.s80_verify.proofs.laws.one_depth.Goals as goal
 
 pub returns : goal.returns

@@ -1,4 +1,4 @@
-use Rattle.s80_verify.proofs.LawLemmas.{step_there}
+use Rattle.s80_verify.proofs.lemmas.LawLemmas.{step_there}
 use Rattle.s80_verify.proofs.laws.steps_are_reached.Goals as goal
 
 pub returns : goal.returns

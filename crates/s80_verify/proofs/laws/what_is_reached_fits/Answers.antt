@@ -1,4 +1,4 @@
-use Rattle.s80_verify.proofs.LawLemmas.{fits_there}
+use Rattle.s80_verify.proofs.lemmas.LawLemmas.{fits_there}
 use Rattle.s80_verify.proofs.laws.what_is_reached_fits.Goals as goal
 
 pub returns : goal.returns

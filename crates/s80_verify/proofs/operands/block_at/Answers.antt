@@ -1,6 +1,6 @@
 use Rattle.std.proofs.Common.{sym, ◌∙◌, refl}
 use Rattle.s80_verify.proofs.BlockLemmas.{no_push, no_count, no_context, not_context, no_copy, no_start, begins_at, differ}
-use Rattle.s80_verify.proofs.SelectorLemmas.{not_true}
+use Rattle.s80_lex.proofs.lemmas.SelectorLemmas.{not_true}
 use Rattle.s80_verify.proofs.operands.block_at.Goals as goal
 
 pub returns-in_default : goal.returns-in_default

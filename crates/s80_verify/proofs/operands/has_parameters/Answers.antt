@@ -1,5 +1,5 @@
 use Rattle.std.proofs.Common.{ap}
-use Rattle.s80_verify.proofs.SelectorLemmas.{parameters_some, parameters_none}
+use Rattle.s80_lex.proofs.lemmas.SelectorLemmas.{parameters_some, parameters_none}
 use Rattle.s80_verify.proofs.operands.has_parameters.Goals as goal
 
 pub returns-in-Some : goal.returns-in-Some

@@ -1,6 +1,6 @@
 use Rattle.std.proofs.Common.{◌+◌, ◌<◌, ◌∙◌, sym, arith}
 use Rattle.s80_code.specs.Table.{Stands}
-use Rattle.s80_verify.proofs.PlaceLemmas.{ends_within}
+use Rattle.s80_verify.proofs.lemmas.PlaceLemmas.{ends_within}
 use Rattle.s80_verify.proofs.PlacesLemmas.{no_places, more_places, all_places, stands_at}
 use Rattle.s80_verify.proofs.places.places_of.Goals as goal
 

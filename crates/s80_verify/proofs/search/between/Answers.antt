@@ -1,6 +1,6 @@
 use Rattle.std.proofs.Common.{sym, arith}
-use Rattle.s80_verify.proofs.ListLemmas.{get_within}
-use Rattle.s80_verify.proofs.JumpLemmas.{none_between, between_step, all_between, below}
+use Rattle.s80_verify.proofs.lemmas.ListLemmas.{get_within}
+use Rattle.s80_verify.proofs.lemmas.JumpLemmas.{none_between, between_step, all_between, below}
 use Rattle.s80_verify.proofs.search.between.Goals as goal
 
 pub loop-point-init : goal.loop-point-init

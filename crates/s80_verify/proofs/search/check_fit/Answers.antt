@@ -1,6 +1,6 @@
 use Rattle.std.proofs.Common.{sym, arith}
-use Rattle.s80_verify.proofs.SelectorLemmas.{not_true}
-use Rattle.s80_verify.proofs.JumpLemmas.{is_low, is_unfit}
+use Rattle.s80_lex.proofs.lemmas.SelectorLemmas.{not_true}
+use Rattle.s80_verify.proofs.lemmas.JumpLemmas.{is_low, is_unfit}
 use Rattle.s80_verify.proofs.search.check_fit.Goals as goal
 
 pub returns-then-point-takes-clause-fault : goal.returns-then-point-takes-clause-fault

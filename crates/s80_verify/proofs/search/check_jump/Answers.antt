@@ -2,7 +2,7 @@ use Rattle.std.proofs.Common.{sym, ◌∙◌, ap, subst, ◌+◌, ℤ, pos, ◌+
 use Rattle.std.proofs.lemmas.Int.{to_z-of_z}
 use mir.Val.{SFits}
 use Rattle.s80_verify.proofs.PlacesLemmas.{stands_at}
-use Rattle.s80_verify.proofs.JumpLemmas.{lands_between}
+use Rattle.s80_verify.proofs.lemmas.JumpLemmas.{lands_between}
 use Rattle.s80_verify.proofs.search.check_jump.Goals as goal
 
 pub returns-then-is_set-clause-fault : goal.returns-then-is_set-clause-fault

@@ -1,6 +1,6 @@
 use Rattle.std.proofs.Common.{sym, arith}
-use Rattle.s80_verify.proofs.ListLemmas.{get_within}
-use Rattle.s80_verify.proofs.JumpLemmas.{clear_more, all_clear, below}
+use Rattle.s80_verify.proofs.lemmas.ListLemmas.{get_within}
+use Rattle.s80_verify.proofs.lemmas.JumpLemmas.{clear_more, all_clear, below}
 use Rattle.s80_verify.proofs.search.check_jumps.Goals as goal
 
 pub check_jump-requires-clause-reached : goal.check_jump-requires-clause-reached

@@ -1,7 +1,7 @@
 use Rattle.std.proofs.Common.{sym, arith}
 use Rattle.s80_verify.specs.declared.stack.Stack.TheVariants.{OfHome}
 use Rattle.s80_verify.proofs.FoundLemmas.{one_more_done, all_done}
-use Rattle.s80_verify.proofs.JumpLemmas.{below}
+use Rattle.s80_verify.proofs.lemmas.JumpLemmas.{below}
 use Rattle.s80_verify.proofs.search.find_all.Goals as goal
 
 pub visit-requires-clause-known : goal.visit-requires-clause-known

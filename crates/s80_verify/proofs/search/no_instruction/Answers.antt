@@ -1,5 +1,5 @@
 use Rattle.std.proofs.Common.{sym, ◌∙◌}
-use Rattle.s80_verify.proofs.JumpLemmas.{is_short}
+use Rattle.s80_verify.proofs.lemmas.JumpLemmas.{is_short}
 use Rattle.s80_verify.proofs.search.no_instruction.Goals as goal
 
 pub returns-in-Some-2 : goal.returns-in-Some-2

@@ -2,7 +2,7 @@ use Rattle.std.proofs.Common.{sym, ◌∙◌, ap, subst, ◌+◌, ℤ, pos, ◌+
 use Rattle.std.proofs.lemmas.Int.{to_z-of_z}
 use mir.Val.{SFits}
 use Rattle.s80_verify.specs.Found.{LandsAt}
-use Rattle.s80_verify.proofs.JumpLemmas.{lands_by}
+use Rattle.s80_verify.proofs.lemmas.JumpLemmas.{lands_by}
 use Rattle.s80_verify.proofs.search.place_from.Goals as goal
 
 pub returns : goal.returns

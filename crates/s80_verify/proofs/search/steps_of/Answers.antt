@@ -1,6 +1,6 @@
 use Rattle.std.proofs.Common.{refl}
 use Rattle.s80_verify.specs.Effect.{takes, leaves}
-use Rattle.s80_verify.proofs.JumpLemmas.{are_steps, lands_well, step_equal}
+use Rattle.s80_verify.proofs.lemmas.JumpLemmas.{are_steps, lands_well, step_equal}
 use Rattle.s80_verify.proofs.search.steps_of.Goals as goal
 
 pub returns-clause-fits : goal.returns-clause-fits

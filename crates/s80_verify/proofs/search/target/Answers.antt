@@ -2,8 +2,8 @@ use Rattle.std.proofs.Common.{sym, ◌∙◌, ap, subst, ◌+◌, ℤ, pos, ◌+
 use Rattle.std.proofs.lemmas.Int.{to_z-of_z}
 use mir.Val.{SFits}
 use Rattle.s80_verify.specs.Found.{LandsAt}
-use Rattle.s80_verify.proofs.SelectorLemmas.{not_true}
-use Rattle.s80_verify.proofs.JumpLemmas.{no_target, bad_target}
+use Rattle.s80_lex.proofs.lemmas.SelectorLemmas.{not_true}
+use Rattle.s80_verify.proofs.lemmas.JumpLemmas.{no_target, bad_target}
 use Rattle.s80_verify.proofs.search.target.Goals as goal
 
 pub returns-in_default-place_from-clause-fault : goal.returns-in_default-place_from-clause-fault

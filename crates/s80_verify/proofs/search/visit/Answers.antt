@@ -1,7 +1,7 @@
 use Rattle.std.proofs.Common.{inl, inr, ◌≤◌, length}
 use Rattle.s80_verify.specs.declared.point.Point.{Point}
 use Rattle.s80_verify.specs.Reach.{Reached}
-use Rattle.s80_verify.proofs.LawLemmas.{step_there}
+use Rattle.s80_verify.proofs.lemmas.LawLemmas.{step_there}
 use Rattle.s80_verify.proofs.FoundLemmas.{if_some, visited}
 use Rattle.s80_verify.proofs.search.visit.Goals as goal
 

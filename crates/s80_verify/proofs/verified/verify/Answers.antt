@@ -1,4 +1,4 @@
-use Rattle.s80_verify.proofs.LawLemmas.{no_fault}
+use Rattle.s80_verify.proofs.lemmas.LawLemmas.{no_fault}
 use Rattle.s80_verify.proofs.verified.verify.Goals as goal
 
 pub returns-clause-verified : goal.returns-clause-verified

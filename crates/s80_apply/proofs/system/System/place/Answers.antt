@@ -3,7 +3,7 @@ use Rattle.s80_class.specs.Classes.{Name, IsValid}
 use Rattle.s80_class.specs.Table.{Table, IsNumberOf}
 use Rattle.s80_apply.specs.Accept.{define, refusal_of}
 use Rattle.s80_apply.specs.List.{AreOfList}
-use Rattle.s80_apply.specs.System.{CanPut, IsSoundSystem, IsSystemOf, Places, SystemState, with_entry}
+use Rattle.s80_apply.specs.System.{CanPut, HasPlaces, IsSoundSystem, IsSystemOf, Places, SystemState, with_entry}
 use Rattle.s80_apply.proofs.Codes.{codes_have_sources, sound_reserved, sources_stay}
 use Rattle.s80_apply.proofs.Refusing.{new_can_put, none_numbered, prepared}
 use Rattle.s80_apply.proofs.Stands.{stays}
@@ -14,6 +14,12 @@ returns-in_err-reserve-clause-same c = λ state is.
     let here : SystemState = record { table = c.self.inside.classes; methods = c.self.inside.methods } in
     let now : SystemState = record { table = c.reserve.new.self; methods = c.self.inside.methods } in
     stays here now state c.reserve.ensures.classes c.reserve.ensures.names (λ n s. refl) (subst (λ s. IsSystemOf s state) (sym c.self.view_is) is)
+
+pub returns-in_err-reserve-clause-same_places : goal.returns-in_err-reserve-clause-same_places
+returns-in_err-reserve-clause-same_places c = λ state is.
+    let here : SystemState = record { table = c.self.inside.classes; methods = c.self.inside.methods } in
+    let now : SystemState = record { table = c.reserve.new.self; methods = c.self.inside.methods } in
+    stays here now state c.reserve.ensures.classes c.reserve.ensures.names (λ n s. refl) (subst (λ s. HasPlaces s state) (sym c.self.view_is) is)
 
 -- ---- with room the system is sound yet
 

@@ -1,4 +1,4 @@
-use Rattle.s80_base.proofs.Lists.{literal_at}
+use Rattle.s80_base.proofs.lemmas.Lists.{literal_at}
 use Rattle.s80_base.proofs.literal.Literals.at.Goals as goal
 
 pub returns : goal.returns

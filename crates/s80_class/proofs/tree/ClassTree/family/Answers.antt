@@ -6,7 +6,7 @@ use Rattle.s80_class.specs.Family.{Found}
 use Rattle.s80_class.proofs.Keeping.{ordered_length}
 use Rattle.s80_class.proofs.Families.{IsFound, known_table, begun, few, few_grown, grown}
 use Rattle.s80_class.specs.Known.{IsKnown}
-use Rattle.s80_class.proofs.Lines.{len_positive}
+use Rattle.s80_class.proofs.lemmas.Lines.{len_positive}
 use Rattle.s80_class.proofs.Extents.{are_family}
 use Rattle.s80_class.proofs.tree.ClassTree.family.Goals.{After-len-count}
 use Rattle.s80_class.proofs.tree.ClassTree.family.Goals as goal

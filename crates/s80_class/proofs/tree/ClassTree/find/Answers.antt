@@ -14,14 +14,14 @@ returns-in_default-clause-found c =
     let h = c.in_default.ensures.lookup in
     subst (λ (t : Table). map.get t.classes c.args.name.now ≡ None) c.self.view_is
     (past_there c.self.inside.entries.items c.self.inside.order.items c.self.invariant.kept c.self.inside.entries.items c.deref-3.result.now c.args.name.now c.place-at.result
-    refl c.deref-3.ensures.value c.bytes.result.now c.bytes.ensures (rw c.deref-3.ensures.value place) h.3)
+    refl c.deref-3.ensures.value c.args.name.now refl (rw c.deref-3.ensures.value place) h.3)
 
 pub returns-then-eq-clause-found : goal.returns-then-eq-clause-found
 returns-then-eq-clause-found c =
     let h = c.in-Some.ensures.lookup in
     subst (λ (t : Table). IsNumberOf t.names c.in-Some.field-0.now c.args.name.now) c.self.view_is
     (found_there c.self.inside.entries.items c.self.inside.order.items c.self.invariant.kept c.deref-4.result.now c.deref-3.result.now c.args.name.now c.place-at.result
-    c.deref-4.ensures.value c.deref-3.ensures.value c.in-Some.field-0.now c.name_in.result.now c.bytes-2.result.now h.3.0 h.1 c.name_in.ensures c.bytes-2.ensures c.if-eq.ensures)
+    c.deref-4.ensures.value c.deref-3.ensures.value c.in-Some.field-0.now c.name_in.result.now c.args.name.now h.3.0 h.1 c.name_in.ensures refl c.if-eq.ensures)
 
 pub returns-else-eq-clause-found : goal.returns-else-eq-clause-found
 returns-else-eq-clause-found c =
@@ -29,8 +29,8 @@ returns-else-eq-clause-found c =
     let h = c.in-Some.ensures.lookup in
     subst (λ (t : Table). map.get t.classes c.args.name.now ≡ None) c.self.view_is
     (other_there c.self.inside.entries.items c.self.inside.order.items c.self.invariant.kept c.deref-4.result.now c.deref-3.result.now c.args.name.now c.place-at.result
-    c.deref-4.ensures.value c.deref-3.ensures.value c.bytes.result.now c.bytes.ensures (rw (c.deref-4.ensures.value, c.deref-3.ensures.value) place)
-    c.in-Some.field-0.now c.name_in.result.now c.bytes-2.result.now h.3.0 h.1 c.name_in.ensures c.bytes-2.ensures c.if-eq.ensures)
+    c.deref-4.ensures.value c.deref-3.ensures.value c.args.name.now refl (rw (c.deref-4.ensures.value, c.deref-3.ensures.value) place)
+    c.in-Some.field-0.now c.name_in.result.now c.args.name.now h.3.0 h.1 c.name_in.ensures refl c.if-eq.ensures)
 
 pub returns-in_default-clause-only : goal.returns-in_default-clause-only
 returns-in_default-clause-only c = λ other named.

@@ -1,7 +1,7 @@
 use Rattle.std.proofs.Common.{◌≡◌, ◌∙◌, ℕ, Option, ap, sym, subst, length, arith}
 use Rattle.s80_class.specs.Table.{IsNumberOf, IsSuperclass}
-use Rattle.s80_class.proofs.Lines.{passes}
-use Rattle.s80_class.proofs.Walks.{left, walked, starts_above, left_none, passed_here, passed_on}
+use Rattle.s80_class.proofs.lemmas.Lines.{passes}
+use Rattle.s80_class.proofs.lemmas.Walks.{left, walked, starts_above, left_none, passed_here, passed_on}
 use Rattle.s80_class.proofs.tree.ClassTree.is_descendant.Goals as goal
 
 pub loop-init : goal.loop-init

@@ -1,8 +1,8 @@
 use Rattle.std.proofs.Common.{◌≡◌, List, ℕ}
 use Rattle.s80_class.specs.Classes.{descends}
 use Rattle.s80_class.specs.Table.{IsNumberOf, IsSuperclass}
-use Rattle.s80_class.proofs.Lines.{passes}
-use Rattle.s80_class.proofs.Walks.{IsWalked, left}
+use Rattle.s80_class.proofs.lemmas.Lines.{passes}
+use Rattle.s80_class.proofs.lemmas.Walks.{IsWalked, left}
 use Rattle.s80_class.proofs.tree.ClassTree.is_descendant.Given as goal
 
 abbrev pub invariant-loop : goal.invariant-loop

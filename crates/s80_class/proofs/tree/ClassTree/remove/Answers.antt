@@ -4,7 +4,7 @@ use Rattle.s80_class.proofs.Calls.{entry_at, entry_of_class, entry_shown, is_ent
 use Rattle.s80_class.specs.Table.{Table, IsClass}
 use Rattle.s80_class.specs.Kept.{IsKept}
 use Rattle.s80_class.proofs.Families.{known_table}
-use Rattle.s80_class.proofs.Rows.{IsAt}
+use Rattle.s80_class.proofs.lemmas.Rows.{IsAt}
 use Rattle.s80_class.specs.Below.{IsIndexed}
 use Rattle.s80_class.proofs.Indexed.{is_there, indexed_less}
 use Rattle.s80_class.proofs.tree.ClassTree.remove.Goals.{After-unwrap-old}

@@ -1,5 +1,5 @@
 use Rattle.std.proofs.Common.{◌∙◌, refl, ap, sym, subst, set, arith}
-use Rattle.s80_class.proofs.Rows.{IsAt}
+use Rattle.s80_class.proofs.lemmas.Rows.{IsAt}
 use Rattle.s80_class.proofs.Calls.{entry_at, entry_shown, replaced_kept, replaced_classes, replaced_names}
 use Rattle.s80_class.specs.Kept.{IsKept}
 use Rattle.s80_class.proofs.Families.{known_table}

@@ -1,8 +1,8 @@
-use Rattle.std.proofs.Common.{[], ◌∷◌, arith}
+use Rattle.std.proofs.Common.{[]}
 use Rattle.std.proofs.lemmas.List.Elements.{Contains-push}
 use Rattle.s80_tree.specs.Tree.{method_of}
 use Rattle.s80_scope.specs.Names.{uses_of}
-use Rattle.s80_scope.proofs.Apart.{used_once}
+use Rattle.s80_scope.proofs.lemmas.Apart.{used_once}
 use Rattle.s80_core.proofs.elaboration.names.meaning.Goals as goal
 
 pub bind-requires-clause-once : goal.bind-requires-clause-once

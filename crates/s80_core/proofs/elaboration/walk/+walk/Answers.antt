@@ -1,4 +1,4 @@
-use Rattle.std.proofs.Common.{◌≡◌, ◌+◌, ◌-◌, ◌<◌, Bool, false, arith, rules, length, length-take-le, get_or, map, take, drop, refl, ap, sym, subst, ◌∙◌}
+use Rattle.std.proofs.Common.{◌≡◌, ◌+◌, ◌-◌, ◌<◌, false, arith, rules, length, length-take-le, get_or, map, take, drop, refl, ap, sym, subst, ◌∙◌}
 use Rattle.std.proofs.lemmas.List.{get_or-take}
 use Rattle.s80_tree.specs.Name.{names_of}
 use Rattle.s80_tree.specs.Tree.{expr_of, exprs_of, messages_of, no_messages, no_stmts, primary_of}
@@ -10,13 +10,14 @@ use Rattle.s80_scope.specs.FitStack.{body_parameters, messages_parameters}
 use Rattle.s80_scope.specs.Inlined.{are_arms}
 use Rattle.s80_scope.specs.Names.{body_uses, messages_uses}
 use Rattle.s80_scope.specs.Walk.{last_has_arms}
-use Rattle.s80_scope.proofs.Counted.{first_arm, other_arms}
-use Rattle.s80_scope.proofs.Opens.{expr_open, exprs_left, exprs_next, exprs_done, messages_left, messages_next, messages_done}
+use Rattle.s80_scope.proofs.lemmas.Counted.{first_arm, other_arms}
+use Rattle.s80_tree.proofs.lemmas.Opens.{expr_open}
+use Rattle.s80_scope.proofs.lemmas.Opens.{exprs_left, exprs_next, exprs_done, messages_left, messages_done}
 use Rattle.s80_scope.proofs.Parts.{targets_open}
 use Rattle.s80_core.specs.Core.{core_of, cores_of, send, send_of, sends_of}
 use Rattle.s80_core.specs.Elaborate.{arms_core, body_core, chain_core, exprs_core, sends_core}
 use Rattle.s80_core.specs.Walk.{IsPart, joined, meaning_in}
-use Rattle.s80_core.proofs.ElaborateLists.{cores_step, cores_end, sends_step, sends_end}
+use Rattle.s80_core.proofs.ElaborateLists.{cores_end, sends_end}
 use Rattle.s80_core.proofs.ElaborateWalk.{always_ok, argument_part, arguments_part, arm_whole, arms_step, body_counted, body_last, body_left, body_next, body_result, body_step, cascade_step, cascades_part, chain_counted, chain_end, chain_last, chain_left, chain_next, chain_step, exprs_step, further_count, further_part, last_arms, message_next, messages_arms, messages_part, more_messages, more_statements, others_arms, others_count, others_part, pushed_cores, receiver_part, receiver_plain, statement_part, statements_count, statements_part, targets_used, whole_body, whole_chain}
 use Rattle.s80_core.proofs.elaboration.walk.+walk.Goals as goal
 

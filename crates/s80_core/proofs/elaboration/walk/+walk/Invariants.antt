@@ -1,10 +1,10 @@
-use Rattle.std.proofs.Common.{◌≡◌, ℕ, ◌+◌, List, [], ◌∷◌, ◌++◌, true, map, drop}
+use Rattle.std.proofs.Common.{◌≡◌, ◌+◌, [], ◌∷◌, ◌++◌, true, map, drop}
 use Rattle.s80_tree.specs.Tree.{BodyTree, MessageTrees, body_from, body_of, exprs_of, message_of, messages_from, messages_of, stmt_of}
 use Rattle.s80_scope.specs.FitStack.{body_parameters, exprs_parameters, messages_parameters}
 use Rattle.s80_scope.specs.Inlined.{are_arms, is_inlined}
 use Rattle.s80_scope.specs.Names.{body_uses, exprs_uses, messages_uses}
 use Rattle.s80_scope.specs.Walk.{last_has_arms}
-use Rattle.s80_scope.proofs.Opens.{exprs_left, messages_left}
+use Rattle.s80_scope.proofs.lemmas.Opens.{exprs_left, messages_left}
 use Rattle.s80_core.specs.Core.{SendTrees, core_of, cores_of, sends_of}
 use Rattle.s80_core.specs.Elaborate.{arms_core, body_core, chain_core, exprs_core, sends_core}
 use Rattle.s80_core.specs.Walk.{IsPart, cores_append, joined, meaning_in, sends_append}

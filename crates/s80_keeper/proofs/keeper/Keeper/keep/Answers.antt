@@ -3,14 +3,15 @@ use Rattle.s80_change.specs.declared.change.Change.{Change}
 use Rattle.s80_change.specs.Block.{block, IsLawful}
 use Rattle.s80_disk.specs.Image.{Image}
 use Rattle.s80_disk.specs.Moments.{LeavesOnly}
-use Rattle.s80_disk.proofs.Run.{weaker}
+use Rattle.s80_disk.proofs.lemmas.Run.{weaker}
 use Rattle.s80_mark.specs.declared.mark.MarkState.{MarkState}
 use Rattle.s80_apply.specs.List.{IsBuilt, state_of}
+use Rattle.s80_apply.specs.Placed.{placed_of}
 use Rattle.s80_log.specs.Log.{log_file}
 use Rattle.s80_log.specs.Commit.{next_mark}
 use Rattle.s80_keeper.specs.Keeper.{KeeperState, Keeps}
 use Rattle.s80_keeper.specs.Standing.{FilesStandFor, LeavesEither}
-use Rattle.s80_keeper.specs.Answers.{PreparedChange, IsFor}
+use Rattle.s80_keeper.specs.Answers.{PreparedChange, IsFor, PlacesFor}
 use Rattle.s80_keeper.proofs.Counting.{counts_more}
 use Rattle.s80_keeper.proofs.Keeping.{either_list, leaves_either, built_kept, installed_at, after_kept, keeps_more, keeps_still}
 use Rattle.s80_keeper.proofs.keeper.Keeper.keep.Goals as goal
@@ -20,7 +21,8 @@ use Rattle.s80_keeper.proofs.keeper.Keeper.keep.Goals.{After-append_and_commit}
 is_block : (g : _) (c : After-append_and_commit g) → c.parts-block.result.0 ≡ block c.args.prepared.change
 is_block g c = c.parts-block.ensures.block
 
-module _ (g : _) (c : After-append_and_commit g) (changes : List Change) (keeps : Keeps (g.D.Disk.tells c.args.disk.now) (g.D.Disk.reads c.args.disk.now) (g.D.Disk.may_leave c.args.disk.now) c.args.self.now changes) (lawful : IsLawful c.args.prepared.change) (ready : IsFor (state_of changes) c.args.self.now.system c.args.prepared) where
+module _ (g : _) (c : After-append_and_commit g) (changes : List Change) (keeps : Keeps (g.D.Disk.tells c.args.disk.now) (g.D.Disk.reads c.args.disk.now) (g.D.Disk.may_leave c.args.disk.now) c.args.self.now changes) (lawful : IsLawful c.args.prepared.change) (ready : IsFor (state_of changes) c.args.self.now.system c.args.prepared)
+    (places : PlacesFor (placed_of changes) c.args.self.now.system c.args.prepared) where
   -- the keeper as the code has it
   abbrev keeper : KeeperState
   keeper = record { log = c.self.inside.log; mark = c.self.inside.mark; system = c.self.inside.system; count = c.self.inside.count; fault = c.self.inside.fault }
@@ -64,11 +66,11 @@ returns-in-Ok-clause-after g c =
     )
 
 pub returns-in-Ok-clause-kept : goal.returns-in-Ok-clause-kept
-returns-in-Ok-clause-kept g c = λ changes keeps lawful ready.
+returns-in-Ok-clause-kept g c = λ changes keeps lawful ready places.
     let at = (goal.at.returns-in-Ok-clause-kept g c).After-append_and_commit in
-    let was = kept g at changes keeps lawful ready in
-    let stands = c.in-Ok.ensures.kept changes c.args.prepared.change was.stands was.named was.end lawful (is_block g at) (counted g at changes keeps lawful ready) in
-    keeps_more _ _ _ _ _ _ c.args.self.now _ c.in-Ok.at c.args.prepared changes keeps ready (returns-in-Ok-clause-after g c) stands
+    let was = kept g at changes keeps lawful ready places in
+    let stands = c.in-Ok.ensures.kept changes c.args.prepared.change was.stands was.named was.end lawful (is_block g at) (counted g at changes keeps lawful ready places) in
+    keeps_more _ _ _ _ _ _ c.args.self.now _ c.in-Ok.at c.args.prepared changes keeps ready places (returns-in-Ok-clause-after g c) stands
 
 pub returns-in-Err-Disk-clause-any_moment : goal.returns-in-Err-Disk-clause-any_moment
 returns-in-Err-Disk-clause-any_moment g c = run g (goal.at.returns-in-Err-Disk-clause-any_moment g c).After-append_and_commit
@@ -104,8 +106,8 @@ returns-clause-full g c = λ n.
     )
 
 pub returns-clause-kept : goal.returns-clause-kept
-returns-clause-kept g c = λ changes keeps lawful ready.
+returns-clause-kept g c = λ changes keeps lawful ready places.
     let at = (goal.at.returns-clause-kept g c).After-append_and_commit in
     let D = g.D.Disk in
     let full = (c.in-Err-Full.ensures.full c.in-Err-Full.length).0 (rw c.in-Err-Full.field-0-is refl) in
-    keeps_still D.tells D.reads D.may_leave c.args.disk.now c.append_and_commit.new.disk (keeper g at changes keeps lawful ready) c.append_and_commit.new.self c.append_and_commit.new.mark changes (c.in-Err-Full.ensures.untouched full.1) c.in-Err-Full.ensures.end c.in-Err-Full.ensures.mark (kept g at changes keeps lawful ready)
+    keeps_still D.tells D.reads D.may_leave c.args.disk.now c.append_and_commit.new.disk (keeper g at changes keeps lawful ready places) c.append_and_commit.new.self c.append_and_commit.new.mark changes (c.in-Err-Full.ensures.untouched full.1) c.in-Err-Full.ensures.end c.in-Err-Full.ensures.mark (kept g at changes keeps lawful ready places)

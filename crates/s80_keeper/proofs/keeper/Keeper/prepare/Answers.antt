@@ -4,7 +4,8 @@ use Rattle.s80_form.specs.declared.refusal.Refused.TheVariants.{Refusal}
 use Rattle.s80_form.specs.declared.refusal.Refusal.TheVariants.{LogFull}
 use Rattle.s80_change.specs.Block.{log_limit}
 use Rattle.s80_apply.specs.State.{State}
-use Rattle.s80_apply.specs.System.{IsSystemOf}
+use Rattle.s80_apply.specs.Placed.{PlacedState}
+use Rattle.s80_apply.specs.System.{HasPlaces, IsSystemOf}
 use Rattle.s80_keeper.specs.Keeper.{KeeperState}
 use Rattle.s80_keeper.specs.Answers.{Prepares}
 use Rattle.s80_keeper.proofs.Preparing.{prepares_none, prepares_full, prepares_some}
@@ -14,6 +15,9 @@ use Rattle.s80_keeper.proofs.keeper.Keeper.prepare.Goals.{After-prepare}
 -- the keeper's system, as the code has it
 inside : (c : After-prepare) (state : State) → IsSystemOf c.args.self.now.system state → IsSystemOf c.self.inside.system state
 inside c state is = subst (λ (k : KeeperState). IsSystemOf k.system state) (sym c.self.view_is) is
+
+inside_places : (c : After-prepare) (placed : PlacedState) → HasPlaces c.args.self.now.system placed → HasPlaces c.self.inside.system placed
+inside_places c placed has = subst (λ (k : KeeperState). HasPlaces k.system placed) (sym c.self.view_is) has
 
 pub returns-in_err-step-clause-answer : goal.returns-in_err-step-clause-answer
 returns-in_err-step-clause-answer c = λ state is.
@@ -47,3 +51,18 @@ returns-clause-answer c = λ state is.
 
 pub returns-clause-system : goal.returns-clause-system
 returns-clause-system c = λ state is. c.prepare.ensures.same state (inside (goal.at.returns-clause-system c).After-prepare state is)
+
+pub returns-in_err-step-clause-same_places : goal.returns-in_err-step-clause-same_places
+returns-in_err-step-clause-same_places c = λ placed has. c.prepare.ensures.same_places placed (inside_places (goal.at.returns-in_err-step-clause-same_places c).After-prepare placed has)
+
+pub returns-in_err-block-clause-same_places : goal.returns-in_err-block-clause-same_places
+returns-in_err-block-clause-same_places c = λ placed has. c.prepare.ensures.same_places placed (inside_places (goal.at.returns-in_err-block-clause-same_places c).After-prepare placed has)
+
+pub returns-then-not-has_room-clause-same_places : goal.returns-then-not-has_room-clause-same_places
+returns-then-not-has_room-clause-same_places c = λ placed has. c.prepare.ensures.same_places placed (inside_places (goal.at.returns-then-not-has_room-clause-same_places c).After-prepare placed has)
+
+pub returns-clause-same_places : goal.returns-clause-same_places
+returns-clause-same_places c = λ placed has. c.prepare.ensures.same_places placed (inside_places (goal.at.returns-clause-same_places c).After-prepare placed has)
+
+pub returns-clause-places : goal.returns-clause-places
+returns-clause-places c = λ placed has. c.in_ok-step.ensures.places placed (inside_places (goal.at.returns-clause-places c).After-prepare placed has)

@@ -3,6 +3,7 @@ use Rattle.std.specs.FinMap as map
 use Rattle.std.specs.Option.{option_copied}
 use Rattle.s80_change.specs.declared.change.Change.{Change}
 use Rattle.s80_dict.specs.Table.{methods_at, dict_at}
+use Rattle.s80_apply.specs.Placed.{PlacedRow}
 use Rattle.s80_apply.specs.State.{MethodRow}
 use Rattle.s80_apply.specs.Source.{StandsAt}
 use Rattle.s80_apply.specs.List.{state_of}
@@ -21,7 +22,7 @@ same : (g : _) (c : After-get g) → map.get c.dict.result.now.methods c.args.se
 same g c = ap (λ d. map.get d.methods c.args.selector.now) (c.dict.ensures ∙ ap (λ t. dict_at t c.args.class c.args.side) (c.methods.ensures.methods ∙ ap (λ (k : KeeperState). k.system.methods) c.self.view_is))
 
 -- where its source stands in the keeper's log, it does so in the code's
-stands : (g : _) (c : After-get g) (row : MethodRow) → StandsAt (held_in (g.D.Disk.reads c.args.disk.now) c.args.self.now.log) row → StandsAt (held_in (g.D.Disk.reads c.args.disk.now) c.self.inside.log) row
+stands : (g : _) (c : After-get g) (row : PlacedRow) → StandsAt (held_in (g.D.Disk.reads c.args.disk.now) c.args.self.now.log) row → StandsAt (held_in (g.D.Disk.reads c.args.disk.now) c.self.inside.log) row
 stands g c row is = subst (λ (k : KeeperState). StandsAt (held_in (g.D.Disk.reads c.args.disk.now) k.log) row) (sym c.self.view_is) is
 
 pub returns-in_default-get-clause-source : goal.returns-in_default-get-clause-source

@@ -3,7 +3,7 @@ use Rattle.std.proofs.lemmas.Result.{err_from_is_err_and}
 use Rattle.s80_change.specs.declared.change.Change.{Change}
 use Rattle.s80_disk.specs.Image.{Image, Torn, OnFile, Follows}
 use Rattle.s80_disk.specs.Moments.{Beside, LeavesOnly}
-use Rattle.s80_disk.proofs.Run.{started, goes_on}
+use Rattle.s80_disk.proofs.lemmas.Run.{started, goes_on}
 use Rattle.s80_disk.proofs.Steps.{comes}
 use Rattle.s80_mark.specs.declared.mark.MarkState.{MarkState}
 use Rattle.s80_log.specs.Log.{LogEnd, log_file}

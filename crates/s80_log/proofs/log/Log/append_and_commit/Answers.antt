@@ -4,7 +4,7 @@ use Rattle.s80_change.specs.declared.change.Change.{Change}
 use Rattle.s80_change.specs.Block.{block, IsLawful}
 use Rattle.s80_disk.specs.Image.{Image}
 use Rattle.s80_disk.specs.Moments.{Beside, LeavesOnly}
-use Rattle.s80_disk.proofs.Run.{joined, weaker}
+use Rattle.s80_disk.proofs.lemmas.Run.{joined, weaker}
 use Rattle.s80_log.specs.Log.{LogEnd, log_file}
 use Rattle.s80_log.specs.Standing.{StandsFor}
 use Rattle.s80_log.specs.Commit.{next_mark, Holds, LeavesBeside, StandForEither}

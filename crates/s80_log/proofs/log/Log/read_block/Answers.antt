@@ -9,8 +9,8 @@ use Rattle.s80_log.proofs.log.Log.read_block.Goals.{In_ok-change}
 piece : (g : _) (c : In_ok-change g) → IsTrue (g.D.Disk.tells c.args.disk.now) → c.deref.result.now ≡ take c.min.result (drop c.args.at (held_in (g.D.Disk.reads c.args.disk.now) c.args.self.now))
 piece g c told =
     let reads = g.D.Disk.reads c.args.disk.now in
-    let file = c.pieces.invariant.same c.file.result ∙ ap reads c.file.ensures in
-    c.deref.ensures.value ∙ c.in_ok-bytes.ensures.bytes (c.pieces.invariant.tells ∙ told) ∙ ap (λ l. take c.min.result (drop c.args.at l)) file ∙ piece_of c.min.result c.args.at c.args.self.now.end _ (omega (arith, c.length.ensures, c.saturating_sub-within.ensures, c.min.ensures))
+    let file = c.pieces.invariant.untouched.same c.file.result ∙ ap reads c.file.ensures in
+    c.deref.ensures.value ∙ c.in_ok-bytes.ensures.bytes (c.pieces.invariant.untouched.telling ∙ told) ∙ ap (λ l. take c.min.result (drop c.args.at l)) file ∙ piece_of c.min.result c.args.at c.args.self.now.end _ (omega (arith, c.length.ensures, c.saturating_sub-within.ensures, c.min.ensures))
 
 pub returns-in-Found-clause-begins : goal.returns-in-Found-clause-begins
 returns-in-Found-clause-begins g c = λ told.

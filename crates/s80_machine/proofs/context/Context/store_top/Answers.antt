@@ -1,5 +1,5 @@
 use Rattle.std.proofs.Common.{◌-◌, ◌∙◌, ap, length, refl, slice_get}
-use Rattle.s80_machine.specs.Seen.{frame_of}
+use Rattle.s80_machine.specs.Seen.{activation_of}
 use Rattle.s80_machine.proofs.CameStretch.{top_stored}
 use Rattle.s80_machine.proofs.context.Context.store_top.Goals as goal
 
@@ -7,4 +7,4 @@ pub returns-clause-tries : goal.returns-clause-tries
 returns-clause-tries c = λ on code ticks.
     top_stored on code c.args.next ticks _ c.args.self.now c.self.view_is c.self.inside.stack.items refl c.in-Some.value
     (c.in-Some.ensures ∙ c.last.ensures.value ∙ ap (λ l. slice_get l (length l - 1)) c.deref.ensures.value)
-    c.args.i (frame_of c.store.new.self) c.args.objects.now c.store.new.objects c.if-not-store.ensures.stores
+    c.args.i (activation_of c.store.new.self) c.args.objects.now c.store.new.objects c.if-not-store.ensures.stores

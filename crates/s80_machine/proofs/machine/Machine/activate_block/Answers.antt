@@ -1,6 +1,7 @@
 use Rattle.std.proofs.Common.{◌≡◌, ◌∙◌, Ok, ap, false, length, option_and_then, subst, sym}
 use Rattle.s80_object.specs.Objects.{body_at, home_parts_of}
-use Rattle.s80_machine.specs.World.{World, is_active, one_tick}
+use Rattle.s80_machine.specs.World.{World, one_tick}
+use Rattle.s80_machine.specs.Turn.{is_active}
 use Rattle.s80_machine.specs.Seen.{block_of}
 use Rattle.s80_machine.specs.Came.{ChecksDepth, given_of}
 use Rattle.s80_machine.proofs.CameActivations.{block_begun, if_idle, in_its_home, not_active}

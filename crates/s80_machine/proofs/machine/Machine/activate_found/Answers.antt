@@ -10,7 +10,7 @@ pub returns : goal.returns
 returns c = λ s shows takes.
     let on = given_of c.args.on.now in
     let key = method c.args.found.class c.args.found.side c.args.selector.now in
-    let of = c.args.found.code.now in
+    let of = c.args.found.entry.now.code in
     let values = c.args.arguments.items in
     let n = method_numbered on c.args.self.now s key of c.number.new.self c.in_ok-method.method shows takes.code_is c.in_ok-method.ensures in
     goes_deeper on c.args.self.now s.world s.contexts

@@ -1,6 +1,5 @@
 use Rattle.std.proofs.Common.{◌∷◌, subst}
-use Rattle.s80_machine.specs.Lookup.{places_up}
-use Rattle.s80_machine.specs.Seen.{IsFound}
+use Rattle.s80_class.specs.Lookup.{places_up, IsFound}
 use Rattle.s80_machine.specs.Came.{given_of}
 use Rattle.s80_machine.specs.Messages.{finds, performs}
 use Rattle.s80_machine.proofs.CameSends.{alive}

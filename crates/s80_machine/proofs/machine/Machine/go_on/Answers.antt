@@ -1,6 +1,6 @@
 use Rattle.std.proofs.Common.{◌∙◌, ap, slice_get}
 use Rattle.std.specs.Option.{option_map}
-use Rattle.s80_machine.specs.World.{Context}
+use Rattle.s80_machine.specs.Turn.{Context}
 use Rattle.s80_machine.specs.Seen.{Method, listing}
 use Rattle.s80_machine.proofs.CameFar.{is_behind}
 use Rattle.s80_machine.proofs.machine.Machine.go_on.Goals as goal

@@ -1,7 +1,7 @@
 use Rattle.std.proofs.Common.{◌∷◌, ◌==◌, [], Err, None, Some, refl, subst, sym}
 use Rattle.s80_prims.specs.Classes.{class_of}
 use Rattle.s80_machine.specs.World.{method, one_tick}
-use Rattle.s80_machine.specs.Seen.{IsFound}
+use Rattle.s80_class.specs.Lookup.{IsFound}
 use Rattle.s80_machine.specs.Came.{Came, given_of, places}
 use Rattle.s80_machine.specs.Messages.{Takes, finds, places_in, refuses, runs, runs_method}
 use Rattle.s80_machine.proofs.CameSends.{tick_goes}
@@ -33,6 +33,6 @@ returns c = λ top rest w shows.
     (λ shows.
     let found = subst (λ s. IsFound (finds on selector (places_in on s r)) (Some g)) shows.world.objects c.in-Some.ensures in
     let takes = found_takes on c.requires.setting selector (places on w r) g [] c.requires.selector found in
-    found_runs on (λ w. None) (places on w r) selector r [] (top ∷ rest) (one_tick w) c.run_method.new.self c.run_method.result g found (none_either (g.code.now.primitive == 83) None refl)
-    (subst (λ values. Came on (runs_method on key g.code.now r values (top ∷ rest) (one_tick w)) c.run_method.new.self c.run_method.result) c.new.ensures.items
-    (c.run_method.ensures top rest (one_tick w) shows (subst (Takes on key g.code.now) (sym c.new.ensures.items) takes))))
+    found_runs on (λ w. None) (places on w r) selector r [] (top ∷ rest) (one_tick w) c.run_method.new.self c.run_method.result g found (none_either (g.entry.now.code.primitive == 83) None refl)
+    (subst (λ values. Came on (runs_method on key g.entry.now.code r values (top ∷ rest) (one_tick w)) c.run_method.new.self c.run_method.result) c.new.ensures.items
+    (c.run_method.ensures top rest (one_tick w) shows (subst (Takes on key g.entry.now.code) (sym c.new.ensures.items) takes))))

@@ -1,7 +1,8 @@
 use Rattle.std.proofs.Common.{◌∙◌, ◌∷◌, refl, slice_get, sym}
 use Rattle.std.proofs.lemmas.Result.{err_from_is_err_and}
 use Rattle.s80_machine.specs.Seen.{pushed, with_stack}
-use Rattle.s80_machine.specs.Turn.{fixed, goes_on}
+use Rattle.s80_machine.specs.Shared.{fixed}
+use Rattle.s80_machine.specs.Turn.{goes_on}
 use Rattle.s80_machine.proofs.CameSteps.{becomes, given_goes, none_there, with_contexts}
 use Rattle.s80_machine.proofs.machine.Machine.push_fixed.Goals as goal
 

@@ -2,11 +2,12 @@ use Rattle.std.proofs.Common.{◌≡◌, ◌∙◌, ◌∷◌, Err, Some, ap, re
 use Rattle.std.specs.Option.{option_copied}
 use Rattle.std.proofs.lemmas.Result.{err_from_is_err_and}
 use Rattle.s80_prims.specs.Classes.{class_of}
-use Rattle.s80_verify.specs.Selector.{IsSelectorOf}
+use Rattle.s80_lex.specs.Selector.{IsSelectorOf}
 use Rattle.s80_object.specs.declared.value.Value.TheVariants.{ClassRef}
 use Rattle.s80_machine.specs.declared.sites.Site.{Site}
-use Rattle.s80_machine.specs.World.{Context, method, one_tick, waiting}
-use Rattle.s80_machine.specs.Lookup.{places_up}
+use Rattle.s80_machine.specs.Turn.{Context, waiting}
+use Rattle.s80_machine.specs.World.{method, one_tick}
+use Rattle.s80_class.specs.Lookup.{places_up}
 use Rattle.s80_machine.specs.Came.{given_of, places, sends}
 use Rattle.s80_machine.specs.Messages.{IsKnownMessage, performs, runs}
 use Rattle.s80_machine.proofs.CameClasses.{IsClassValue, has_class, place_missing, place_there}

@@ -1,7 +1,6 @@
 use Rattle.std.proofs.Common.{◌∙◌, ◌∷◌, [], ap, subst, sym}
 use Rattle.std.specs.Option.{option_copied}
-use Rattle.s80_machine.specs.World.{waiting}
-use Rattle.s80_machine.specs.Turn.{given, message_off}
+use Rattle.s80_machine.specs.Turn.{waiting, given, message_off}
 use Rattle.s80_machine.specs.Came.{Came, given_of, places, sends}
 use Rattle.s80_machine.proofs.machine.Machine.send_literal.Goals as goal
 

@@ -1,11 +1,11 @@
 use Rattle.std.proofs.Common.{◌≡◌, ◌∙◌, ◌∷◌, Err, None, Some, ap, arith, get_or, if◌then◌else◌, length, subst, sym}
 use Rattle.std.specs.Option.{option_copied}
 use Rattle.std.proofs.lemmas.Result.{err_from_is_err_and}
-use Rattle.s80_verify.specs.Effect.{special_arguments}
-use Rattle.s80_verify.specs.Selector.{IsSelectorOf}
+use Rattle.s80_code.specs.Special.{special_arguments}
+use Rattle.s80_lex.specs.Selector.{IsSelectorOf}
 use Rattle.s80_machine.specs.declared.halt.Halt.TheVariants.{Stuck}
-use Rattle.s80_machine.specs.World.{waiting}
-use Rattle.s80_machine.specs.Turn.{at_once, block_with, is_value}
+use Rattle.s80_machine.specs.Turn.{waiting}
+use Rattle.s80_machine.specs.Shared.{at_once, block_with, is_value}
 use Rattle.s80_machine.specs.Step.{special_turn}
 use Rattle.s80_machine.specs.Seen.{IsBlock}
 use Rattle.s80_machine.specs.Came.{given_of}

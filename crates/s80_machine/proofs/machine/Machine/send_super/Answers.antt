@@ -1,8 +1,9 @@
 use Rattle.std.proofs.Common.{◌≡◌, ◌∙◌, ◌∷◌, Err, Some, ap, slice_get, refl, subst, sym}
 use Rattle.std.specs.Option.{option_copied}
 use Rattle.std.proofs.lemmas.Result.{err_from_is_err_and}
-use Rattle.s80_verify.specs.Selector.{IsSelectorOf}
-use Rattle.s80_machine.specs.World.{Context, one_tick, waiting}
+use Rattle.s80_lex.specs.Selector.{IsSelectorOf}
+use Rattle.s80_machine.specs.Turn.{Context, waiting}
+use Rattle.s80_machine.specs.World.{one_tick}
 use Rattle.s80_machine.specs.Came.{Came, above, given_of, sends}
 use Rattle.s80_machine.specs.Messages.{IsKnownMessage, performs, runs}
 use Rattle.s80_machine.proofs.CameClasses.{above_found}

@@ -1,6 +1,6 @@
 use Rattle.std.proofs.Common.{◌∷◌, subst}
 use Rattle.s80_machine.specs.World.{one_tick}
-use Rattle.s80_machine.specs.Seen.{IsFound}
+use Rattle.s80_class.specs.Lookup.{IsFound}
 use Rattle.s80_machine.specs.Came.{given_of, places}
 use Rattle.s80_machine.specs.Messages.{finds, performs, places_in, runs}
 use Rattle.s80_machine.proofs.CameSends.{tick_goes}

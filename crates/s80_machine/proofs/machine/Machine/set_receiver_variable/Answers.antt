@@ -1,6 +1,6 @@
 use Rattle.std.proofs.Common.{◌∙◌, ap, option_copied, sym}
 use Rattle.s80_machine.proofs.CameStores.{active_is, field_comes}
-use Rattle.s80_machine.specs.World.{waiting}
+use Rattle.s80_machine.specs.Turn.{waiting}
 use Rattle.s80_machine.proofs.machine.Machine.set_receiver_variable.Goals as goal
 
 pub returns-in-Object : goal.returns-in-Object

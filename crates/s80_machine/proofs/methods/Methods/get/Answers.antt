@@ -1,5 +1,5 @@
 use Rattle.std.proofs.Common.{◌∙◌, ap, slice_get}
-use Rattle.s80_object.proofs.Kept.{texts_of}
+use Rattle.s80_object.proofs.lemmas.Kept.{texts_of}
 use Rattle.s80_machine.proofs.KeptMethods.{got, read_at}
 use Rattle.s80_machine.proofs.methods.Methods.get.Goals as goal
 

@@ -1,5 +1,5 @@
 use Rattle.std.proofs.Common.{◌∙◌, ap, option_copied}
-use Rattle.s80_object.proofs.Kept.{texts_of}
+use Rattle.s80_object.proofs.lemmas.Kept.{texts_of}
 use Rattle.s80_machine.proofs.KeptListings.{entry_there, none_read, none_there, one_read, some_kept}
 use Rattle.s80_machine.proofs.methods.Methods.instruction.Goals as goal
 

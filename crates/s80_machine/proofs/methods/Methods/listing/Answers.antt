@@ -1,6 +1,6 @@
 use Rattle.std.proofs.Common.{◌∙◌, Some, ap, option_copied, sym}
 use Rattle.std.specs.Option.{option_map}
-use Rattle.s80_object.proofs.Kept.{texts_of}
+use Rattle.s80_object.proofs.lemmas.Kept.{texts_of}
 use Rattle.s80_machine.proofs.KeptListings.{all_kept, none_read, one_read}
 use Rattle.s80_machine.proofs.methods.Methods.listing.Goals as goal
 

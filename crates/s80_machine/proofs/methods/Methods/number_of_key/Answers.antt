@@ -1,5 +1,5 @@
 use Rattle.std.proofs.Common.{◌≡◌, ◌∙◌, ◌++◌, ◌∷◌, [], arith, refl, subst, sym}
-use Rattle.s80_object.proofs.Kept.{none_of, texts_of}
+use Rattle.s80_object.proofs.lemmas.Kept.{none_of, texts_of}
 use Rattle.s80_machine.specs.declared.methods.Activated.{Activated}
 use Rattle.s80_machine.specs.Seen.{AreActivated, AreListed, Numbers, key_in, methods_of}
 use Rattle.s80_machine.proofs.KeptListings.{listings_of, one_more_listed}

@@ -1,7 +1,6 @@
 use Rattle.std.proofs.Common.{subst}
-use Rattle.s80_machine.specs.Lookup.{first_found}
-use Rattle.s80_machine.specs.Seen.{IsFound}
-use Rattle.s80_machine.proofs.KeptFound.{places_above}
+use Rattle.s80_class.specs.Lookup.{first_found, IsFound}
+use Rattle.s80_class.proofs.lemmas.Lookups.{places_above}
 use Rattle.s80_machine.proofs.setting.Setting.find_above.Goals as goal
 
 pub returns : goal.returns

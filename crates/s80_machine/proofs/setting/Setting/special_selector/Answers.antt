@@ -1,6 +1,6 @@
 use Rattle.std.proofs.Common.{ap, arith, length, sym}
 use Rattle.std.proofs.lemmas.Option.{slice_get_past}
-use Rattle.s80_machine.specs.Turn.{special_selectors}
+use Rattle.s80_code.specs.Special.{special_selectors}
 use Rattle.s80_machine.proofs.setting.Setting.special_selector.Goals as goal
 
 pub returns-else-from-count : goal.returns-else-from-count

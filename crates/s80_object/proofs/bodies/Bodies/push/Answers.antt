@@ -1,5 +1,5 @@
 use Rattle.std.proofs.Common.{arith, length, ap}
-use Rattle.s80_base.proofs.Lists.{length_map}
+use Rattle.s80_base.proofs.lemmas.Lists.{length_map}
 use Rattle.s80_object.proofs.Words.{few, pushed_counted}
 use Rattle.s80_object.specs.Seen.{tree_of}
 use Rattle.s80_object.proofs.bodies.Bodies.push.Goals as goal

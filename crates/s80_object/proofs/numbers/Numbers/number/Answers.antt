@@ -4,7 +4,7 @@ use Rattle.std.specs.List.{position_or_len}
 use Rattle.std.specs.Str.{bytes_eq}
 use Rattle.s80_object.specs.Literal.{added_once, is_opaque}
 use Rattle.s80_object.specs.Seen.{number_of}
-use Rattle.s80_object.proofs.Kept.{number_place, number_added}
+use Rattle.s80_object.proofs.lemmas.Kept.{number_place, number_added}
 use Rattle.s80_object.proofs.numbers.Numbers.number.Goals as goal
 
 pub returns-clause-number : goal.returns-clause-number

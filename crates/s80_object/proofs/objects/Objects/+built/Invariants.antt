@@ -1,6 +1,6 @@
 use Rattle.s80_base.specs.Literal.{literals_of}
 use Rattle.s80_object.proofs.Building.{GoesOn}
-use Rattle.s80_object.proofs.Left.{literals_left}
+use Rattle.s80_base.proofs.lemmas.LiteralLists.{literals_left}
 use Rattle.s80_object.proofs.objects.Objects.+built.Given as goal
 
 abbrev pub decreases-add_literal : goal.decreases-add_literal

@@ -1,5 +1,5 @@
 use Rattle.std.proofs.Common.{◌∙◌}
-use Rattle.s80_object.proofs.Kept.{found}
+use Rattle.s80_object.proofs.lemmas.Kept.{found}
 use Rattle.s80_object.proofs.pushes.Pushes.get.Goals as goal
 
 pub returns : goal.returns

@@ -2,7 +2,7 @@ use Rattle.std.proofs.Common.{◌∙◌, ◌++◌, ◌∷◌, [], ap, ap₂, map
 use Rattle.std.proofs.lemmas.List.{map-append}
 use Rattle.indexmap.proofs.CallerLemmas.{insert_entry-new}
 use Rattle.s80_object.specs.Seen.{made_of}
-use Rattle.s80_object.proofs.Kept.{found, made_again}
+use Rattle.s80_object.proofs.lemmas.Kept.{found, made_again}
 use Rattle.s80_object.proofs.pushes.Pushes.push.Goals as goal
 
 pub returns-clause-ok : goal.returns-clause-ok

@@ -1,5 +1,5 @@
 use Rattle.std.proofs.Common.{◌∙◌}
-use Rattle.s80_object.proofs.Kept.{found_place, found_once, last_place, added_last, none_of}
+use Rattle.s80_object.proofs.lemmas.Kept.{found_place, found_once, last_place, added_last, none_of}
 use Rattle.s80_object.proofs.texts.Texts.number.Goals as goal
 
 pub returns-in-Some-clause-number : goal.returns-in-Some-clause-number

@@ -1,7 +1,7 @@
 use Rattle.std.proofs.Common.{◌≡◌}
 use Rattle.s80_tree.specs.Tree.{exprs_of}
 use Rattle.s80_scope.specs.Inlined.{are_arms}
-use Rattle.s80_scope.proofs.Opens.{exprs_left}
+use Rattle.s80_scope.proofs.lemmas.Opens.{exprs_left}
 use Rattle.s80_scope.proofs.fit.ending.are_arms.Given as goal
 
 -- all are arms where those that are left are

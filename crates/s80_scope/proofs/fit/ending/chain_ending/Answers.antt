@@ -1,5 +1,5 @@
 use Rattle.std.proofs.Common.{◌∙◌, sym}
-use Rattle.s80_scope.proofs.Opens.{chain_last}
+use Rattle.s80_scope.proofs.lemmas.Opens.{chain_last}
 use Rattle.s80_scope.proofs.fit.ending.chain_ending.Goals as goal
 
 pub returns-in-len2-up : goal.returns-in-len2-up

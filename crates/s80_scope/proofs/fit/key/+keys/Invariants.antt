@@ -1,7 +1,7 @@
 use Rattle.std.proofs.Common.{◌≡◌, ◌++◌}
 use Rattle.s80_base.specs.Literal.{literals_of}
 use Rattle.s80_scope.specs.FitLiterals.{literals_key}
-use Rattle.s80_scope.proofs.Opens.{literals_left}
+use Rattle.s80_base.proofs.lemmas.LiteralLists.{literals_left}
 use Rattle.s80_scope.proofs.fit.key.+keys.Given as goal
 
 abbrev pub invariant-add_literals-loop-literal : goal.invariant-add_literals-loop-literal

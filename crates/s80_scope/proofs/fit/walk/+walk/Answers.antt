@@ -1,11 +1,11 @@
-use Rattle.std.proofs.Common.{◌≡◌, ◌+◌, ◌≤◌, ◌<◌, OnOk, IfOk, arith, rules, length, subst, ◌∙◌, ap, sym}
+use Rattle.std.proofs.Common.{◌≡◌, ◌+◌, ◌≤◌, OnOk, IfOk, arith, length, subst, ◌∙◌}
 use Rattle.s80_tree.specs.declared.expr.Body.{out-Body}
-use Rattle.s80_tree.specs.Tree.{body_of, expr_of, exprs_of, messages_of, block_of}
+use Rattle.s80_tree.specs.Tree.{body_of, exprs_of, messages_of}
 use Rattle.s80_scope.specs.FitLiterals.{messages_entries}
 use Rattle.s80_scope.specs.Inlined.{is_inlined}
 use Rattle.s80_scope.specs.Scope.{declared_in}
-use Rattle.s80_scope.specs.Walk.{arguments_counts, arms_counts, body_counts, cut_off, messages_counts, with_entries}
-use Rattle.s80_scope.proofs.Counted.{rest_counts, goes_end}
+use Rattle.s80_scope.specs.Walk.{arguments_counts, arms_counts, cut_off, messages_counts}
+use Rattle.s80_scope.proofs.lemmas.Counted.{rest_counts}
 use Rattle.s80_scope.proofs.Steps.{argument_counts, exprs_step, arms_left, arms_step, arm_whole, block_entries, looped_block, real_block, statement_step, body_step, body_whole, more_messages, arms_after, last_message, next_message, last_names, next_names, sent_names, vec_length, expr_names}
 use Rattle.s80_scope.proofs.fit.walk.+walk.Goals.{messages-then-after-eq0+in_ok-next, messages-else-after-eq0+in_ok-next-2}
 use Rattle.s80_scope.proofs.fit.walk.+walk.Goals as goal

@@ -1,12 +1,11 @@
-use Rattle.std.proofs.Common.{◌≡◌, ℕ, ◌+◌, Bool, true, length}
+use Rattle.std.proofs.Common.{◌≡◌, ◌+◌, true, length}
 use Rattle.s80_tree.specs.Tree.{body_of, exprs_of, messages_of}
-use Rattle.s80_scope.specs.declared.fit.position.Position.TheVariants.{Value}
 use Rattle.s80_scope.specs.FitLiterals.{body_entries, exprs_entries, messages_entries}
 use Rattle.s80_scope.specs.Inlined.{are_arms, is_inlined}
 use Rattle.s80_scope.specs.Scope.{declared_in}
 use Rattle.s80_scope.specs.Walk.{arguments_counts, arms_counts, cut, messages_counts, last_has_arms, with_entries}
-use Rattle.s80_scope.proofs.Opens.{exprs_left, messages_left, stmts_left}
-use Rattle.s80_scope.proofs.Counted.{Goes, rest_counts}
+use Rattle.s80_scope.proofs.lemmas.Opens.{exprs_left, messages_left, stmts_left}
+use Rattle.s80_scope.proofs.lemmas.Counted.{Goes, rest_counts}
 use Rattle.s80_scope.proofs.fit.walk.+walk.Given as goal
 
 abbrev pub invariant-arguments-loop-argument : goal.invariant-arguments-loop-argument

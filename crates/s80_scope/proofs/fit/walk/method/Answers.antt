@@ -1,4 +1,4 @@
-use Rattle.std.proofs.Common.{◌∙◌, ap, length}
+use Rattle.std.proofs.Common.{◌∙◌, ap}
 use Rattle.s80_tree.specs.Tree.{method_of}
 use Rattle.s80_scope.specs.FitWeight.{method_leaves}
 use Rattle.s80_scope.proofs.Wholes.{method_count}

@@ -6,19 +6,21 @@ use Rattle.s80_change.specs.Block.{block, IsLawful}
 use Rattle.s80_form.specs.declared.refusal.Refusal.{Refusal}
 use Rattle.s80_form.specs.declared.refusal.Refused.{Refused}
 use Rattle.s80_disk.specs.Moments.{LeavesOnly}
+use Rattle.s80_disk.specs.Shown.{Faults}
+use Rattle.s80_disk.proofs.lemmas.Showing.{told_beside}
 use Rattle.s80_keeper.specs.declared.keep.KeepFault.TheVariants.{Full}
 use Rattle.s80_keeper.specs.Keeper.{KeeperState, Keeps}
 use Rattle.s80_keeper.specs.Standing.{LeavesEither}
-use Rattle.s80_keeper.specs.Answers.{Prepares}
+use Rattle.s80_keeper.specs.Answers.{PlacesFor, Prepares}
 use Rattle.s80_apply.specs.List.{add, state_of}
+use Rattle.s80_apply.specs.Placed.{placed_of}
 use Rattle.s80_model.specs.Replies.{Work}
 use Rattle.s80_session.specs.declared.end.SessionEnd.{SessionEnd}
 use Rattle.s80_session.specs.declared.session.Session.{Session}
-use Rattle.s80_session.specs.Ending.{Faults, HasReason, NoFewer, faults}
-use Rattle.s80_session.specs.Run.{shown}
+use Rattle.s80_session.specs.Ending.{HasReason, NoFewer}
 use Rattle.s80_session.specs.Session.{keeper_of}
 use Rattle.s80_session.specs.Working.{IsAt, IsLawfulFor, KeepLeaves}
-use Rattle.s80_session.proofs.Lasting.{nothing_happens}
+use Rattle.s80_session.proofs.lemmas.Lasting.{nothing_happens}
 use Rattle.s80_session.proofs.Adding.{still_at, refused, takes, lawful_on, kept, keep_lasts, keep_still}
 use Rattle.s80_session.proofs.Reading.{fault_ends, kept_reason}
 use Rattle.s80_session.proofs.session.Session.keep.Goals as goal
@@ -26,39 +28,42 @@ use Rattle.s80_session.proofs.session.Session.keep.Goals.{After-keep_change}
 
 pub returns-in-Err-Memory-clause-any_moment : goal.returns-in-Err-Memory-clause-any_moment
 returns-in-Err-Memory-clause-any_moment g c = λ work put lawful at.
-    keep_still g.O.Disk.moment g.O.Disk.left_since c.args.outside.now work put c.args.change (nothing_happens g.O.Disk.moment g.O.Disk.left_since _ (shown g.O.Disk.tells g.O.Disk.reads g.O.Source.left g.O.Sink.taken g.O.Sink.told c.args.outside.now) _ c.args.outside.now work put (λ told image left. let x = g.met.O.Disk.only_now c.args.outside.now told image left in (x.0, x.1 ∙ ap (λ b. b.told) (g.met.O.Outside.beside_is c.args.outside.now))) at)
+    keep_still g.O.Disk.moment g.O.Disk.left_since c.args.outside.now work put c.args.change (nothing_happens g.O.Disk.moment g.O.Disk.left_since _ (g.O.Outside.shown c.args.outside.now) _ c.args.outside.now work put (λ told image left. let x = g.met.O.Disk.only_now c.args.outside.now told image left in (x.0, x.1 ∙ told_beside g.met.O.Outside.beside_is g.met.O.Outside.shown_is c.args.outside.now)) at)
 
 pub returns-in-Err-Refusal-clause-any_moment : goal.returns-in-Err-Refusal-clause-any_moment
 returns-in-Err-Refusal-clause-any_moment g c = λ work put lawful at.
-    keep_still g.O.Disk.moment g.O.Disk.left_since c.args.outside.now work put c.args.change (nothing_happens g.O.Disk.moment g.O.Disk.left_since _ (shown g.O.Disk.tells g.O.Disk.reads g.O.Source.left g.O.Sink.taken g.O.Sink.told c.args.outside.now) _ c.args.outside.now work put (λ told image left. let x = g.met.O.Disk.only_now c.args.outside.now told image left in (x.0, x.1 ∙ ap (λ b. b.told) (g.met.O.Outside.beside_is c.args.outside.now))) at)
+    keep_still g.O.Disk.moment g.O.Disk.left_since c.args.outside.now work put c.args.change (nothing_happens g.O.Disk.moment g.O.Disk.left_since _ (g.O.Outside.shown c.args.outside.now) _ c.args.outside.now work put (λ told image left. let x = g.met.O.Disk.only_now c.args.outside.now told image left in (x.0, x.1 ∙ told_beside g.met.O.Outside.beside_is g.met.O.Outside.shown_is c.args.outside.now)) at)
 
 pub returns-in-Err-Memory-clause-kept : goal.returns-in-Err-Memory-clause-kept
 returns-in-Err-Memory-clause-kept g c = λ work put lawful at.
-    still_at (g.O.Disk.may_leave c.args.outside.now) (shown g.O.Disk.tells g.O.Disk.reads g.O.Source.left g.O.Sink.taken g.O.Sink.told c.args.outside.now) c.args.self.now (record c.args.self.now { keeper = c.prepare.new.self }) work put c.args.change c.prepare.ensures.same (c.prepare.ensures.system (state_of work.changes) at.keeps.system) refl at
+    still_at (g.O.Disk.may_leave c.args.outside.now) (g.O.Outside.shown c.args.outside.now) c.args.self.now (record c.args.self.now { keeper = c.prepare.new.self }) work put c.args.change c.prepare.ensures.same (c.prepare.ensures.system (state_of work.changes) at.keeps.system) (c.prepare.ensures.same_places (placed_of work.changes) at.keeps.places) refl at
 
 pub returns-in-Err-Refusal-clause-kept : goal.returns-in-Err-Refusal-clause-kept
 returns-in-Err-Refusal-clause-kept g c = λ work put lawful at.
     let P : Refused → Type 0 = λ r. Prepares (state_of work.changes) (keeper_of c.args.self.now).log.end c.args.change c.prepare.new.self.system (Err r) in
-    refused (g.O.Disk.may_leave c.args.outside.now) (shown g.O.Disk.tells g.O.Disk.reads g.O.Source.left g.O.Sink.taken g.O.Sink.told c.args.outside.now) c.args.self.now (record c.args.self.now { keeper = c.prepare.new.self }) work put c.args.change c.prepare.ensures.same (c.prepare.ensures.system (state_of work.changes) at.keeps.system) refl at c.in-Err-Refusal.refusal (subst P c.in-Err-Refusal.field-0-is (c.in-Err-Refusal.ensures.answer (state_of work.changes) at.keeps.system))
+    refused (g.O.Disk.may_leave c.args.outside.now) (g.O.Outside.shown c.args.outside.now) c.args.self.now (record c.args.self.now { keeper = c.prepare.new.self }) work put c.args.change c.prepare.ensures.same (c.prepare.ensures.system (state_of work.changes) at.keeps.system) (c.prepare.ensures.same_places (placed_of work.changes) at.keeps.places) refl at c.in-Err-Refusal.refusal (subst P c.in-Err-Refusal.field-0-is (c.in-Err-Refusal.ensures.answer (state_of work.changes) at.keeps.system))
 
 -- what the paths behind the keeping share
-module _ (g : _) (c : After-keep_change g) (work : Work) (put : List ℕ) (lawful : IsLawfulFor work.changes c.args.change) (at : IsAt (g.O.Disk.may_leave c.args.outside.now) (shown g.O.Disk.tells g.O.Disk.reads g.O.Source.left g.O.Sink.taken g.O.Sink.told c.args.outside.now) c.args.self.now work put) where
+module _ (g : _) (c : After-keep_change g) (work : Work) (put : List ℕ) (lawful : IsLawfulFor work.changes c.args.change) (at : IsAt (g.O.Disk.may_leave c.args.outside.now) (g.O.Outside.shown c.args.outside.now) c.args.self.now work put) where
   -- the session with a keeper that has prepared the change
   abbrev ready : Session
   ready = record c.args.self.now { keeper = c.prepare.new.self }
 
   -- it is at the list yet
-  now_at : IsAt (g.O.Disk.may_leave c.args.outside.now) (shown g.O.Disk.tells g.O.Disk.reads g.O.Source.left g.O.Sink.taken g.O.Sink.told c.args.outside.now) ready work put
-  now_at = still_at (g.O.Disk.may_leave c.args.outside.now) (shown g.O.Disk.tells g.O.Disk.reads g.O.Source.left g.O.Sink.taken g.O.Sink.told c.args.outside.now) c.args.self.now ready work put c.args.change c.prepare.ensures.same (c.prepare.ensures.system (state_of work.changes) at.keeps.system) refl at
+  now_at : IsAt (g.O.Disk.may_leave c.args.outside.now) (g.O.Outside.shown c.args.outside.now) ready work put
+  now_at = still_at (g.O.Disk.may_leave c.args.outside.now) (g.O.Outside.shown c.args.outside.now) c.args.self.now ready work put c.args.change c.prepare.ensures.same (c.prepare.ensures.system (state_of work.changes) at.keeps.system) (c.prepare.ensures.same_places (placed_of work.changes) at.keeps.places) refl at
 
   answer : Prepares (state_of work.changes) (keeper_of c.args.self.now).log.end c.args.change c.prepare.new.self.system (Ok c.in-Ok.prepared)
   answer = c.in-Ok.ensures.answer (state_of work.changes) at.keeps.system
 
+  places : PlacesFor (placed_of work.changes) c.prepare.new.self.system c.in-Ok.prepared
+  places = c.in-Ok.ensures.places (placed_of work.changes) at.keeps.places
+
   is_added : add work.changes c.args.change ≡ Ok (work.changes ++ c.args.change ∷ [])
-  is_added = takes (g.O.Disk.may_leave c.args.outside.now) (shown g.O.Disk.tells g.O.Disk.reads g.O.Source.left g.O.Sink.taken g.O.Sink.told c.args.outside.now) c.args.self.now ready work put c.args.change c.prepare.ensures.same (c.prepare.ensures.system (state_of work.changes) at.keeps.system) refl at c.in-Ok.prepared answer.0 answer.1 answer.2
+  is_added = takes (g.O.Disk.may_leave c.args.outside.now) (g.O.Outside.shown c.args.outside.now) c.args.self.now ready work put c.args.change c.prepare.ensures.same (c.prepare.ensures.system (state_of work.changes) at.keeps.system) (c.prepare.ensures.same_places (placed_of work.changes) at.keeps.places) refl at c.in-Ok.prepared answer.0 answer.1 answer.2
 
   is_lawful : IsLawful c.in-Ok.prepared.change
-  is_lawful = lawful_on (g.O.Disk.may_leave c.args.outside.now) (shown g.O.Disk.tells g.O.Disk.reads g.O.Source.left g.O.Sink.taken g.O.Sink.told c.args.outside.now) c.args.self.now ready work put c.args.change c.prepare.ensures.same (c.prepare.ensures.system (state_of work.changes) at.keeps.system) refl at c.in-Ok.prepared answer.0 answer.1 lawful
+  is_lawful = lawful_on (g.O.Disk.may_leave c.args.outside.now) (g.O.Outside.shown c.args.outside.now) c.args.self.now ready work put c.args.change c.prepare.ensures.same (c.prepare.ensures.system (state_of work.changes) at.keeps.system) (c.prepare.ensures.same_places (placed_of work.changes) at.keeps.places) refl at c.in-Ok.prepared answer.0 answer.1 lawful
 
   -- what was prepared has room
   roomy : (n : ℕ) → c.keep_change.result ≡ Err (Full n) → ⊥
@@ -70,18 +75,18 @@ module _ (g : _) (c : After-keep_change g) (work : Work) (put : List ℕ) (lawfu
 
   run : LeavesOnly g.O.Disk.moment g.O.Disk.left_since c.args.outside.now c.keep_change.new.outside (KeepLeaves work put c.args.change)
   run =
-      let P : Change → Type 0 = λ x. LeavesOnly g.O.Disk.moment g.O.Disk.left_since c.args.outside.now c.keep_change.new.outside (LeavesEither (g.O.Sink.told c.args.outside.now) work.changes (work.changes ++ x ∷ [])) in
-      keep_lasts g.O.Disk.moment g.O.Disk.left_since c.args.outside.now c.keep_change.new.outside work put c.args.change (g.O.Sink.told c.args.outside.now) is_added at.told
-      (subst P answer.0 (c.keep_change.ensures.any_moment work.changes now_at.keeps is_lawful answer.1))
+      let P : Change → Type 0 = λ x. LeavesOnly g.O.Disk.moment g.O.Disk.left_since c.args.outside.now c.keep_change.new.outside (LeavesEither (g.O.Outside.shown c.args.outside.now).told work.changes (work.changes ++ x ∷ [])) in
+      keep_lasts g.O.Disk.moment g.O.Disk.left_since c.args.outside.now c.keep_change.new.outside work put c.args.change (g.O.Outside.shown c.args.outside.now).told is_added at.told
+      (subst P answer.0 (c.keep_change.ensures.any_moment work.changes now_at.keeps is_lawful answer.1 places))
 
 pub returns-in-Ok-keep_change-clause-kept : goal.returns-in-Ok-keep_change-clause-kept
 returns-in-Ok-keep_change-clause-kept g c = λ work put lawful at.
     let after = (goal.at.returns-in-Ok-keep_change-clause-kept g c).After-keep_change in
     let new = c.keep_change.new.outside in
     let is = answer g after work put lawful at in
-    let P : Change → Type 0 = λ x. Keeps (g.O.Disk.tells new) (g.O.Disk.reads new) (g.O.Disk.may_leave new) c.keep_change.new.keeper (work.changes ++ x ∷ []) in
-    kept (g.O.Disk.may_leave c.args.outside.now) (g.O.Disk.may_leave new) (shown g.O.Disk.tells g.O.Disk.reads g.O.Source.left g.O.Sink.taken g.O.Sink.told c.args.outside.now) (shown g.O.Disk.tells g.O.Disk.reads g.O.Source.left g.O.Sink.taken g.O.Sink.told new) c.args.self.now (record c.args.self.now { keeper = c.keep_change.new.keeper }) work put c.args.change (is_added g after work put lawful at)
-    (subst P is.0 (c.in-Ok-keep_change.ensures.kept work.changes (now_at g after work put lawful at).keeps (is_lawful g after work put lawful at) is.1))
+    let P : Change → Type 0 = λ x. Keeps (g.O.Outside.shown new).tells (g.O.Outside.shown new).files (g.O.Disk.may_leave new) c.keep_change.new.keeper (work.changes ++ x ∷ []) in
+    kept (g.O.Disk.may_leave c.args.outside.now) (g.O.Disk.may_leave new) (g.O.Outside.shown c.args.outside.now) (g.O.Outside.shown new) c.args.self.now (record c.args.self.now { keeper = c.keep_change.new.keeper }) work put c.args.change (is_added g after work put lawful at)
+    (subst P is.0 (c.in-Ok-keep_change.ensures.kept work.changes (now_at g after work put lawful at).keeps (is_lawful g after work put lawful at) is.1 (places g after work put lawful at)))
     refl c.keep_change.ensures.shown at
 
 pub returns-in-Ok-keep_change-clause-any_moment : goal.returns-in-Ok-keep_change-clause-any_moment
@@ -103,8 +108,8 @@ returns-in_err-refusal_at_fault-in-Err-clause-any_moment g c = run g (goal.at.re
 pub returns-in_err-refusal_at_fault-in-Err-clause-counts : goal.returns-in_err-refusal_at_fault-in-Err-clause-counts
 returns-in_err-refusal_at_fault-in-Err-clause-counts g c =
     let counts = c.keep_change.ensures.faults in
-    let old = faults g.O.Source.read_faults g.O.Sink.write_faults g.O.Disk.disk_faults c.args.outside.now in
-    let new = faults g.O.Source.read_faults g.O.Sink.write_faults g.O.Disk.disk_faults c.keep_change.new.outside in
+    let old = g.O.Outside.faults c.args.outside.now in
+    let new = g.O.Outside.faults c.keep_change.new.outside in
     let later : NoFewer old new = record {
       read = let e = ap (λ (f : Faults). f.read) counts in omega (arith, e);
       write = let e = ap (λ (f : Faults). f.write) counts in omega (arith, e);

@@ -1,4 +1,4 @@
-use Rattle.std.proofs.Common.{inl, inr, ℕ, List, Option, None, Some, Ok, ap, sym, subst, ◌∙◌}
+use Rattle.std.proofs.Common.{inl, inr, ℕ, Bool, List, Option, None, Some, Ok, ap, refl, sym, subst, ◌∙◌}
 use Rattle.std.proofs.lemmas.Result.{err_from_is_err_and}
 use Rattle.s80_change.specs.declared.change.Change.TheVariants.{DoIt}
 use Rattle.s80_form.specs.Definition.{IsNoDefinition}
@@ -6,20 +6,18 @@ use Rattle.s80_form.specs.declared.refusal.Refusal.{Refusal}
 use Rattle.s80_chunk.specs.declared.item.Item.TheVariants as items
 use Rattle.s80_chunk.specs.Chunks.{IsChunkText}
 use Rattle.s80_disk.specs.Moments.{LeavesOnly}
-use Rattle.s80_doit.specs.DoIt.{IsRunOf}
-use Rattle.s80_machine.specs.Came.{RanValue}
-use Rattle.s80_print.specs.Outcome.{outcome_text}
+use Rattle.s80_disk.proofs.lemmas.Showing.{told_beside}
+use Rattle.s80_doit.specs.Answer.{EvaluatesTo}
 use Rattle.s80_apply.specs.List.{state_of}
 use Rattle.s80_apply.specs.System.{IsSystemOf, SystemState}
 use Rattle.s80_model.specs.declared.item.SessionItem.TheVariants.{Chunk}
 use Rattle.s80_model.specs.Asked.{evaluates}
 use Rattle.s80_model.specs.Replies.{AsksIn, Work}
-use Rattle.s80_session.specs.Run.{shown}
-use Rattle.s80_session.specs.Session.{last_run_of}
+use Rattle.s80_session.specs.Session.{last_run_of, was_of}
 use Rattle.s80_session.specs.Working.{IsAt, IsLawfulFor, Kept, WorkLeaves}
 use Rattle.s80_session.proofs.Asking.{doit_lawful}
 use Rattle.s80_session.proofs.Evaluating.{asks_doit, doit_lasts, replied_evaluated, replied_unkept, unevaluated}
-use Rattle.s80_session.proofs.Lasting.{nothing_happens, work_still}
+use Rattle.s80_session.proofs.lemmas.Lasting.{nothing_happens, work_still}
 use Rattle.s80_session.proofs.Marking.{ran_last}
 use Rattle.s80_session.proofs.Stepping.{unreplied}
 use Rattle.s80_session.proofs.session.Session.keep_doit.Goals as goal
@@ -27,33 +25,30 @@ use Rattle.s80_session.proofs.session.Session.keep_doit.Goals.{After-keep}
 
 pub returns-in_err-code-clause-any_moment : goal.returns-in_err-code-clause-any_moment
 returns-in_err-code-clause-any_moment g c = λ work put chunk none at.
-    work_still g.O.Disk.moment g.O.Disk.left_since c.args.outside.now c.args.outside.now work put (Chunk (items.Plain c.args.text)) (nothing_happens g.O.Disk.moment g.O.Disk.left_since _ (shown g.O.Disk.tells g.O.Disk.reads g.O.Source.left g.O.Sink.taken g.O.Sink.told c.args.outside.now) _ c.args.outside.now work put (λ told image left. let x = g.met.O.Disk.only_now c.args.outside.now told image left in (x.0, x.1 ∙ ap (λ b. b.told) (g.met.O.Outside.beside_is c.args.outside.now))) at)
+    work_still g.O.Disk.moment g.O.Disk.left_since c.args.outside.now c.args.outside.now work put (Chunk (items.Plain c.args.text)) (nothing_happens g.O.Disk.moment g.O.Disk.left_since _ (g.O.Outside.shown c.args.outside.now) _ c.args.outside.now work put (λ told image left. let x = g.met.O.Disk.only_now c.args.outside.now told image left in (x.0, x.1 ∙ told_beside g.met.O.Outside.beside_is g.met.O.Outside.shown_is c.args.outside.now)) at)
 
 -- what the paths behind the keeping share
-module _ (g : _) (c : After-keep g) (work : Work) (put : List ℕ) (chunk : IsChunkText c.args.text) (none : IsNoDefinition c.args.text) (at : IsAt (g.O.Disk.may_leave c.args.outside.now) (shown g.O.Disk.tells g.O.Disk.reads g.O.Source.left g.O.Sink.taken g.O.Sink.told c.args.outside.now) c.args.self.now work put) where
+module _ (g : _) (c : After-keep g) (work : Work) (put : List ℕ) (chunk : IsChunkText c.args.text) (none : IsNoDefinition c.args.text) (at : IsAt (g.O.Disk.may_leave c.args.outside.now) (g.O.Outside.shown c.args.outside.now) c.args.self.now work put) where
   lawful : IsLawfulFor work.changes (DoIt c.args.text)
   lawful = doit_lawful work.changes c.args.text chunk c.requires.short c.requires.fits none
 
-  -- what the run comes to among the classes and methods before the doIt is kept
-  ran : (r : RanValue) × IsRunOf c.system.result.now c.args.text work.budget r
-  ran = c.in_ok-code.ensures.ends work.budget
-
-  abbrev told : List ℕ
-  told = outcome_text c.system.result.now.table ran.0.outcome
-
-  asks : AsksIn work (Chunk (items.Plain c.args.text)) (evaluates c.args.text ran.0 told)
-  asks =
+  -- what the text comes to in the state before it is kept
+  comes_to : (told : List ℕ) × (stopped : Bool) × EvaluatesTo (state_of work.changes) c.args.text work.settings.budget told stopped
+  comes_to =
       let P : SystemState → Type 0 = λ s. IsSystemOf s (state_of work.changes) in
-      asks_doit work c.args.text ran.0 c.system.result.now c.requires.fits none (subst P (sym c.system.ensures) at.keeps.system) c.in_ok-code.ensures.given ran.1
+      c.in_ok-code.ensures.evaluates (state_of work.changes) work.settings.budget (subst P (sym c.system.ensures) at.keeps.system)
+
+  asks : (told : List ℕ) × (stopped : Bool) × AsksIn work (Chunk (items.Plain c.args.text)) (evaluates c.args.text told stopped)
+  asks = asks_doit work c.args.text comes_to.0 comes_to.1 c.requires.fits none comes_to.2
 
   run : LeavesOnly g.O.Disk.moment g.O.Disk.left_since c.args.outside.now c.keep.new.outside (WorkLeaves work put (Chunk (items.Plain c.args.text)))
-  run = doit_lasts g.O.Disk.moment g.O.Disk.left_since c.args.outside.now c.keep.new.outside work put c.args.text ran.0 told asks (c.keep.ensures.any_moment work put lawful at)
+  run = doit_lasts g.O.Disk.moment g.O.Disk.left_since c.args.outside.now c.keep.new.outside work put c.args.text asks.0 asks.1 asks.2 (c.keep.ensures.any_moment work put lawful at)
 
 pub returns-in_err-keep-clause-replied : goal.returns-in_err-keep-clause-replied
 returns-in_err-keep-clause-replied g c = λ work put chunk none at.
     let after = (goal.at.returns-in_err-keep-clause-replied g c).After-keep in
     let p = err_from_is_err_and c.from_residual-in_err-keep.result c.from_residual-in_err-keep.ensures.1 in
-    rw (p.1, p.2) (unreplied c.in_err-keep.field-0.0 (g.O.Disk.may_leave c.keep.new.outside) (shown g.O.Disk.tells g.O.Disk.reads g.O.Source.left g.O.Sink.taken g.O.Sink.told c.keep.new.outside) c.keep.new.self work put (Chunk (items.Plain c.args.text)) (c.in_err-keep.ensures.kept work put (lawful g after work put chunk none at) at))
+    rw (p.1, p.2) (unreplied c.in_err-keep.field-0.0 (g.O.Disk.may_leave c.keep.new.outside) (g.O.Outside.shown c.keep.new.outside) c.keep.new.self work put (Chunk (items.Plain c.args.text)) (c.in_err-keep.ensures.kept work put (lawful g after work put chunk none at) at))
 
 pub returns-in_err-keep-clause-any_moment : goal.returns-in_err-keep-clause-any_moment
 returns-in_err-keep-clause-any_moment g c = run g (goal.at.returns-in_err-keep-clause-any_moment g c).After-keep
@@ -61,11 +56,12 @@ returns-in_err-keep-clause-any_moment g c = run g (goal.at.returns-in_err-keep-c
 pub returns-in_err-evaluate-in-None-clause-replied : goal.returns-in_err-evaluate-in-None-clause-replied
 returns-in_err-evaluate-in-None-clause-replied g c = λ work put chunk none at.
     let after = (goal.at.returns-in_err-evaluate-in-None-clause-replied g c).After-keep in
-    let new = shown g.O.Disk.tells g.O.Disk.reads g.O.Source.left g.O.Sink.taken g.O.Sink.told c.keep.new.outside in
+    let new = g.O.Outside.shown c.keep.new.outside in
     let P : Option Refusal → Type 0 = λ o. Kept (Ok o) (g.O.Disk.may_leave c.keep.new.outside) new c.keep.new.self work put (DoIt c.args.text) in
     let is_kept = subst P c.in-None.is (c.in_ok-keep.ensures.kept work put (lawful g after work put chunk none at) at) in
     let p = err_from_is_err_and c.from_residual-in_err-evaluate-in-None.result c.from_residual-in_err-evaluate-in-None.ensures.1 in
-    rw (p.1, p.2) (inr (unevaluated (g.O.Disk.may_leave c.keep.new.outside) new c.keep.new.self c.evaluate.new.self work put c.args.text c.requires.fits none c.evaluate.ensures.rest is_kept (ran g after work put chunk none at).0 (told g after work put chunk none at) (asks g after work put chunk none at) (c.in_err-evaluate-in-None.ensures.evaluated c.args.text c.in_ok-code.ensures.code)))
+    let asked = asks g after work put chunk none at in
+    rw (p.1, p.2) (inr (unevaluated (g.O.Disk.may_leave c.keep.new.outside) new c.keep.new.self c.evaluate.new.self work put c.args.text c.requires.fits none c.evaluate.ensures.rest is_kept asked.0 asked.1 asked.2))
 
 pub returns-in_err-evaluate-in-None-clause-any_moment : goal.returns-in_err-evaluate-in-None-clause-any_moment
 returns-in_err-evaluate-in-None-clause-any_moment g c = run g (goal.at.returns-in_err-evaluate-in-None-clause-any_moment g c).After-keep
@@ -73,10 +69,10 @@ returns-in_err-evaluate-in-None-clause-any_moment g c = run g (goal.at.returns-i
 pub returns-in-None-clause-replied : goal.returns-in-None-clause-replied
 returns-in-None-clause-replied g c = λ work put chunk none at.
     let after = (goal.at.returns-in-None-clause-replied g c).After-keep in
-    let new = shown g.O.Disk.tells g.O.Disk.reads g.O.Source.left g.O.Sink.taken g.O.Sink.told c.keep.new.outside in
+    let new = g.O.Outside.shown c.keep.new.outside in
     let P : Option Refusal → Type 0 = λ o. Kept (Ok o) (g.O.Disk.may_leave c.keep.new.outside) new c.keep.new.self work put (DoIt c.args.text) in
     let is_kept = subst P c.in-None.is (c.in_ok-keep.ensures.kept work put (lawful g after work put chunk none at) at) in
-    replied_evaluated (g.O.Disk.may_leave c.keep.new.outside) new c.keep.new.self c.evaluate.new.self work put c.args.text c.requires.fits none c.evaluate.ensures.rest is_kept c.in_ok-evaluate-in-None.field-0 (c.in_ok-evaluate-in-None.ensures.evaluated c.args.text c.in_ok-code.ensures.code)
+    replied_evaluated (g.O.Disk.may_leave c.keep.new.outside) new c.keep.new.self c.evaluate.new.self work put c.args.text c.requires.fits none c.evaluate.ensures.rest is_kept (was_of c.args.self.now) c.in_ok-evaluate-in-None.field-0 (c.in_ok-evaluate-in-None.ensures.evaluated c.args.text c.in_ok-code.ensures.code)
 
 pub returns-in-None-clause-any_moment : goal.returns-in-None-clause-any_moment
 returns-in-None-clause-any_moment g c = run g (goal.at.returns-in-None-clause-any_moment g c).After-keep
@@ -84,19 +80,27 @@ returns-in-None-clause-any_moment g c = run g (goal.at.returns-in-None-clause-an
 pub returns-clause-replied : goal.returns-clause-replied
 returns-clause-replied g c = λ work put chunk none at.
     let after = (goal.at.returns-clause-replied g c).After-keep in
-    let new = shown g.O.Disk.tells g.O.Disk.reads g.O.Source.left g.O.Sink.taken g.O.Sink.told c.keep.new.outside in
+    let new = g.O.Outside.shown c.keep.new.outside in
     let P : Option Refusal → Type 0 = λ o. Kept (Ok o) (g.O.Disk.may_leave c.keep.new.outside) new c.keep.new.self work put (DoIt c.args.text) in
-    replied_unkept (g.O.Disk.may_leave c.keep.new.outside) new c.keep.new.self work put c.args.text (ran g after work put chunk none at).0 (told g after work put chunk none at) c.in-Some.refusal (asks g after work put chunk none at) (subst P c.in-Some.is (c.in_ok-keep.ensures.kept work put (lawful g after work put chunk none at) at))
+    replied_unkept (g.O.Disk.may_leave c.keep.new.outside) new c.keep.new.self (was_of c.args.self.now) work put c.args.text c.in-Some.refusal c.requires.fits none (ap last_run_of c.keep.ensures.rest) (subst P c.in-Some.is (c.in_ok-keep.ensures.kept work put (lawful g after work put chunk none at) at))
 
 pub returns-clause-any_moment : goal.returns-clause-any_moment
 returns-clause-any_moment g c = run g (goal.at.returns-clause-any_moment g c).After-keep
 
+pub returns-in_err-code-clause-last_run : goal.returns-in_err-code-clause-last_run
+returns-in_err-code-clause-last_run g c = λ none.
+    let p = err_from_is_err_and c.from_residual.result c.from_residual.ensures.1 in
+    rw p.1 refl
+
 pub returns-in_err-keep-clause-last_run : goal.returns-in_err-keep-clause-last_run
-returns-in_err-keep-clause-last_run g c = λ none. inl (ap last_run_of c.keep.ensures.rest)
+returns-in_err-keep-clause-last_run g c = λ none.
+    let p = err_from_is_err_and c.from_residual-in_err-keep.result c.from_residual-in_err-keep.ensures.1 in
+    rw p.1 (ap last_run_of c.keep.ensures.rest)
 
 pub returns-in_err-evaluate-in-None-clause-last_run : goal.returns-in_err-evaluate-in-None-clause-last_run
 returns-in_err-evaluate-in-None-clause-last_run g c = λ none.
-    inl (c.in_err-evaluate-in-None.ensures.evaluated c.args.text c.in_ok-code.ensures.code ∙ ap last_run_of c.keep.ensures.rest)
+    let p = err_from_is_err_and c.from_residual-in_err-evaluate-in-None.result c.from_residual-in_err-evaluate-in-None.ensures.1 in
+    rw p.1 (c.in_err-evaluate-in-None.ensures.evaluated c.args.text c.in_ok-code.ensures.code ∙ ap last_run_of c.keep.ensures.rest)
 
 pub returns-in-None-clause-last_run : goal.returns-in-None-clause-last_run
 returns-in-None-clause-last_run g c = λ none.

@@ -6,6 +6,8 @@ use Rattle.s80_form.specs.declared.refusal.Refusal.{Refusal}
 use Rattle.s80_class.specs.Classes.{Classes}
 use Rattle.s80_class.specs.Table.{IsNumberOf}
 use Rattle.s80_disk.specs.Moments.{LeavesOnly}
+use Rattle.s80_disk.specs.Shown.{Faults}
+use Rattle.s80_disk.proofs.lemmas.Showing.{told_beside}
 use Rattle.s80_keeper.specs.declared.keep.KeepFault.{KeepFault}
 use Rattle.s80_keeper.specs.Keeper.{KeeperState}
 use Rattle.s80_keeper.specs.Source.{IsThis, after_reading}
@@ -20,11 +22,12 @@ use Rattle.s80_apply.specs.List.{state_of}
 use Rattle.s80_apply.specs.System.{SystemState}
 use Rattle.s80_session.specs.declared.end.SessionEnd.{SessionEnd}
 use Rattle.s80_session.specs.declared.session.Session.{Session}
-use Rattle.s80_session.specs.Ending.{EndsForReasonOrDamage, Faults, NoFewer, faults}
-use Rattle.s80_session.specs.Run.{HasKept, shown}
+use Rattle.s80_session.specs.Ending.{EndsForReasonOrDamage, NoFewer}
+use Rattle.s80_session.specs.Run.{HasKept}
+use Rattle.s80_session.specs.Session.{was_of}
 use Rattle.s80_session.specs.Working.{IsAt, Replied, Unreplied}
-use Rattle.s80_session.proofs.Keeping.{keeps_knows}
-use Rattle.s80_session.proofs.Lasting.{nothing_happens, quiet_last}
+use Rattle.s80_session.proofs.lemmas.Keeping.{keeps_knows}
+use Rattle.s80_session.proofs.lemmas.Lasting.{nothing_happens, quiet_last}
 use Rattle.s80_session.proofs.Reading.{at_read, fault_unread, read_reason, unread_ends}
 use Rattle.s80_session.proofs.Stepping.{replied_told}
 use Rattle.s80_session.proofs.Telling.{source_is_told}
@@ -32,39 +35,39 @@ use Rattle.s80_session.proofs.session.Session.tell_source.Goals as goal
 use Rattle.s80_session.proofs.session.Session.tell_source.Goals.{After-read_source}
 
 -- what the paths behind the reading share
-module _ (g : _) (c : After-read_source g) (work : Work) (put : List ℕ) (at : IsAt (g.O.Disk.may_leave c.args.outside.now) (shown g.O.Disk.tells g.O.Disk.reads g.O.Source.left g.O.Sink.taken g.O.Sink.told c.args.outside.now) c.args.self.now work put) where
+module _ (g : _) (c : After-read_source g) (work : Work) (put : List ℕ) (at : IsAt (g.O.Disk.may_leave c.args.outside.now) (g.O.Outside.shown c.args.outside.now) c.args.self.now work put) where
   -- it is the source that the list has
   this : IsThis (source_in (state_of work.changes) c.in-Some.name c.in-Some.side c.args.selector) c.read_source.result
-  this = c.read_source.ensures.source at.keeps.stands.told work.changes (keeps_knows (g.O.Disk.tells c.args.outside.now) (g.O.Disk.reads c.args.outside.now) (g.O.Disk.may_leave c.args.outside.now) c.args.self.now.keeper work.changes at.keeps) c.in-Some.name (subst (λ (s : SystemState). IsNumberOf s.table.names c.in-Some-find.number c.in-Some.name) c.system.ensures c.in-Some-find.ensures.named)
+  this = c.read_source.ensures.source at.keeps.stands.told work.changes (keeps_knows (g.O.Outside.shown c.args.outside.now).tells (g.O.Outside.shown c.args.outside.now).files (g.O.Disk.may_leave c.args.outside.now) c.args.self.now.keeper work.changes at.keeps) c.in-Some.name (subst (λ (s : SystemState). IsNumberOf s.table.names c.in-Some-find.number c.in-Some.name) c.system.ensures c.in-Some-find.ensures.named)
 
   run : LeavesOnly g.O.Disk.moment g.O.Disk.left_since c.args.outside.now c.read_source.new.outside (HasKept work.changes (length put))
-  run = quiet_last g.O.Disk.moment g.O.Disk.left_since (g.O.Disk.may_leave c.args.outside.now) (shown g.O.Disk.tells g.O.Disk.reads g.O.Source.left g.O.Sink.taken g.O.Sink.told c.args.outside.now) c.args.self.now c.args.outside.now c.read_source.new.outside work put at c.read_source.ensures.any_moment
+  run = quiet_last g.O.Disk.moment g.O.Disk.left_since (g.O.Disk.may_leave c.args.outside.now) (g.O.Outside.shown c.args.outside.now) c.args.self.now c.args.outside.now c.read_source.new.outside work put at c.read_source.ensures.any_moment
 
   -- where it was read, or isn't there, the session is where it was
-  still : (found : Option (List ℕ)) → c.read_source.result ≡ Ok found → IsAt (g.O.Disk.may_leave c.read_source.new.outside) (shown g.O.Disk.tells g.O.Disk.reads g.O.Source.left g.O.Sink.taken g.O.Sink.told c.read_source.new.outside) (record c.args.self.now { keeper = c.read_source.new.keeper }) work put
+  still : (found : Option (List ℕ)) → c.read_source.result ≡ Ok found → IsAt (g.O.Disk.may_leave c.read_source.new.outside) (g.O.Outside.shown c.read_source.new.outside) (record c.args.self.now { keeper = c.read_source.new.keeper }) work put
   still found is =
       let same : c.read_source.new.keeper ≡ c.args.self.now.keeper = c.read_source.ensures.after ∙ ap (λ r. after_reading r c.args.self.now.keeper) is in
-      at_read (g.O.Disk.may_leave c.args.outside.now) (g.O.Disk.may_leave c.read_source.new.outside) (shown g.O.Disk.tells g.O.Disk.reads g.O.Source.left g.O.Sink.taken g.O.Sink.told c.args.outside.now) (shown g.O.Disk.tells g.O.Disk.reads g.O.Source.left g.O.Sink.taken g.O.Sink.told c.read_source.new.outside) c.args.self.now (record c.args.self.now { keeper = c.read_source.new.keeper }) work put same refl c.read_source.ensures.images c.read_source.ensures.same c.read_source.ensures.shown at
+      at_read (g.O.Disk.may_leave c.args.outside.now) (g.O.Disk.may_leave c.read_source.new.outside) (g.O.Outside.shown c.args.outside.now) (g.O.Outside.shown c.read_source.new.outside) c.args.self.now (record c.args.self.now { keeper = c.read_source.new.keeper }) work put same refl c.read_source.ensures.images c.read_source.ensures.shown at
 
   -- the reply to a source that was read, or isn't there
-  is_told : (found : Option (List ℕ)) (reply : Reply) → c.read_source.result ≡ Ok found → reply ≡ source_told c.in-Some.name c.in-Some.side c.args.selector found → Replied (Ok reply) (g.O.Disk.may_leave c.read_source.new.outside) (shown g.O.Disk.tells g.O.Disk.reads g.O.Source.left g.O.Sink.taken g.O.Sink.told c.read_source.new.outside) (record c.args.self.now { keeper = c.read_source.new.keeper }) work put (Query (Source c.args.spec c.args.selector))
+  is_told : (found : Option (List ℕ)) (reply : Reply) → c.read_source.result ≡ Ok found → reply ≡ source_told c.in-Some.name c.in-Some.side c.args.selector found → Replied (Ok reply) (g.O.Disk.may_leave c.read_source.new.outside) (g.O.Outside.shown c.read_source.new.outside) (record c.args.self.now { keeper = c.read_source.new.keeper }) (was_of c.args.self.now) work put (Query (Source c.args.spec c.args.selector))
   is_told found reply is reply_is =
       let P : Result (Option (List ℕ)) KeepFault → Type 0 = λ r. IsThis (source_in (state_of work.changes) c.in-Some.name c.in-Some.side c.args.selector) r in
       let row = c.in-Some-find.ensures.there in
       let text = source_is_told (state_of work.changes) (length work.changes) c.args.spec c.args.selector c.in_ok-name.field-0 (c.in-Some.name, c.in-Some.side) c.in_ok-name.ensures c.in-Some.is row.0 found reply (sym (ap (λ (s : SystemState). map.get s.table.classes c.in-Some.name) c.system.ensures ∙ ap (λ (m : Classes). map.get m c.in-Some.name) at.keeps.system.classes) ∙ row.1) (subst P is this) reply_is in
-      replied_told (g.O.Disk.may_leave c.read_source.new.outside) (shown g.O.Disk.tells g.O.Disk.reads g.O.Source.left g.O.Sink.taken g.O.Sink.told c.read_source.new.outside) (record c.args.self.now { keeper = c.read_source.new.keeper }) work put (Source c.args.spec c.args.selector) (Source c.args.spec c.args.selector) (length work.changes) reply refl refl text (still found is)
+      replied_told (g.O.Disk.may_leave c.read_source.new.outside) (g.O.Outside.shown c.read_source.new.outside) (record c.args.self.now { keeper = c.read_source.new.keeper }) (was_of c.args.self.now) work put (Source c.args.spec c.args.selector) (Source c.args.spec c.args.selector) (length work.changes) reply refl refl refl text (still found is)
 
 pub returns-in_err-name-clause-any_moment : goal.returns-in_err-name-clause-any_moment
 returns-in_err-name-clause-any_moment g c = λ work put at.
-    nothing_happens g.O.Disk.moment g.O.Disk.left_since _ (shown g.O.Disk.tells g.O.Disk.reads g.O.Source.left g.O.Sink.taken g.O.Sink.told c.args.outside.now) _ c.args.outside.now work put (λ told image left. let x = g.met.O.Disk.only_now c.args.outside.now told image left in (x.0, x.1 ∙ ap (λ b. b.told) (g.met.O.Outside.beside_is c.args.outside.now))) at
+    nothing_happens g.O.Disk.moment g.O.Disk.left_since _ (g.O.Outside.shown c.args.outside.now) _ c.args.outside.now work put (λ told image left. let x = g.met.O.Disk.only_now c.args.outside.now told image left in (x.0, x.1 ∙ told_beside g.met.O.Outside.beside_is g.met.O.Outside.shown_is c.args.outside.now)) at
 
 pub returns-in_default-clause-any_moment : goal.returns-in_default-clause-any_moment
 returns-in_default-clause-any_moment g c = λ work put at.
-    nothing_happens g.O.Disk.moment g.O.Disk.left_since _ (shown g.O.Disk.tells g.O.Disk.reads g.O.Source.left g.O.Sink.taken g.O.Sink.told c.args.outside.now) _ c.args.outside.now work put (λ told image left. let x = g.met.O.Disk.only_now c.args.outside.now told image left in (x.0, x.1 ∙ ap (λ b. b.told) (g.met.O.Outside.beside_is c.args.outside.now))) at
+    nothing_happens g.O.Disk.moment g.O.Disk.left_since _ (g.O.Outside.shown c.args.outside.now) _ c.args.outside.now work put (λ told image left. let x = g.met.O.Disk.only_now c.args.outside.now told image left in (x.0, x.1 ∙ told_beside g.met.O.Outside.beside_is g.met.O.Outside.shown_is c.args.outside.now)) at
 
 pub returns-in_default-find-clause-any_moment : goal.returns-in_default-find-clause-any_moment
 returns-in_default-find-clause-any_moment g c = λ work put at.
-    nothing_happens g.O.Disk.moment g.O.Disk.left_since _ (shown g.O.Disk.tells g.O.Disk.reads g.O.Source.left g.O.Sink.taken g.O.Sink.told c.args.outside.now) _ c.args.outside.now work put (λ told image left. let x = g.met.O.Disk.only_now c.args.outside.now told image left in (x.0, x.1 ∙ ap (λ b. b.told) (g.met.O.Outside.beside_is c.args.outside.now))) at
+    nothing_happens g.O.Disk.moment g.O.Disk.left_since _ (g.O.Outside.shown c.args.outside.now) _ c.args.outside.now work put (λ told image left. let x = g.met.O.Disk.only_now c.args.outside.now told image left in (x.0, x.1 ∙ told_beside g.met.O.Outside.beside_is g.met.O.Outside.shown_is c.args.outside.now)) at
 
 pub returns-in_err-append-in-Ok-Some-clause-any_moment : goal.returns-in_err-append-in-Ok-Some-clause-any_moment
 returns-in_err-append-in-Ok-Some-clause-any_moment g c = run g (goal.at.returns-in_err-append-in-Ok-Some-clause-any_moment g c).After-read_source
@@ -107,9 +110,9 @@ returns-in_err-refusal_at_fault-in-Err-clause-replied g c = λ work put at.
     let new = c.read_source.new.outside in
     let now : Session = record c.args.self.now { keeper = c.read_source.new.keeper } in
     let item : SessionItem = Query (Source c.args.spec c.args.selector) in
-    let P : Result Refusal SessionEnd → Type 0 = λ r. IfErr r (λ end. Unreplied end (g.O.Disk.may_leave new) (shown g.O.Disk.tells g.O.Disk.reads g.O.Source.left g.O.Sink.taken g.O.Sink.told new) now work put item) in
+    let P : Result Refusal SessionEnd → Type 0 = λ r. IfErr r (λ end. Unreplied end (g.O.Disk.may_leave new) (g.O.Outside.shown new) now work put item) in
     let Q : Result (Option (List ℕ)) KeepFault → Type 0 = λ r. IsThis (source_in (state_of work.changes) c.in-Some.name c.in-Some.side c.args.selector) r in
-    let ends = subst P (sym c.in_err-refusal_at_fault-in-Err.ensures) (fault_unread c.in-Err.fault (source_in (state_of work.changes) c.in-Some.name c.in-Some.side c.args.selector) (g.O.Disk.may_leave c.args.outside.now) (g.O.Disk.may_leave new) (shown g.O.Disk.tells g.O.Disk.reads g.O.Source.left g.O.Sink.taken g.O.Sink.told c.args.outside.now) (shown g.O.Disk.tells g.O.Disk.reads g.O.Source.left g.O.Sink.taken g.O.Sink.told new) c.args.self.now now work put item (subst Q c.in-Err.is (this g after work put at)) (c.read_source.ensures.after ∙ ap (λ r. after_reading r c.args.self.now.keeper) c.in-Err.is) refl c.read_source.ensures.images c.read_source.ensures.same c.read_source.ensures.shown at) in
+    let ends = subst P (sym c.in_err-refusal_at_fault-in-Err.ensures) (fault_unread c.in-Err.fault (source_in (state_of work.changes) c.in-Some.name c.in-Some.side c.args.selector) (g.O.Disk.may_leave c.args.outside.now) (g.O.Disk.may_leave new) (g.O.Outside.shown c.args.outside.now) (g.O.Outside.shown new) c.args.self.now now work put item (subst Q c.in-Err.is (this g after work put at)) (c.read_source.ensures.after ∙ ap (λ r. after_reading r c.args.self.now.keeper) c.in-Err.is) refl c.read_source.ensures.images c.read_source.ensures.shown at) in
     let p = err_from_is_err_and c.from_residual-in_err-refusal_at_fault-in-Err.result c.from_residual-in_err-refusal_at_fault-in-Err.ensures.1 in
     rw (p.1, p.2) ends
 
@@ -119,14 +122,14 @@ returns-in_err-refusal_at_fault-in-Err-clause-any_moment g c = run g (goal.at.re
 pub returns-in_err-refusal_at_fault-in-Err-clause-counts : goal.returns-in_err-refusal_at_fault-in-Err-clause-counts
 returns-in_err-refusal_at_fault-in-Err-clause-counts g c =
     let counts = c.read_source.ensures.faults in
-    let old = faults g.O.Source.read_faults g.O.Sink.write_faults g.O.Disk.disk_faults c.args.outside.now in
-    let new = faults g.O.Source.read_faults g.O.Sink.write_faults g.O.Disk.disk_faults c.read_source.new.outside in
+    let old = g.O.Outside.faults c.args.outside.now in
+    let new = g.O.Outside.faults c.read_source.new.outside in
     let later : NoFewer old new = record {
       read = let e = ap (λ (f : Faults). f.read) counts in omega (arith, e);
       write = let e = ap (λ (f : Faults). f.write) counts in omega (arith, e);
       disk = c.read_source.ensures.later;
     } in
     let P : Result Refusal SessionEnd → Type 0 = λ r. IfErr r (λ end. EndsForReasonOrDamage {T = Reply} old new (Err end)) in
-    let reason = subst P (sym c.in_err-refusal_at_fault-in-Err.ensures) (read_reason Reply c.read_source.result c.args.self.now.keeper c.in-Err.fault old new c.in-Err.is c.read_source.ensures.cause c.read_source.ensures.closed c.requires.faultless) in
+    let reason = subst P (sym c.in_err-refusal_at_fault-in-Err.ensures) (read_reason Reply c.read_source.result c.args.self.now.keeper c.in-Err.fault old new c.in-Err.is counts c.read_source.ensures.cause c.read_source.ensures.faults_stay c.read_source.ensures.closed c.requires.faultless) in
     let p = err_from_is_err_and c.from_residual-in_err-refusal_at_fault-in-Err.result c.from_residual-in_err-refusal_at_fault-in-Err.ensures.1 in
     rw (p.1, p.2) (record { later = later; reason = reason })

@@ -1,4 +1,4 @@
-use Rattle.s80_tree.proofs.Lists.{stmt_at}
+use Rattle.s80_tree.proofs.lemmas.Lists.{stmt_at}
 use Rattle.s80_tree.proofs.expr.Body.at.Goals as goal
 
 pub returns : goal.returns

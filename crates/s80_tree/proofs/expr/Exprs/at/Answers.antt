@@ -1,4 +1,4 @@
-use Rattle.s80_tree.proofs.Lists.{expr_at}
+use Rattle.s80_tree.proofs.lemmas.Lists.{expr_at}
 use Rattle.s80_tree.proofs.expr.Exprs.at.Goals as goal
 
 pub returns : goal.returns

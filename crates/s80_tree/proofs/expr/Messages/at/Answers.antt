@@ -1,4 +1,4 @@
-use Rattle.s80_tree.proofs.Lists.{message_at}
+use Rattle.s80_tree.proofs.lemmas.Lists.{message_at}
 use Rattle.s80_tree.proofs.expr.Messages.at.Goals as goal
 
 pub returns : goal.returns

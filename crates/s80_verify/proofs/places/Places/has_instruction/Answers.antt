@@ -1,5 +1,5 @@
 use Rattle.std.proofs.Common.{refl, sym, ◌∙◌}
-use Rattle.s80_verify.proofs.LawLemmas.{none_stands}
+use Rattle.s80_verify.proofs.lemmas.LawLemmas.{none_stands}
 use Rattle.s80_verify.proofs.PlacesLemmas.{stands_at}
 use Rattle.s80_verify.proofs.places.Places.has_instruction.Goals as goal
 

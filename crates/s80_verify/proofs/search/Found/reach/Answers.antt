@@ -1,6 +1,6 @@
 use Rattle.std.proofs.Common.{arith}
 use Rattle.s80_verify.proofs.FoundLemmas.{adding, adds_sound, adds_grows}
-use Rattle.s80_verify.proofs.JumpLemmas.{clashing}
+use Rattle.s80_verify.proofs.lemmas.JumpLemmas.{clashing}
 use Rattle.s80_verify.proofs.search.Found.reach.Goals as goal
 
 pub returns-then-clashes-clause-fault : goal.returns-then-clashes-clause-fault

@@ -1,5 +1,5 @@
 use Rattle.std.proofs.Common.{rules}
-use Rattle.s80_verify.proofs.LawLemmas.{no_fault}
+use Rattle.s80_verify.proofs.lemmas.LawLemmas.{no_fault}
 use Rattle.s80_verify.proofs.verified.Verified.code.Goals as goal
 
 pub returns-clause-depths : goal.returns-clause-depths

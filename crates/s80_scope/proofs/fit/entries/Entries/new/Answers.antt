@@ -1,5 +1,3 @@
-use Rattle.std.proofs.Common.{length, ap, ◌∙◌, sym}
-use Rattle.std.specs.FinSet as set
 use Rattle.s80_scope.proofs.KeySets.{empty_counted}
 use Rattle.s80_scope.proofs.fit.entries.Entries.new.Goals as goal
 

@@ -1,9 +1,0 @@
-use Rattle.s80_agree.proofs.SentArms.{arms_had}
-use Rattle.s80_agree.proofs.SentCore.{core_sent}
-use Rattle.s80_agree.proofs.laws.messages_fit_their_selectors.Goals as goal
-
-pub returns-clause-arms : goal.returns-clause-arms
-returns-clause-arms c = arms_had
-
-pub returns-clause-core : goal.returns-clause-core
-returns-clause-core c = core_sent

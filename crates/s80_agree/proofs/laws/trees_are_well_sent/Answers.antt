@@ -1,8 +1,0 @@
-use Rattle.s80_agree.proofs.SentTrees.{method_sent, doit_sent}
-use Rattle.s80_agree.proofs.laws.trees_are_well_sent.Goals as goal
-
-pub returns-clause-method : goal.returns-clause-method
-returns-clause-method c = method_sent
-
-pub returns-clause-doit : goal.returns-clause-doit
-returns-clause-doit c = doit_sent

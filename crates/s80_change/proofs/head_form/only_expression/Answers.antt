@@ -1,6 +1,0 @@
-use Rattle.std.proofs.Common.{arith, rules}
-use Rattle.s80_form.proofs.Trees.{expression_alone}
-use Rattle.s80_change.proofs.head_form.only_expression.Goals as goal
-
-pub returns : goal.returns
-returns c = expression_alone c.args.tree.now c.at-stmt.result.now (omega arith) (omega arith) c.at-stmt.ensures (search rules)

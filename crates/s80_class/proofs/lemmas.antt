@@ -1,0 +1,6 @@
+pub mod Lines
+pub mod Rows
+pub mod Walks
+pub mod Most
+pub mod Numbers
+pub mod Lookups

@@ -1,0 +1,3 @@
+pub mod SpecialLemmas
+pub mod SpellingLemmas
+pub mod TableLemmas

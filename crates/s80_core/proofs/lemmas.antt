@@ -1,0 +1,2 @@
+pub mod FitAll
+pub mod CoverEnds

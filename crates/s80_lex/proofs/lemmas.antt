@@ -1,0 +1,10 @@
+pub mod Fronts
+pub mod Parts
+pub mod Quotes
+pub mod Runs
+pub mod SelectorLemmas
+pub mod Selectors
+pub mod Signs
+pub mod Slices
+pub mod Taken
+pub mod Standing

@@ -1,0 +1,4 @@
+pub mod JumpLemmas
+pub mod LawLemmas
+pub mod ListLemmas
+pub mod PlaceLemmas
