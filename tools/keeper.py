@@ -16,7 +16,7 @@ LISTS = [b"instanceVariableNames:", b"classVariableNames:", b"poolDictionaries:"
 CLASSES, INSTANCE_VARIABLES, CLASS_VARIABLES, POOLS, METHODS = 65_536, 64, 256, 256, 16_384
 # A text of so few bytes fits every machine.
 SURELY_FITS = 32
-TOO_LARGE = re.compile(rb"refused 3 too large (literals|temporaries|stack|weight) [1-9][0-9]*\n")
+MEASURES = {b"literals": 60, b"temporaries": 31, b"stack": 32, b"weight": 1_000}
 STOP = rb"stopped (1 error .*|2 not understood [A-Za-z0-9]+( class)? .+|3 not boolean|4 cannot return|5 block active|6 objects full [0-9]+|7 too deep|8 transcript full|9 budget 1000000)\n"
 VALUE, STOPPED = re.compile(rb"(.*\n)?=> .*\n", re.S), re.compile(rb"(.*\n)?" + STOP, re.S)
 
@@ -323,6 +323,14 @@ class Keeper:
         return row[1] + b"\n" if row else (None, b"10 no selector " + named + b" " + selector)
 
 
+class TooLarge:
+    """The pattern of the refusals of what doesn't fit a machine."""
+
+    def fullmatch(self, told):
+        found = re.fullmatch(rb"refused 3 too large ([a-z]+) ([1-9][0-9]*)\n", told)
+        return found and int(found[2]) > MEASURES.get(found[1], int(found[2]))
+
+
 def refused(work, refusal):
     return Way(b"refused " + refusal + b"\n", True, work)
 
@@ -337,7 +345,7 @@ def behind_head(work, item):
 
 
 def too_large(work, text):
-    return [] if len(text) <= SURELY_FITS else [Way(TOO_LARGE, True, work)]
+    return [] if len(text) <= SURELY_FITS else [Way(TooLarge(), True, work)]
 
 
 # ---- the kernel
