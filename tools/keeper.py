@@ -17,8 +17,9 @@ CLASSES, INSTANCE_VARIABLES, CLASS_VARIABLES, POOLS, METHODS = 65_536, 64, 256, 
 # A text of so few bytes fits every machine.
 SURELY_FITS = 32
 MEASURES = {b"literals": 60, b"temporaries": 31, b"stack": 32, b"weight": 1_000}
-STOP = rb"stopped (1 error .*|2 not understood [A-Za-z0-9]+( class)? .+|3 not boolean|4 cannot return|5 block active|6 objects full [0-9]+|7 too deep|8 transcript full|9 budget 1000000)\n"
-VALUE, STOPPED = re.compile(rb"(.*\n)?=> .*\n", re.S), re.compile(rb"(.*\n)?" + STOP, re.S)
+STOPS = [rb"1 error .*", rb"2 not understood [A-Za-z0-9]+( class)? .+", rb"3 not boolean", rb"4 cannot return", rb"5 block active",
+         rb"6 objects full [0-9]+", rb"7 too deep", rb"8 transcript full", rb"9 budget 1000000"]
+VALUE, STOPPED = re.compile(rb"(.*\n)?=> .*\n", re.S), re.compile(rb"(.*\n)?stopped (" + b"|".join(STOPS) + rb")\n", re.S)
 
 
 # ---- chunk files
@@ -294,7 +295,8 @@ class Keeper:
 
     def recovered(self, work):
         classes = len(work.state.classes.keys() - self.kernel.classes.keys())
-        methods = sum(row != self.kernel.side(*place).get(selector) for place, side in work.state.methods.items() for selector, row in side.items())
+        sides = [(side, self.kernel.side(*place)) for place, side in work.state.methods.items()]
+        methods = sum(row != kernels.get(selector) for side, kernels in sides for selector, row in side.items())
         return b"recovered %d changes, %d classes, %d methods\n" % (work.count, classes, methods)
 
     def classes(self, work):

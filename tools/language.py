@@ -177,7 +177,8 @@ class Parser:
     def is_minus_next(self):
         """Whether a minus is next that stands directly before a number."""
         token, behind = self.next(), self.tokens[self.at + 1 : self.at + 2]
-        return token.word == b"-" and token.kind == "binary" and bool(behind) and behind[0].kind == "number" and behind[0].start == token.end
+        is_minus = token.kind == "binary" and token.word == b"-"
+        return is_minus and bool(behind) and behind[0].kind == "number" and behind[0].start == token.end
 
     # -- literals
 

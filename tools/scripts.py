@@ -30,7 +30,9 @@ ANSWERS = {
 }
 FAULTY = [b"3 + ", b"'abc", b"3 + {4}", b"2r12", b"self _ 3", b"(" * 65 + b"1" + b")" * 65, b"^3. 4", b"a; b", b"#(1 . 2)", b"[:x | x"]
 FAULTY_METHODS = [b"one ^(2", b"take: ^3", b"take: x x _ 3", b"one <primitive: 0>", b"one | self | ^1", b"3 + 4"]
-HEADS = [b"Object foo", b"Object methodsFor: 3", b"A class class methodsFor: 'x'", b"Nobody methodsFor: 'x'", b"3 +", b"A methodsFor: 'x'; yourself"]
+HEADS = [b"Object foo", b"Object methodsFor: 3", b"A class class methodsFor: 'x'", b"Nobody methodsFor: 'x'", b"3 +",
+         b"A methodsFor: 'x'; yourself"]
+LISTS = [b"x y x", b"self", b"3x", b"x\ty\r\nz"] + [b" ".join(b"v%d" % each for each in range(count)) for count in (64, 65, 256, 257)]
 STRAY = [b"! !\n", b" \n\f\t", b"!\n!\n"]
 ASKED = re.compile(rb"(\w+)( new)? ([a-z]+|take: 3|from: 3 to: 4|% 3)")
 KNOWN_BODY = re.compile(rb".*\^\s*([0-9]+)\s*", re.S)
@@ -62,16 +64,15 @@ def names(chance, most):
 
 
 def definition(chance):
-    """Of one of the names; seldom one that is refused."""
+    """Of one of the names; now and then one that is refused, for one reason or for several."""
     name, superclass = chance.choice(NAMES), chance.choice(NAMES + [b"Object"] * 6)
     lists = [names(chance, 2), names(chance, 1).upper(), b""]
-    odd = chance.randrange(12)
-    if odd == 0:
+    if chance.randrange(10) == 0:
         name = chance.choice([b"Object", b"Smalltalk", b"small", b"take:", b"+"])
-    elif odd == 1:
+    if chance.randrange(10) == 0:
         superclass = b"Nobody"
-    elif odd == 2:
-        lists[chance.randrange(3)] = chance.choice([b"x y x", b"self", b"3x", b"x\ty\r\nz", b" ".join(b"v%d" % each for each in range(65))])
+    if chance.randrange(6) == 0:
+        lists[chance.randrange(3)] = chance.choice(LISTS)
     separator = chance.choice([b" ", b"\n\t", b"\r\t"])
     words = [b"instanceVariableNames:", b"classVariableNames:", b"poolDictionaries:", b"category:"]
     texts = [*lists, chance.choice(CATEGORIES)]
@@ -111,8 +112,9 @@ def doit(chance):
 
 def chunks(chance, count):
     """So many pieces of an input."""
-    kinds = [lambda: spell(definition(chance)) + b"\n", lambda: section(chance), lambda: spell(doit(chance)) + b"\n", lambda: chance.choice(STRAY)]
-    return b"".join(chance.choices(kinds, [4, 4, 5, 1])[0]() for _ in range(count))
+    kinds = [definition, section, doit, lambda chance: chance.choice(STRAY)]
+    found = [(kind, kind(chance)) for kind in chance.choices(kinds, [4, 4, 5, 1], k=count)]
+    return b"".join(spell(text) + b"\n" if kind in (definition, doit) else text for kind, text in found)
 
 
 # ---- commands

@@ -1,6 +1,7 @@
 """What the trials share: the program and its runs, the model's course of a command, folders, and the count of what was looked at."""
 import argparse
 import random
+import re
 import shutil
 import subprocess
 import sys
@@ -72,8 +73,8 @@ class Command(NamedTuple):
 
 
 class Course:
-    """What a command is answered from a list on, where all replies are known: the work before and behind each item, and the bytes written by
-    then."""
+    """What a command is answered from a list on, where all replies are known: the work before and behind each item, and the bytes that
+    are written by then."""
 
     def __init__(self, keeper, work, command):
         self.works, self.told = [work._replace(section=None)], [b""]
@@ -90,6 +91,10 @@ class Course:
             self.is_trouble |= way.is_trouble
         self.outcome = Outcome(int(self.is_trouble), self.told[-1], b"")
 
+    def kinds(self):
+        """What is counted of each reply that isn't empty."""
+        return [kind_of(told[len(before) :]) for before, told in zip(self.told, self.told[1:]) if told != before]
+
     def is_front(self, out):
         return self.told[-1].startswith(out)
 
@@ -103,6 +108,12 @@ class Course:
         """The lists for which a folder may stand where the run broke off behind these bytes: none is lost, and one may be begun."""
         least = self.answered(out)
         return {work.count: work for work in self.works if least.count <= work.count <= least.count + 1}
+
+
+def kind_of(reply):
+    """What is counted of a reply: its number, and the kind of fault or limit."""
+    found = re.match(rb"refused (?:2 [a-z-]+|3 too large [a-z]+|11 too many [a-z]+( variables)?|[0-9]+)|ok$", reply)
+    return found[0].decode() if found else "answers and stops"
 
 
 # ---- folders
@@ -170,8 +181,9 @@ class Trial:
 
     def __init__(self, doc, **more):
         parser = argparse.ArgumentParser(description=doc, formatter_class=argparse.RawDescriptionHelpFormatter)
-        parser.add_argument("--program", help="the program to try; left out, bin/st80 builds it where need be, and it is that of crates/st80/out")
-        parser.add_argument("--seed", type=int, default=random.SystemRandom().randrange(1 << 32), help="of what is left to chance; a failure names it")
+        parser.add_argument("--program", help="left out, that of crates/st80/out, which bin/st80 builds where need be")
+        seed = random.SystemRandom().randrange(1 << 32)
+        parser.add_argument("--seed", type=int, default=seed, help="of what is left to chance; a failure names it")
         for name, (default, text) in more.items():
             kind = {"action": "store_true"} if default is False else {"type": type(default), "default": default}
             parser.add_argument(f"--{name}", help=f"{text} ({default})" if default else text, **kind)
