@@ -13,7 +13,23 @@ from language import SEPARATORS, Fault, is_name, parse_doit, parse_method
 LONGEST = 65_535
 KINDS = {b"subclass:": "plain", b"variableSubclass:": "pointers", b"variableByteSubclass:": "bytes", b"variableWordSubclass:": "words"}
 LISTS = [b"instanceVariableNames:", b"classVariableNames:", b"poolDictionaries:"]
-CLASSES, INSTANCE_VARIABLES, CLASS_VARIABLES, POOLS, METHODS = 65_536, 64, 256, 256, 16_384
+CLASSES, INSTANCE_VARIABLES, CLASS_VARIABLES, CLASS_SIDE_VARIABLES, POOLS, METHODS = 65_536, 64, 256, 64, 256, 16_384
+# The forms beside definitions: the messages that they send, the change that they ask for, and the kinds of the last message's arguments.
+FORMS = {
+    (b"class", b"instanceVariableNames:"): ("class-variables", ["string"]),
+    (b"comment:",): ("comment", ["string"]),
+    (b"removeSelector:",): ("remove", ["symbol"]),
+    (b"class", b"removeSelector:"): ("remove", ["symbol"]),
+    (b"organization", b"classify:under:"): ("classify", ["symbol", "string"]),
+    (b"class", b"organization", b"classify:under:"): ("classify", ["symbol", "string"]),
+    (b"removeFromSystem",): ("remove-class", []),
+}
+SMALLTALK_FORMS = {
+    (b"removeClassNamed:",): ("remove-class", ["symbol"]),
+    (b"noChanges",): ("noChanges", []),
+    (b"snapshot",): ("snapshot", []),
+}
+NOTE = b'"----SNAPSHOT----"'
 # A text of so few bytes fits every machine.
 SURELY_FITS = 32
 MEASURES = {b"literals": 60, b"temporaries": 31, b"stack": 32, b"weight": 1_000}
@@ -85,6 +101,8 @@ class Class(NamedTuple):
     kind: str
     lists: tuple
     category: bytes
+    comment: bytes = b""
+    side_variables: tuple = ()
 
     def text(self, name):
         word = next(word for word, kind in KINDS.items() if kind == self.kind)
@@ -105,8 +123,51 @@ def spec(name, side):
     return name + b" class" if side == "class" else name
 
 
+class Change(NamedTuple):
+    """A change of the list: the word of its line in the change set, or doIt, noChanges or snapshot; its class, side and selector; and what
+    it puts: a class, names, a comment, a category, a method's category and source, or a doIt's text."""
+
+    word: str
+    name: bytes = b""
+    side: str = "instance"
+    selector: bytes = b""
+    put: object = None
+
+    def place(self):
+        return self.name, self.side, self.selector
+
+    def block(self):
+        if self.word != "method":
+            return spell(self.text()) + b"\n"
+        category, source = self.put
+        return b"!" + spell(Head(self.name, self.side, category).text()) + b"\n" + spell(source) + b" !\n"
+
+    def text(self):
+        texts = {
+            "define": lambda: self.put.text(self.name),
+            "class-variables": lambda: self.name + b" class instanceVariableNames: " + quoted(b" ".join(self.put)),
+            "comment": lambda: self.name + b" comment: " + quoted(self.put),
+            "remove": lambda: spec(self.name, self.side) + b" removeSelector: #" + self.selector,
+            "classify": lambda: spec(self.name, self.side) + b" organization classify: #" + self.selector + b" under: " + quoted(self.put),
+            "remove-class": lambda: b"Smalltalk removeClassNamed: #" + self.name,
+            "noChanges": lambda: b"Smalltalk noChanges",
+            "snapshot": lambda: NOTE,
+            "doIt": lambda: self.put,
+        }
+        return texts[self.word]()
+
+    def line(self):
+        """Of the change set."""
+        of = spec(self.name, self.side) + b" " + self.selector
+        return self.word.encode() + b" " + of.strip() + b"\n"
+
+
+def names_in(text):
+    return tuple(re.findall(rb"[^ \t\n\f\r]+", text))
+
+
 def definition_of(doit):
-    """The name and the class of a definition, or None where the doIt is no such form."""
+    """The change that a definition asks for, or None where the doIt is no such form."""
     sent = language.sole_messages(doit)
     if not sent or len(sent[1]) != 1:
         return None
@@ -117,8 +178,29 @@ def definition_of(doit):
     texts = language.literals(arguments, ["symbol"] + ["string"] * 4)
     if not texts:
         return None
-    lists = tuple(tuple(re.findall(rb"[^ \t\n\f\r]+", text)) for text in texts[1:4])
-    return texts[0], Class(sent[0], KINDS[word], lists, texts[4])
+    return Change("define", texts[0], put=Class(sent[0], KINDS[word], tuple(map(names_in, texts[1:4])), texts[4]))
+
+
+def form_of(doit):
+    """The change that a doIt of another form asks for, or None."""
+    sent = language.sole_messages(doit)
+    if not sent or not sent[1]:
+        return None
+    name, messages = sent
+    selectors = tuple(selector for selector, _ in messages)
+    found = FORMS.get(selectors) or (SMALLTALK_FORMS.get(selectors) if name == b"Smalltalk" else None)
+    texts = found and language.literals(messages[-1][1], found[1])
+    if texts is None:
+        return None
+    side = "class" if selectors[0] == b"class" else "instance"
+    changes = {
+        "class-variables": lambda: Change("class-variables", name, put=names_in(*texts)),
+        "comment": lambda: Change("comment", name, put=texts[0]),
+        "remove": lambda: Change("remove", name, side, *texts),
+        "classify": lambda: Change("classify", name, side, *texts),
+        "remove-class": lambda: Change("remove-class", *texts or [name]),
+    }
+    return changes[found[0]]() if found[0] in changes else Change(found[0])
 
 
 def head_of(doit):
@@ -152,9 +234,30 @@ class State(NamedTuple):
     def with_class(self, name, row):
         return self._replace(classes={**self.classes, name: row})
 
-    def with_method(self, head, selector, source):
-        side = {**self.side(head.name, head.side), selector: (head.category, source)}
-        return self._replace(methods={**self.methods, (head.name, head.side): side})
+    def with_side(self, name, side, methods):
+        return self._replace(methods={**self.methods, (name, side): methods})
+
+    def after(self, change):
+        """The state behind a change that is accepted."""
+        name, side, selector = change.place()
+        row, methods = self.classes.get(name), self.side(name, side)
+        if change.word == "define":
+            kept = {"comment": row.comment, "side_variables": row.side_variables} if row else {}
+            return self.with_class(name, change.put._replace(**kept))
+        if change.word == "class-variables":
+            return self.with_class(name, row._replace(side_variables=change.put))
+        if change.word == "comment":
+            return self.with_class(name, row._replace(comment=change.put))
+        if change.word == "method":
+            return self.with_side(name, side, {**methods, selector: change.put})
+        if change.word == "classify":
+            return self.with_side(name, side, {**methods, selector: (change.put, methods[selector][1])})
+        if change.word == "remove":
+            return self.with_side(name, side, {other: method for other, method in methods.items() if other != selector})
+        if change.word == "remove-class":
+            classes = {other: row for other, row in self.classes.items() if other != name}
+            return State(classes, {place: methods for place, methods in self.methods.items() if place[0] != name})
+        return self
 
     def side(self, name, side):
         return self.methods.get((name, side), {})
@@ -162,19 +265,54 @@ class State(NamedTuple):
     def variables(self, name):
         return sum(len(row.lists[0]) for row in self.line(name))
 
+    def side_variables(self, name):
+        return sum(len(row.side_variables) for row in self.line(name))
+
+    def family(self, name):
+        """The class and its descendants."""
+        return [other for other in self.classes if name in self.names_above(other)]
+
     def has_bits(self, name):
         return next((row.kind for row in self.line(name) if row.kind != "plain"), "plain") in ("bytes", "words")
 
-    def method_for(self, name, side, selector):
-        """The category and source of the method that a message to an instance of the class, or to the class, finds."""
+    def place_for(self, name, side, selector):
+        """The class and the side of the method that a message to an instance of the class, or to the class, finds."""
         places = [(above, side) for above in self.names_above(name)]
         if side == "class":
             places += [(above, "instance") for above in self.names_above(b"Class")]
-        return next((self.side(*place)[selector] for place in places if selector in self.side(*place)), None)
+        return next((place for place in places if selector in self.side(*place)), None)
+
+    def method_for(self, name, side, selector):
+        """Its category and source."""
+        place = self.place_for(name, side, selector)
+        return self.side(*place)[selector] if place else None
+
+
+def refusal_of(state, kernel, change):
+    """Why the classes and methods refuse a form, or None."""
+    name, side, selector = change.place()
+    if change.word == "define":
+        return definition_refusal(state, kernel, name, change.put)
+    if change.word in ("noChanges", "snapshot"):
+        return None
+    bad = [word for word in change.put if not is_name(word)] if change.word == "class-variables" else []
+    if bad:
+        return b"9 bad name " + bad[0]
+    if name not in state.classes:
+        return b"4 unknown class " + name
+    if change.word in ("class-variables", "remove-class") and name in kernel.classes:
+        return b"5 kernel class " + name
+    if change.word == "class-variables":
+        after = state.after(change)
+        return duplicate([change.put]) or first_above([side_variables_count(after, name)])
+    if change.word == "remove-class" and any(row.superclass == name for row in state.classes.values()):
+        return b"6 has subclasses " + name
+    if change.word in ("remove", "classify") and selector not in state.side(name, side):
+        return b"10 no selector " + spec(name, side) + b" " + selector
+    return None
 
 
 def definition_refusal(state, kernel, name, row):
-    """Why the classes refuse a definition, or None."""
     names = [word for names in row.lists for word in names]
     is_class_name = is_name(name) and name[:1].isupper() and name not in (b"Smalltalk", b"Transcript")
     bad = ([] if is_class_name else [name]) + [word for word in names if not is_name(word)]
@@ -186,37 +324,80 @@ def definition_refusal(state, kernel, name, row):
         return b"5 kernel class " + name
     if name in state.names_above(row.superclass):
         return b"7 cycle " + name
-    twice = [word for names in row.lists for at, word in enumerate(names) if word in names[:at]]
-    if twice:
-        return b"8 duplicate " + twice[0]
-    return too_many(state.with_class(name, row), name, row)
+    return duplicate(row.lists) or too_many(state.after(Change("define", name, put=row)), name, row)
+
+
+def duplicate(lists):
+    twice = [word for names in lists for at, word in enumerate(names) if word in names[:at]]
+    return b"8 duplicate " + twice[0] if twice else None
 
 
 def too_many(state, name, row):
-    family = [other for other in state.classes if name in state.names_above(other)]
-    counts = [
+    family = state.family(name)
+    return first_above([
         (b"classes", len(state.classes), CLASSES),
         (b"instance variables", max(map(state.variables, family)), INSTANCE_VARIABLES),
         (b"class variables", len(row.lists[1]), CLASS_VARIABLES),
+        side_variables_count(state, name),
         (b"pools", len(row.lists[2]), POOLS),
         (b"bits variables", max(state.variables(other) if state.has_bits(other) else 0 for other in family), 0),
-    ]
+    ])
+
+
+def side_variables_count(state, name):
+    return b"class-side variables", max(map(state.side_variables, state.family(name))), CLASS_SIDE_VARIABLES
+
+
+def first_above(counts):
     return next((b"11 too many %s %d" % (kind, count) for kind, count, limit in counts if count > limit), None)
+
+
+# ---- what is told of the whole list
+
+
+def change_set(changes):
+    """The changes of the change set."""
+    first = max((at + 1 for at, change in enumerate(changes) if change.word == "noChanges"), default=0)
+    rest = changes[first:]
+    kept = [change for at, change in enumerate(rest) if not is_superfluous(change, rest[at + 1 :])]
+    return [change for change in kept if change.word not in ("doIt", "snapshot")]
+
+
+def is_superfluous(change, later):
+    """Whether a later change puts the same, and nothing in between removes it."""
+    by = {"method": "method", "classify": "method", "comment": "comment"}.get(change.word)
+    at = next((at for at, other in enumerate(later) if other.word == by and other.place() == change.place()), None)
+    return at is not None and not any(removes(other, change) for other in later[:at])
+
+
+def removes(removal, change):
+    if removal.word == "remove-class":
+        return removal.name == change.name
+    return removal.word == "remove" and removal.place() == change.place()
+
+
+def versions(changes, name, side, selector):
+    """The category and source of each version of a method, the oldest first."""
+    return [change.put for change in changes if change.word == "method" and change.place() == (name, side, selector)]
 
 
 # ---- the keeper at work
 
 
 class Work(NamedTuple):
-    """The state, how many changes made it, their blocks, and the section: None, "refused" or a head."""
+    """The state, the changes that made it, their blocks, and the section: None, "refused" or a head."""
 
     state: State
-    count: int = 0
+    changes: tuple = ()
     log: bytes = b""
     section: object = None
 
-    def kept(self, block, state):
-        return self._replace(state=state, count=self.count + 1, log=self.log + block)
+    @property
+    def count(self):
+        return len(self.changes)
+
+    def kept(self, change):
+        return self._replace(state=self.state.after(change), changes=(*self.changes, change), log=self.log + change.block())
 
 
 class Way(NamedTuple):
@@ -256,14 +437,11 @@ class Keeper:
 
     def plain(self, work, text):
         doit = parse_doit(text)
-        found = definition_of(doit)
-        if found:
-            refusal = definition_refusal(work.state, self.kernel, *found)
-            if refusal:
-                return [refused(work, refusal)]
-            name, row = found
-            return [accepted(work, spell(row.text(name)) + b"\n", work.state.with_class(name, row))]
-        after = work.kept(spell(text) + b"\n", work.state)
+        change = definition_of(doit) or form_of(doit)
+        if change:
+            refusal = refusal_of(work.state, self.kernel, change)
+            return [refused(work, refusal) if refusal else accepted(work, change)]
+        after = work.kept(Change("doIt", put=text))
         known = self.answers(text, work.state)
         if known is not None:
             return [Way(known, bool(STOPPED.fullmatch(known)), after)]
@@ -283,14 +461,15 @@ class Keeper:
         count = len(side.keys() | {selector})
         if count > METHODS:
             return [refused(work, b"11 too many methods %d" % count)] + too_large(work, text)
-        block = b"!" + spell(head.text()) + b"\n" + spell(text) + b" !\n"
-        return [accepted(work, block, work.state.with_method(head, selector, text))] + too_large(work, text)
+        return [accepted(work, Change("method", head.name, head.side, selector, (head.category, text)))] + too_large(work, text)
 
     # -- queries
 
     def told(self, work, command, *words):
         """The reply to a query, and whether it is refused."""
-        reply = {"recover": self.recovered, "classes": self.classes, "browse": self.browsed, "source": self.source}[command](work, *words)
+        tell = {"recover": self.recovered, "classes": self.classes, "browse": self.browsed, "source": self.source,
+                "versions": self.versions, "changes": self.changes}
+        reply = tell[command](work, *words)
         return (b"refused " + reply[1] + b"\n", True) if isinstance(reply, tuple) else (reply, False)
 
     def recovered(self, work):
@@ -307,7 +486,8 @@ class Keeper:
             return None, b"9 bad name " + name
         if name not in work.state.classes:
             return None, b"4 unknown class " + name
-        lines = [work.state.classes[name].text(name), b"comment: ''", b"class instanceVariableNames: ''"]
+        row = work.state.classes[name]
+        lines = [row.text(name), b"comment: " + quoted(row.comment), b"class instanceVariableNames: " + quoted(b" ".join(row.side_variables))]
         for side, word in ("instance", b""), ("class", b"class "):
             methods = work.state.side(name, side)
             for category in sorted({row[0] for row in methods.values()}):
@@ -315,14 +495,28 @@ class Keeper:
                 lines.append(word + quoted(category) + b": " + b" ".join(selectors))
         return b"".join(line + b"\n" for line in lines)
 
+    def changes(self, work):
+        return b"".join(change.line() for change in change_set(work.changes))
+
     def source(self, work, named, selector):
+        return self.of_method(work, named, selector, lambda row, versions: row and row[1] + b"\n")
+
+    def versions(self, work, named, selector):
+        def told(row, versions):
+            lines = [b"version %d %s\n%s\n" % (number, quoted(category), text) for number, (category, text) in enumerate(versions, 1)]
+            return b"".join(reversed(lines)) if row or versions else None
+
+        return self.of_method(work, named, selector, told)
+
+    def of_method(self, work, named, selector, tell):
+        """What is told by a method, where it is there, and by its versions; or why nothing is."""
         name, side = (named[:-6], "class") if named.endswith(b" class") else (named, "instance")
         if not is_name(name):
             return None, b"9 bad name " + named
         if name not in work.state.classes:
             return None, b"4 unknown class " + name
-        row = work.state.side(name, side).get(selector)
-        return row[1] + b"\n" if row else (None, b"10 no selector " + named + b" " + selector)
+        told = tell(work.state.side(name, side).get(selector), versions(work.changes, name, side, selector))
+        return (None, b"10 no selector " + named + b" " + selector) if told is None else told
 
 
 class TooLarge:
@@ -337,8 +531,8 @@ def refused(work, refusal):
     return Way(b"refused " + refusal + b"\n", True, work)
 
 
-def accepted(work, block, state):
-    return Way(b"ok\n", False, work.kept(block, state))
+def accepted(work, change):
+    return Way(b"ok\n", False, work.kept(change))
 
 
 def behind_head(work, item):
@@ -366,7 +560,8 @@ def kernel_of(ask):
             word, category, selectors = re.fullmatch(r"(class )?'(.*)': (.*)", line).groups()
             head = Head(name, "class" if word else "instance", category.replace("''", "'").encode("latin-1"))
             for selector in selectors.encode("latin-1").split(b" "):
-                state = state.with_method(head, selector, ask("source", spec(name, head.side), selector)[:-1])
+                row = head.category, ask("source", spec(name, head.side), selector)[:-1]
+                state = state.with_side(name, head.side, {**state.side(name, head.side), selector: row})
     return state
 
 

@@ -1,5 +1,5 @@
 """The syntax of docs/LANGUAGE.md, as plainly as may be, and no measures: the tokens of a text, and the tree of a doIt or a method, so far
-as definitions of classes and heads of sections are told by it; or the first fault."""
+as changes of classes and heads of sections are told by it; or the first fault."""
 import re
 import sys
 from typing import NamedTuple

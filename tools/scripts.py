@@ -1,12 +1,12 @@
-"""Random commands over few names, with replies that the model knows: definitions, methods and doIts, and each kind of refusal that is told
-without a compiler."""
+"""Random commands over few names, with replies that the model knows: changes of classes in each form, methods and doIts, texts that are
+nearly forms, and each kind of refusal that is told without a compiler."""
 import re
 
-from keeper import spec, spell
+from keeper import NOTE, spec, spell
 from trials import Command
 
 NAMES = [b"A", b"B", b"C", b"Dd"]
-SELECTORS = [b"one", b"two", b"take:", b"from:to:", b"%"]
+SELECTORS = [b"one", b"two", b"take:", b"from:to:", b"%", b"bump"]
 CATEGORIES = [b"accessing", b"it's", b"", b"a!b", b"more of it"]
 KINDS = [b"subclass:"] * 5 + [b"variableSubclass:", b"variableByteSubclass:", b"variableWordSubclass:"]
 ANSWERS = {
@@ -27,21 +27,38 @@ ANSWERS = {
     b"3 ifTrue: [4]": b"stopped 3 not boolean\n",
     b"| b | b _ [b value]. b value": b"stopped 5 block active\n",
     b"Array new: 1048575": b"stopped 6 objects full 0\n",
+    NOTE: b"=> nil\n",
 }
-FAULTY = [b"3 + ", b"'abc", b"3 + {4}", b"2r12", b"self _ 3", b"(" * 65 + b"1" + b")" * 65, b"^3. 4", b"a; b", b"#(1 . 2)", b"[:x | x"]
+FAULTY = [b"3 + ", b"'abc", b"3 + {4}", b"2r12", b"self _ 3", b"(" * 65 + b"1" + b")" * 65, b"^3. 4", b"a; b", b"#(1 . 2)", b"[:x | x",
+          b"A comment: 'x", b"A removeSelector: #", b"A organization classify: #one under:", b"Smalltalk noChanges!"]
 FAULTY_METHODS = [b"one ^(2", b"take: ^3", b"take: x x _ 3", b"one <primitive: 0>", b"one | self | ^1", b"3 + 4"]
 HEADS = [b"Object foo", b"Object methodsFor: 3", b"A class class methodsFor: 'x'", b"Nobody methodsFor: 'x'", b"3 +",
-         b"A methodsFor: 'x'; yourself"]
+         b"A methodsFor: 'x'; yourself", b"A comment: 'x'", b"A removeFromSystem", b"Smalltalk noChanges"]
 LISTS = [b"x y x", b"self", b"3x", b"x\ty\r\nz"] + [b" ".join(b"v%d" % each for each in range(count)) for count in (64, 65, 256, 257)]
+COMMENTS = [b"", b"What it's for!", b"first line\n\tsecond", b"a \"note\"", b"\xc3\xa4", b"it"]
+TALES = [("method", "remove", "method"), ("method", "remove class", "define", "method"), ("comment", "remove class", "define", "comment"),
+         ("method", "other", "remove other", "method"), ("method", "move", "move", "remove", "method", "move")]
 STRAY = [b"! !\n", b" \n\f\t", b"!\n!\n"]
 ASKED = re.compile(rb"(\w+)( new)? ([a-z]+|take: 3|from: 3 to: 4|% 3)")
 KNOWN_BODY = re.compile(rb".*\^\s*([0-9]+)\s*", re.S)
+# A method that counts in a variable, and two messages that show whether they have it in common.
+BUMP = b"bump %s _ %s isNil ifTrue: [1] ifFalse: [%s + 1]. ^%s"
+BUMP_BODY, BUMPS = re.compile(rb"bump (\w+) _ .*", re.S), re.compile(rb"(\w+) bump\. (\w+) bump")
+BUMPED = [b"a", b"b", b"c", b"D", b"E"]
+NEARLY = re.compile(rb"(?:\(|\^|x _ |\| x \| )?(\w+) (class )?"
+                    rb"(comment:|instanceVariableNames:|removeSelector:|organization|removeClassNamed:|removeFromSystem|noChanges|snapshot).*", re.S)
 
 
 def answers(text, state):
-    """The reply to a doIt, where it is known: those above, and messages to the classes with the names above or to an instance."""
+    """The reply to a doIt, where it is known: those above, messages to the classes with the names above or to an instance, and what isn't a
+    form, but nearly."""
     if text in ANSWERS:
         return ANSWERS[text]
+    bumps, nearly = BUMPS.fullmatch(text), NEARLY.fullmatch(text)
+    if bumps:
+        return bumped(bumps.groups(), state)
+    if nearly:
+        return not_understood(state, *nearly.groups())
     asked = ASKED.fullmatch(text)
     if not asked:
         return None
@@ -54,6 +71,41 @@ def answers(text, state):
         return b"stopped 2 not understood %s %s\n" % (spec(name, side), selector)
     value = KNOWN_BODY.fullmatch(found[1])
     return b"=> %s\n" % value[1] if value else None
+
+
+def receiver(name, state):
+    """The class and the side that a name's methods are looked up in."""
+    outer = {b"Smalltalk": b"SystemDictionary"}
+    return (name, "class") if name in state.classes else (outer.get(name, b"UndefinedObject"), "instance")
+
+
+def not_understood(state, name, is_of_class, selector):
+    found, side = receiver(name, state)
+    if is_of_class:
+        found, side = (b"Metaclass", "instance") if side == "class" else (found, "class")
+    return b"stopped 2 not understood %s %s\n" % (spec(found, side), selector)
+
+
+def bumped(names, state):
+    """What two messages `bump` come to: 2 where both count in one variable, else 1."""
+    variables = []
+    for name in names:
+        place = state.place_for(*receiver(name, state), b"bump")
+        if not place:
+            return b"stopped 2 not understood %s bump\n" % spec(*receiver(name, state))
+        variables.append(variable(state, name, *place, BUMP_BODY.fullmatch(state.side(*place)[b"bump"][1])[1]))
+    return b"=> %d\n" % (2 if variables[0] == variables[1] else 1)
+
+
+def variable(state, name, owner, side, word):
+    """Which variable a word means in a method of this class and side, where a class or nil receives the message."""
+    for above in state.names_above(owner) if side == "class" else []:
+        if word in state.classes[above].side_variables:
+            return name, above, word
+    for above in state.names_above(owner):
+        if word in state.classes[above].lists[1]:
+            return above, word
+    return word
 
 
 # ---- texts
@@ -80,11 +132,131 @@ def definition(chance):
     return separator.join([b"%s %s #%s" % (superclass, chance.choice(KINDS), name), *parts])
 
 
+def simple_definition(chance, name, above=None):
+    lists = names(chance, 2), names(chance, 2).upper(), chance.choice(CATEGORIES).replace(b"'", b"''")
+    above = above or chance.choice([other for other in NAMES if other != name] + [b"Object"] * 3)
+    text = b"%s subclass: #%s instanceVariableNames: '%s' classVariableNames: '%s' poolDictionaries: '' category: '%s'"
+    return text % (above, name, *lists)
+
+
+def loose(chance, *words):
+    """The words as a text, with separators or a comment between them."""
+    joint = chance.choice([b" "] * 4 + [b"\n\t", b"\r", b' "it\'s here" '])
+    return joint.join(words) + chance.choice([b""] * 5 + [b".", b"\n", b' "done"'])
+
+
+def quote(text):
+    return b"'%s'" % text.replace(b"'", b"''")
+
+
+def comment(chance, name):
+    return name, b"comment:", quote(chance.choice(COMMENTS))
+
+
+def side_variables(chance, name):
+    words = chance.choice(LISTS) if chance.randrange(8) == 0 else names(chance, 2)
+    if chance.randrange(8) == 0:
+        words = b" ".join(b"w%d" % each for each in range(chance.choice([30, 33, 62])))
+    return name, b"class", b"instanceVariableNames:", quote(words)
+
+
+def removal(chance, name, selector, side):
+    return name, *side, b"removeSelector:", b"#" + selector
+
+
+def move(chance, name, selector, side):
+    return name, *side, b"organization", b"classify:", b"#" + selector, b"under:", quote(chance.choice(CATEGORIES))
+
+
+def class_removal(chance, name):
+    return chance.choice([(b"Smalltalk", b"removeClassNamed:", b"#" + name), (name, b"removeFromSystem")])
+
+
+def form_words(chance):
+    """A form; now and then one that is refused whatever is there."""
+    name = chance.choice(NAMES * 6 + [b"Object", b"Integer", b"Nobody", b"Smalltalk", b"Class"])
+    selector = chance.choice(SELECTORS * 3 + [b"isNil", b"new", b"zork", b"==", b"do:with:"])
+    side = chance.choice([(), (), (b"class",)])
+    kind = chance.randrange(12)
+    if kind < 2:
+        return comment(chance, name)
+    if kind < 5:
+        return side_variables(chance, name)
+    if kind < 10:
+        return (removal if kind < 8 else move)(chance, name, selector, side)
+    return class_removal(chance, name) if kind == 10 else (b"Smalltalk", chance.choice([b"noChanges", b"snapshot"]))
+
+
+def form(chance):
+    return loose(chance, *form_words(chance))
+
+
+def nearly(chance):
+    """Nearly a form: a doIt that is evaluated."""
+    words = form_words(chance)
+    text, last = b" ".join(words), words[-1]
+    parted = [b"%s (%s)" % (b" ".join(words[:-1]), last), b"%s %s" % (b" ".join(words[:-1]), chance.choice([b"3", b"one", b"$a", b"#(a)"]))]
+    rest = b" ".join(words[1:])
+    other = [words[0] + b" class " + rest, b"nil " + rest]
+    around = [b"(%s)" % text, b"^%s" % text, b"x _ %s" % text, b"| x | %s" % text, text + b"; yourself", text + b". 3", text + b" size"]
+    has_argument = words[-2].endswith(b":")
+    has_other = words[1] in (b"comment:", b"removeFromSystem", b"noChanges", b"snapshot", b"removeClassNamed:")
+    return chance.choice(around + parted * has_argument + other * has_other + [b"A noChanges", b"B snapshot", b"A removeClassNamed: #B"])
+
+
+def tale(chance):
+    """Changes of one class, and of one method of it most times, with removals between them."""
+    name, selector = chance.choice(NAMES), chance.choice(SELECTORS)
+    side, other = chance.sample([(), (b"class",)], 2)
+    steps = {
+        "define": lambda: simple_definition(chance, name),
+        "comment": lambda: b" ".join(comment(chance, name)),
+        "variables": lambda: b" ".join(side_variables(chance, name)),
+        "remove": lambda: b" ".join(removal(chance, name, selector, side)),
+        "remove other": lambda: b" ".join(removal(chance, name, selector, other)),
+        "move": lambda: b" ".join(move(chance, name, selector, side)),
+        "remove class": lambda: b" ".join(class_removal(chance, name)),
+        "begin": lambda: b"Smalltalk noChanges",
+    }
+    methods = {"method": side, "other": other}
+    by_chance = chance.choices([*steps, *methods], [3, 3, 1, 3, 1, 3, 2, 1, 7, 2], k=chance.randint(2, 8))
+    kinds = ["define", *chance.choice([*TALES, by_chance, by_chance, by_chance])]
+    return b"".join(method(chance, name, selector, methods[kind]) if kind in methods else spell(steps[kind]()) + b"\n" for kind in kinds)
+
+
+def counters(chance):
+    """Two classes, the one below the other, and whether they count in one variable."""
+    name, below = chance.sample(NAMES, 2)
+    variables = b"%s class instanceVariableNames: '%s'" % (chance.choice([name, name, below]), chance.choice([b"a", b"a b", b"b", b"D"]))
+    texts = [simple_definition(chance, name, b"Object"), simple_definition(chance, below, name), variables]
+    pieces = [spell(text) + b"\n" for text in texts] + [section_of(name, (b"class",), b"it", bump(chance.choice([b"a", b"a", b"D"])))]
+    asked = spell(b"%s bump. %s bump" % tuple(chance.choices([name, below], k=2))) + b"\n"
+    return b"".join(pieces + [asked] + chance.sample(pieces, 2) + [asked])
+
+
+def section_of(name, side, category, source):
+    """A section of one method."""
+    return b"!" + spell(b" ".join((name, *side, b"methodsFor:", quote(category)))) + b"\n" + spell(source) + b" !\n"
+
+
+def method(chance, name, selector, side):
+    return section_of(name, side, chance.choice(CATEGORIES), method_source(chance, selector))
+
+
+def bump(word):
+    return BUMP % (word, word, word, word)
+
+
 def source(chance):
     if chance.randrange(6) == 0:
         return chance.choice(FAULTY_METHODS)
+    return method_source(chance, chance.choice(SELECTORS))
+
+
+def method_source(chance, selector):
+    if selector == b"bump":
+        return bump(chance.choice(BUMPED))
     parts = iter([b": x", b": y"])
-    selector = chance.choice(SELECTORS)
     pattern = b"% x" if selector == b"%" else re.sub(rb":", lambda _: next(parts) + b" ", selector).strip()
     note = chance.choice([b"", b'"it\'s a note!"', b'"a ""note"""'])
     return chance.choice([b" ", b"\n\t", b"\r\t"]).join(part for part in (pattern, note, b"^%d" % chance.randrange(1000)) if part)
@@ -101,20 +273,22 @@ def section(chance):
 
 
 def doit(chance):
-    odd = chance.randrange(8)
+    odd = chance.randrange(10)
     if odd == 0:
         return chance.choice(FAULTY)
-    if odd < 4:
+    if odd < 3:
         return chance.choice(list(ANSWERS))
+    if odd < 6:
+        return b"%s bump. %s bump" % (chance.choice(NAMES), chance.choice(NAMES))
     message = chance.choice([b"one", b"two", b"take: 3", b"from: 3 to: 4", b"% 3"])
     return b"%s%s %s" % (chance.choice(NAMES), chance.choice([b"", b" new"]), message)
 
 
 def chunks(chance, count):
     """So many pieces of an input."""
-    kinds = [definition, section, doit, lambda chance: chance.choice(STRAY)]
-    found = [(kind, kind(chance)) for kind in chance.choices(kinds, [4, 4, 5, 1], k=count)]
-    return b"".join(spell(text) + b"\n" if kind in (definition, doit) else text for kind, text in found)
+    kinds = [definition, form, nearly, doit, section, tale, counters, lambda chance: chance.choice(STRAY)]
+    found = [(kind, kind(chance)) for kind in chance.choices(kinds, [4, 5, 1, 4, 4, 4, 1, 1], k=count)]
+    return b"".join(spell(text) + b"\n" if kind in kinds[:4] else text for kind, text in found)
 
 
 # ---- commands
@@ -122,19 +296,20 @@ def chunks(chance, count):
 
 def query(chance):
     name = chance.choice(NAMES * 2 + [b"Object", b"Integer", b"Nobody", b"self", b"3", b"two words"])
-    kind = chance.randrange(4)
-    if kind < 2:
-        return Command((["recover", "classes"][kind],))
-    if kind == 2:
+    kind = chance.randrange(8)
+    if kind < 4:
+        return Command((["recover", "classes", "changes", "changes"][kind],))
+    if kind == 4:
         return Command(("browse", name))
-    return Command(("source", name + chance.choice([b"", b"", b" class"]), chance.choice(SELECTORS + [b"isNil", b"new"])))
+    word = "source" if kind == 5 else "versions"
+    return Command((word, name + chance.choice([b"", b"", b" class"]), chance.choice(SELECTORS * 2 + [b"isNil", b"new"])))
 
 
 def command(chance, size):
-    """Any of the six; a run of at most so many pieces."""
-    kind = chance.randrange(8)
+    """Any of the nine; a run of at most so many pieces."""
+    kind = chance.randrange(9)
     if kind < 3:
         return Command(("run",), chunks(chance, chance.randint(0, size)) + chance.choice([b""] * 4 + [b"3 + 4", b"!A"]))
     if kind < 5:
-        return Command(("do", chance.choice([b"", b" ", b"\n\t"]) + chance.choice([doit, doit, definition])(chance)))
-    return query(chance)
+        return Command(("do", chance.choice([b"", b" ", b"\n\t"]) + chance.choice([doit, doit, definition, form, form, nearly])(chance)))
+    return Command(("snapshot",)) if kind == 5 and chance.randrange(3) == 0 else query(chance)

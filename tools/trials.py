@@ -9,7 +9,7 @@ import tempfile
 from pathlib import Path
 from typing import NamedTuple
 
-from keeper import Damage, Item, Keeper, items_of, kernel_of, marked_part
+from keeper import Damage, Item, Keeper, items_of, kernel_of, marked_part, spec
 from language import SEPARATORS
 
 TOP = Path(__file__).resolve().parent.parent
@@ -69,7 +69,11 @@ class Command(NamedTuple):
         """The items that it works, or None where it asks something."""
         if self.words[0] == "run":
             return items_of(self.text)
-        return [Item("plain", self.words[1].lstrip(SEPARATORS))] if self.words[0] == "do" else None
+        texts = {"do": self.words[-1], "snapshot": b"Smalltalk snapshot"}
+        return [Item("plain", texts[self.words[0]].lstrip(SEPARATORS))] if self.words[0] in texts else None
+
+    def works_items(self):
+        return self.items() is not None
 
 
 class Course:
@@ -112,7 +116,7 @@ class Course:
 
 def kind_of(reply):
     """What is counted of a reply: its number, and the kind of fault or limit."""
-    found = re.match(rb"refused (?:2 [a-z-]+|3 too large [a-z]+|11 too many [a-z]+( variables)?|[0-9]+)|ok$", reply)
+    found = re.match(rb"refused (?:2 [a-z-]+|3 too large [a-z]+|11 too many [a-z-]+( variables)?|[0-9]+)|ok$", reply)
     return found[0].decode() if found else "answers and stops"
 
 
@@ -150,14 +154,25 @@ def standing(program, keeper, folder, works):
 
 
 def queries(work, kernel):
-    """A query of all classes, one of each class that isn't the kernel's, and one of each method in whose place the kernel has another."""
+    """A query of all classes and one of the change set, one of each class that isn't as the kernel's, one of each method in whose place the
+    kernel has another, and one of the versions of each that was put more than once or isn't there."""
     yield Command(("classes",))
-    for name in sorted(work.state.classes.keys() - kernel.classes.keys()):
-        yield Command(("browse", name))
+    yield Command(("changes",))
+    for name, row in sorted(work.state.classes.items()):
+        if row != kernel.classes.get(name):
+            yield Command(("browse", name))
+    yield from (Command(("versions", spec(name, side), selector)) for name, side, selector in versions_to_ask(work))
     for (name, side), methods in sorted(work.state.methods.items()):
         for selector, row in sorted(methods.items()):
             if row != kernel.side(name, side).get(selector) and not is_option(selector):
-                yield Command(("source", name + b" class" if side == "class" else name, selector))
+                yield Command(("source", spec(name, side), selector))
+
+
+def versions_to_ask(work):
+    """The places of methods that were put more than once, or are there no more."""
+    places = [change.place() for change in work.changes if change.word == "method" and not is_option(change.selector)]
+    return sorted({(name, side, selector) for name, side, selector in places
+                   if places.count((name, side, selector)) > 1 or selector not in work.state.side(name, side)})
 
 
 def is_option(word):

@@ -1,19 +1,19 @@
 // Code of methods in classes, and of doIts.
 ghost use Rattle.std.specs.Prelude.{◌≡◌, ◌≤◌, length, IfOk, OnOk, IfSome};
 ghost use Rattle.s80_class.specs.Table.{IsClass, IsNumberOf};
-ghost use Rattle.s80_doit.specs.DoIt.{Fits};
+ghost use Rattle.s80_doit.specs.DoIt.{IsMethodOfDoIt};
 
 use crate::spelled;
 use anyhow::{Context, Result, bail, ensure};
 use s80_apply::boot;
 use s80_base::{OutOfMemory, Side, Text};
-use s80_change::{SourceCheck, check_source, size_refusal};
+use s80_change::{Source, fitting_doit};
 use s80_class::{ClassEntry, ClassTable, Kind};
 use s80_doit::compile;
 use s80_form::split_names;
-use s80_method::{compile_source, shape_of};
+use s80_method::{compile_tree, shape_of};
 use s80_rows::bytes;
-use s80_syntax::parse_doit;
+use s80_syntax::{MethodTree, parse_doit};
 use s80_verify::Verified;
 use std::alloc::Global;
 
@@ -123,16 +123,17 @@ pub(crate) fn shape(alloc: Global, spelled: &str) -> Result<Text> {
 }
 
 /// The code of a source that fits, as a method of a side of a class.
-fn code(alloc: Global, classes: &ClassTable, c: u32, side: Side, source: &Text) -> Result<Verified>
+fn code(alloc: Global, classes: &ClassTable, c: u32, side: Side, source: Text) -> Result<Verified>
     requires class { IsClass classes.now.names c }
-    requires short { length source.now ≤ 65535 }
+    requires short { length source ≤ 65535 }
 {
     let shape = shape_of(alloc, classes, c, side)?;
     ensure!(shape.inst_vars.count() <= 64, "too many variables");
-    let SourceCheck::Fits(_) = check_source(alloc, source)? else {
-        bail!("no method that fits");
-    };
-    Ok(compile_source(alloc, classes, c, side, source)?)
+    let source = Source::parse(alloc, source)?;
+    match source.tree() {
+        Ok(tree) => Ok(compile_tree(alloc, classes, c, side, tree)?),
+        Err(_) => bail!("no method that fits"),
+    }
 }
 
 /// The code of a method: a class and a side of it, and the source behind a bar.
@@ -145,7 +146,7 @@ fn method(alloc: Global, rest: &str) -> Result<Verified> {
     let Some(c) = find(alloc, &classes, name.as_bytes())? else {
         bail!("no class: {name}");
     };
-    code(alloc, &classes, c, side, &source)
+    code(alloc, &classes, c, side, source)
 }
 
 /// The bytes of a method.
@@ -160,17 +161,17 @@ pub(crate) fn method_header(alloc: Global, rest: &str) -> Result<Text> {
     Ok(spelled::header(alloc, code.code())?)
 }
 
-/// Whether a doIt fits.
-fn expect_fits(alloc: Global, text: &Text) -> Result<()>
+/// The tree of a doIt that fits, as a method.
+fn doit_tree(alloc: Global, text: &Text) -> Result<MethodTree>
     requires { length text.now ≤ 65535 }
-    ensures { OnOk result (Fits text.now) }
+    ensures { IfOk result (IsMethodOfDoIt text.now) }
 {
     let Ok(tree) = parse_doit(alloc, text) else {
         bail!("no doIt");
     };
-    match size_refusal(alloc, tree)? {
-        None => Ok(()),
-        Some(_) => bail!("no doIt that fits"),
+    match fitting_doit(alloc, tree) {
+        Ok(method) => Ok(method),
+        Err(_) => bail!("no doIt that fits"),
     }
 }
 
@@ -178,8 +179,8 @@ fn expect_fits(alloc: Global, text: &Text) -> Result<()>
 fn doit(alloc: Global, spelled: &str) -> Result<Verified> {
     let text = bytes::read(alloc, spelled)?;
     ensure!(text.bytes().len() <= 65_535, "too long");
-    expect_fits(alloc, &text)?;
-    Ok(compile(alloc, &boot(alloc)?, &text)?)
+    let method = doit_tree(alloc, &text)?;
+    Ok(compile(alloc, &boot(alloc)?, &method)?)
 }
 
 /// The bytes of a doIt.

@@ -151,7 +151,14 @@ impl Trial {
     fn shown(&mut self, alloc: Global, word: &str, rest: &str) -> Result<Text> {
         match word {
             "run" => self.run(alloc, "st80|F|run", rest),
-            "do" | "classes" | "browse" | "source" | "recover" => {
+            "do"
+            | "classes"
+            | "browse"
+            | "source"
+            | "versions"
+            | "changes"
+            | "snapshot"
+            | "recover" => {
                 let asked = format!(in alloc;
                     "st80|F|{word}{}{rest}",
                     if rest.is_empty() { "" } else { "|" }

@@ -1,39 +1,38 @@
 -- The methods of the kernel, put into the dictionaries of their classes one after the other.
-use Rattle.std.proofs.Common.{◌≡◌, ◌∙◌, ◌≤◌, ◌<◌, ◌+◌, ◌&&◌, ◌++◌, ℕ, zero, suc, Bool, cond, true, false, refl, sym, ap, subst, List, [], ◌∷◌, length, take, get_or, nat_eq, Option, Some, None, is_some, codes, slice_range, map as list_map, arith, length-append}
+use Rattle.std.proofs.Common.{◌≡◌, ◌∙◌, ◌≤◌, ◌<◌, ◌+◌, ◌++◌, ℕ, zero, suc, true, refl, sym, ap, subst, List, [], ◌∷◌, length, take, get_or, Option, Some, None, Ok, codes, slice_range, map as list_map, arith, length-append}
 use Rattle.std.specs.List.{All, slice_get}
-use Rattle.std.specs.Str.{bytes_eq}
 use Rattle.std.specs.Ordering.{nat_cmp}
-use Rattle.std.specs.Cmp.Lexicographic.{slice_cmp, bytes_decides}
+use Rattle.std.specs.Cmp.Lexicographic.{slice_cmp}
 use Rattle.std.specs.FinMap as map
 use Rattle.std.proofs.lemmas.List.{take_more, take_all, length-map, length-drop, length-take}
 use Rattle.std.proofs.lemmas.Slice.{between_is}
 use Rattle.std.proofs.lemmas.List.Elements.{All-nil, All-cons, All-head, All-tail}
 use Rattle.std.proofs.lemmas.Option.{slice_get_within, get_or_from_slice_get}
 use Rattle.s80_base.specs.declared.names.Side.{Side}
-use Rattle.s80_dict.specs.Dict.{Methods}
 use Rattle.s80_base.specs.declared.names.Side.TheVariants.{Instance, Class}
-use Rattle.s80_dict.specs.Table.{MethodsValue, SidesValue, methods_at, no_sides, on_side, same_side}
+use Rattle.s80_dict.specs.Table.{MethodsValue, SidesValue, methods_at, no_sides, on_side, put_at}
 use Rattle.s80_kernel.specs.declared.methods.KernelMethod.{KernelMethod}
 use Rattle.s80_kernel.specs.Methods.{IsPlainSource, KernelMethodRow, MethodPlace, StandsIn, kernel_methods, held_place, place_of}
 use Rattle.s80_kernel.specs.Text.{kernel_text}
 use Rattle.s80_change.specs.Check.{IsCheckOf}
-use Rattle.s80_change.specs.declared.source_check.SourceCheck.TheVariants.{Fits}
 use Rattle.s80_kernel.specs.declared.rows.KernelClass.{KernelClass}
 use Rattle.s80_kernel.specs.Rows.{KernelRow, is_kernel_class, kernel_rows, row_of as kernel_row_of}
 use Rattle.s80_class.specs.Classes.{Name, Classes}
 use Rattle.s80_class.specs.Table.{Table, IsNumberOf}
+use Rattle.s80_class.proofs.lemmas.Most.{some_row}
 use Rattle.s80_apply.specs.Kernel.{kernel_classes}
 use Rattle.s80_apply.specs.Limits.{IsWithin}
 use Rattle.s80_apply.specs.State.{no_methods, put_kernel_methods, put_method, side_of}
-use Rattle.s80_apply.specs.Placed.{PlacedRow, PlacedState, placed_kernel_method, placed_kernel_state}
+use Rattle.s80_apply.specs.Placed.{PlacedState, placed_kernel_method, placed_kernel_state}
 use Rattle.s80_apply.specs.Seen.{AreSeen}
 use Rattle.s80_apply.specs.Entries.{Entry, row_in}
 use Rattle.s80_apply.specs.Codes.{AreCodes}
-use Rattle.s80_apply.specs.System.{HasPlaces, SystemState}
+use Rattle.s80_apply.specs.System.{HasNumber, HasPlaces, SystemState}
 use Rattle.s80_apply.specs.Boot.{HasClassesAlone, TakesMethod, row_held}
 use Rattle.s80_apply.proofs.Booted.{IsBooted, built_has, booted_none, booted_all}
 use Rattle.s80_apply.proofs.Codes.{codes_put}
-use Rattle.s80_apply.proofs.Stands.{same_place, seen_empty, seen_put, seen_where}
+use Rattle.s80_apply.proofs.Standing.{method_put}
+use Rattle.s80_apply.proofs.Stands.{seen_empty}
 
 -- ---- the classes, without methods
 
@@ -67,7 +66,7 @@ bare_more table after before reserved now done more name bare booted names room 
 pub bare_all : (items : List KernelClass) (n : ℕ) (table : Table) (methods : MethodsValue Entry) → list_map kernel_row_of items ≡ kernel_rows → length items ≤ n → AreBare table methods (take n (list_map kernel_row_of items)) → HasClassesAlone table methods
 bare_all items n table methods same past bare =
     let all = booted_all items n table same past bare.booted in
-    record { classes = all.0; within = all.1; count = bare.count; none = bare.none }
+    record { classes = all.0; valid = bare.booted.good.valid; within = all.1; count = bare.count; none = bare.none }
 
 -- ---- the rows of the code
 
@@ -94,19 +93,19 @@ pub record IsLawful (row : KernelMethodRow) : Type 0 where
   pub of_kernel : is_kernel_class row.class ≡ true
   pub stands : StandsIn kernel_text row
   pub short : length row.source ≤ 65535
-  pub fits : IsCheckOf row.source (Fits row.selector)
+  pub fits : IsCheckOf row.source (Ok row.selector)
 
-pub lawful_rows : (rows : List KernelMethodRow) → All (λ row. is_kernel_class row.class ≡ true) rows → All (StandsIn kernel_text) rows → All (λ row. IsPlainSource row.source) rows → All (λ row. IsCheckOf row.source (Fits row.selector)) rows → All IsLawful rows
+pub lawful_rows : (rows : List KernelMethodRow) → All (λ row. is_kernel_class row.class ≡ true) rows → All (StandsIn kernel_text) rows → All (λ row. IsPlainSource row.source) rows → All (λ row. IsCheckOf row.source (Ok row.selector)) rows → All IsLawful rows
 lawful_rows [] kernel stand plain fit = All-nil IsLawful
 lawful_rows (row ∷ rows) kernel stand plain fit =
     All-cons IsLawful row rows (record {
       of_kernel = All-head (λ (row : KernelMethodRow). is_kernel_class row.class ≡ true) row rows kernel;
       stands = All-head (StandsIn kernel_text) row rows stand;
       short = (All-head (λ (row : KernelMethodRow). IsPlainSource row.source) row rows plain).short;
-      fits = All-head (λ (row : KernelMethodRow). IsCheckOf row.source (Fits row.selector)) row rows fit;
+      fits = All-head (λ (row : KernelMethodRow). IsCheckOf row.source (Ok row.selector)) row rows fit;
     })
     (lawful_rows rows (All-tail (λ (row : KernelMethodRow). is_kernel_class row.class ≡ true) row rows kernel) (All-tail (StandsIn kernel_text) row rows stand)
-    (All-tail (λ (row : KernelMethodRow). IsPlainSource row.source) row rows plain) (All-tail (λ (row : KernelMethodRow). IsCheckOf row.source (Fits row.selector)) row rows fit))
+    (All-tail (λ (row : KernelMethodRow). IsPlainSource row.source) row rows plain) (All-tail (λ (row : KernelMethodRow). IsCheckOf row.source (Ok row.selector)) row rows fit))
 
 -- the source in the text is that of the row
 source_held : (m : KernelMethod) (row : KernelMethodRow) → held_place m ≡ place_of row → StandsIn kernel_text row → (row_held m).source ≡ row.source
@@ -137,47 +136,28 @@ abbrev system_of : Table → MethodsValue Entry → SystemState
 system_of table methods = record { table = table; methods = methods }
 
 module _ (table : Table) (m : KernelMethod) (k : KernelMethodRow) (before now : MethodsValue Entry) (state : PlacedState) (held : held_place m ≡ place_of k) (stands : StandsIn kernel_text k) (takes : TakesMethod table m before now)
-    (there : map.contains_key table.classes k.class ≡ true) (is : HasPlaces (system_of table before) state) where
-  side : Side
-  side = side_of k.on_class_side
-
+    (there : map.contains_key table.classes k.class ≡ true) (count : length before.sides ≡ length table.names) (is : HasPlaces (system_of table before) state) where
   class_is : m.class_name.now ≡ k.class
   class_is = ap (λ (p : MethodPlace). p.class) held
 
   row_is : row_in takes.entry ≡ placed_kernel_method k
   row_is = takes.row ∙ (λ i. record { category = codes "kernel"; source = source_held m k held stands i; from_kernel = true; position = (held i).position; length = (held i).size })
 
-  put : (name : Name) (s : Side) → Methods PlacedRow
-  put name s = cond (bytes_eq name k.class && same_side s side) (map.insert (state.methods name s) k.selector (placed_kernel_method k)) (state.methods name s)
-
-  entries : (n : ℕ) (name : Name) (s : Side) → IsNumberOf table.names n name → AreSeen row_in (methods_at now n s) (cond (bytes_eq name k.class && same_side s (side_of k.on_class_side)) (map.insert (state.methods name s) k.selector (placed_kernel_method k)) (state.methods name s))
-  entries n name s named =
-      let old : Methods Entry = methods_at before n s in
-      let rows : Methods PlacedRow = state.methods name s in
-      let kept : AreSeen row_in old rows = is.methods n name s named in
-      let here : IsNumberOf table.names takes.number k.class = subst (λ (x : Name). IsNumberOf table.names takes.number x) class_is takes.named in
-      let only : (c : ℕ) → IsNumberOf table.names c k.class → c ≡ takes.number = λ c at. takes.only c (subst (λ (x : Name). IsNumberOf table.names c x) (sym class_is) at) in
-      let place : nat_eq n takes.number ≡ bytes_eq name k.class = same_place table.names n takes.number name k.class named here only in
-      let same : methods_at now n s ≡ cond (bytes_eq name k.class && same_side s (side_of k.on_class_side)) (map.insert old k.selector takes.entry) old =
-      takes.methods n s ∙ (λ i. cond (place i && same_side s (side_of (held i).on_class_side)) (map.insert old (held i).selector takes.entry) old) in
-      subst (λ e. AreSeen row_in e (cond (bytes_eq name k.class && same_side s (side_of k.on_class_side)) (map.insert rows k.selector (placed_kernel_method k)) rows)) (sym same)
-      (seen_where row_in (bytes_eq name k.class && same_side s (side_of k.on_class_side)) (map.insert old k.selector takes.entry) old (map.insert rows k.selector (placed_kernel_method k)) rows
-      (seen_put row_in old rows k.selector takes.entry (placed_kernel_method k) row_is kept) kept)
-
-  other : (name : Name) → map.get state.classes name ≡ None → (b : Bool) → bytes_eq name k.class ≡ b → b ≡ false
-  other name none false at = refl
-  other name none true at =
-      let absent : map.get table.classes k.class ≡ None = ap (λ (c : Classes). map.get c k.class) is.classes ∙ ap (map.get state.classes) (sym ((bytes_decides name k.class).0 at)) ∙ none in
-      sym there ∙ ap is_some absent
+  its_class : HasNumber (system_of table before) k.class takes.number
+  its_class =
+      let named : IsNumberOf table.names takes.number k.class = subst (λ (x : Name). IsNumberOf table.names takes.number x) class_is takes.named in
+      let within = slice_get_within table.names takes.number (Some k.class) named in
+      record {
+        named = named;
+        only = λ c at. takes.only c (subst (λ (x : Name). IsNumberOf table.names c x) (sym class_is) at);
+        dictionaries = omega (arith, within, count);
+        there = some_row table.classes k.class there;
+      }
 
   pub method_taken : HasPlaces (system_of table now) (put_method k.class (side_of k.on_class_side) k.selector (placed_kernel_method k) state)
-  method_taken = record {
-    classes = is.classes;
-    methods = entries;
-    others = λ name s none.
-        ap (λ b. cond (b && same_side s (side_of k.on_class_side)) (map.insert (state.methods name s) k.selector (placed_kernel_method k)) (state.methods name s)) (other name none (bytes_eq name k.class) refl)
-        ∙ is.others name s none;
-  }
+  method_taken =
+      method_put (system_of table before) (system_of table now) state k.class takes.number (side_of k.on_class_side) k.selector takes.entry (placed_kernel_method k) its_class row_is is refl (λ n s.
+      takes.methods n s ∙ (λ i. put_at (methods_at before) takes.number (side_of (held i).on_class_side) (held i).selector takes.entry n s))
 
 -- ---- so far
 
@@ -224,10 +204,10 @@ module _ (items : List KernelMethod) (i : ℕ) (d : KernelMethod) (table : Table
   pub method_short : (get_or items i d).length ≤ 65535
   method_short = let size = ap (λ (p : MethodPlace). p.size) here.held in omega (arith, size, here.holds.short)
 
-  pub method_fits : IsCheckOf (row_held (get_or items i d)).source (Fits (get_or items i d).selector.now)
+  pub method_fits : IsCheckOf (row_held (get_or items i d)).source (Ok (get_or items i d).selector.now)
   method_fits =
-      subst (λ (k : List ℕ). IsCheckOf (row_held (get_or items i d)).source (Fits k)) (sym (ap (λ (p : MethodPlace). p.selector) here.held))
-      (subst (λ text. IsCheckOf text (Fits here.row.selector)) (sym (source_held (get_or items i d) here.row here.held here.holds.stands)) here.holds.fits)
+      subst (λ (k : List ℕ). IsCheckOf (row_held (get_or items i d)).source (Ok k)) (sym (ap (λ (p : MethodPlace). p.selector) here.held))
+      (subst (λ text. IsCheckOf text (Ok here.row.selector)) (sym (source_held (get_or items i d) here.row here.held here.holds.stands)) here.holds.fits)
 
   pub method_more : (now : MethodsValue Entry) → length now.sides ≡ length before.sides → TakesMethod table (get_or items i d) before now → HasMethodsOf table now (take (i + 1) kernel_methods)
   method_more now count takes =
@@ -240,7 +220,7 @@ module _ (items : List KernelMethod) (i : ℕ) (d : KernelMethod) (table : Table
         within = so_far.within;
         count = count ∙ so_far.count;
         system = subst (HasPlaces (system_of table now)) (sym (ap (λ ks. put_kernel_methods placed_kernel_method ks bare) more ∙ put_more front k bare))
-            (method_taken table (get_or items i d) k before now (put_kernel_methods placed_kernel_method front bare) here.held here.holds.stands takes class_there so_far.system);
+            (method_taken table (get_or items i d) k before now (put_kernel_methods placed_kernel_method front bare) here.held here.holds.stands takes class_there so_far.count so_far.system);
         codes = codes_put table before now takes.number (side_of (get_or items i d).on_class_side) (get_or items i d).selector.now takes.entry (record { class = (get_or items i d).class_name.now; named = takes.named; has_code = takes.code }) takes.methods so_far.codes;
       }
 

@@ -1,5 +1,5 @@
 -- Each of the kernel's sources, read.
-use Rattle.std.proofs.Common.{◌≡◌, refl, Option, Some, None, is_some, true, List, ℕ, bytes_eq}
+use Rattle.std.proofs.Common.{◌≡◌, refl, Option, Some, None, Ok, is_some, true, List, ℕ, bytes_eq}
 use Rattle.std.specs.List.{All, list_all}
 use Rattle.std.specs.Prelude.{slice_index_or}
 use Rattle.std.proofs.lemmas.List.Sums.{AllPass-from_list_all}
@@ -8,7 +8,6 @@ use Rattle.s80_syntax.specs.Lexeme.{lexemes}
 use Rattle.s80_syntax.specs.Word.{is_reserved}
 use Rattle.s80_scope.specs.FitLiterals.{is_special}
 use Rattle.s80_change.specs.Check.{IsCheckOf}
-use Rattle.s80_change.specs.declared.source_check.SourceCheck.TheVariants.{Fits}
 use Rattle.s80_kernel.specs.Methods.{kernel_methods}
 use Rattle.s80_apply.proofs.KernelTold.{◌>>=◌, told}
 use Rattle.s80_apply.proofs.KernelScan.{tokens_in}
@@ -18,7 +17,7 @@ use Rattle.s80_apply.proofs.KernelLawful.{lawful_method}
 use Rattle.s80_apply.proofs.KernelSizes.{is_small, small_fits}
 
 -- a source that is a method of this selector and fits
-abbrev fitting : (source selector : List ℕ) → Option (IsCheckOf source (Fits selector))
+abbrev fitting : (source selector : List ℕ) → Option (IsCheckOf source (Ok selector))
 fitting source selector = do
   t ← tokens_in source
   m ← method_in (lexemes source t.tokens)
@@ -38,5 +37,5 @@ all_read : list_all (λ row. is_some (fitting row.source row.selector)) kernel_m
 unfolding kernel_methods number_literal is_reserved is_special
 all_read = refl
 
-pub all_fit : All (λ row. IsCheckOf row.source (Fits row.selector)) kernel_methods
-all_fit = all_of (λ row. IsCheckOf row.source (Fits row.selector)) (λ row. fitting row.source row.selector) kernel_methods all_read
+pub all_fit : All (λ row. IsCheckOf row.source (Ok row.selector)) kernel_methods
+all_fit = all_of (λ row. IsCheckOf row.source (Ok row.selector)) (λ row. fitting row.source row.selector) kernel_methods all_read

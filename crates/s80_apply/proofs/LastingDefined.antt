@@ -1,33 +1,17 @@
 -- What an accepted definition meets, and what it leaves of the other classes.
-use Rattle.std.proofs.Common.{◌≡◌, ◌≤◌, ℕ, Bool, cond, true, false, nat_le, refl, subst, List, [], ◌∷◌, length, Some, None, map as list_map, arith}
+use Rattle.std.proofs.Common.{◌≡◌, ◌≤◌, ℕ, true, false, refl, subst, List, [], ◌∷◌, length, Some, None, map as list_map, arith}
 use Rattle.std.specs.FinMap as map
-use Rattle.std.proofs.lemmas.Bool.Decides.{nat_tests}
 use Rattle.s80_kernel.specs.Rows.{is_kernel_class}
 use Rattle.s80_form.specs.declared.definition.Definition.{Definition}
-use Rattle.s80_form.specs.declared.refusal.Refusal.TheVariants.{KernelClass, TooMany}
 use Rattle.s80_form.specs.declared.refusal.ManyKind.TheVariants.{Classes as ManyClasses, InstanceVariables, ClassVariables, ClassSideVariables, Pools, BitsVariables}
 use Rattle.s80_class.specs.Classes.{Name, ClassRow, Classes, IsLine, IsValid, Inherited, lineage, inherited_in, inherited_of, is_under, extent_of, greatest, family}
 use Rattle.s80_class.proofs.lemmas.Lines.{Entry, IsOver, lineage_line}
 use Rattle.s80_apply.specs.Accept.{define, bad_name, unknown_class, kernel_class, cycle, duplicate, too_many, above, refusal_of}
 use Rattle.s80_apply.proofs.Defined.{line_of, valid_defined, unmoved, head_row}
 use Rattle.s80_apply.proofs.Extents.{counts}
-use Rattle.s80_apply.proofs.Refusing.{none_first}
+use Rattle.s80_apply.proofs.Passing.{apart_name, few_enough, none_first}
 
 -- ---- no check refuses
-
-no_kernel_class : (d : Definition) → kernel_class d ≡ None → is_kernel_class d.class_name ≡ false
-no_kernel_class d h = go (is_kernel_class d.class_name) refl h
-  where
-    go : (b : Bool) → is_kernel_class d.class_name ≡ b → cond b (Some (KernelClass d.class_name)) None ≡ None → is_kernel_class d.class_name ≡ false
-    go false is _ = is
-    go true is bad = absurd (cc)
-
-none_above : (n : ℕ) → above 0 BitsVariables n ≡ None → n ≤ 0
-none_above n h = go (nat_le n 0) refl h
-  where
-    go : (b : Bool) → nat_le n 0 ≡ b → cond b None (Some (TooMany BitsVariables n)) ≡ None → n ≤ 0
-    go true is _ = grind (arith, nat_tests)
-    go false is bad = absurd (cc)
 
 -- a definition that is accepted isn't of a class of the kernel
 pub accepted_apart : (d : Definition) (classes : Classes) → refusal_of d classes ≡ None → is_kernel_class d.class_name ≡ false
@@ -35,7 +19,7 @@ accepted_apart d classes h =
     let a = none_first (bad_name d) (unknown_class d classes ∷ kernel_class d ∷ cycle d classes ∷ duplicate d ∷ too_many d classes ∷ []) h in
     let b = none_first (unknown_class d classes) (kernel_class d ∷ cycle d classes ∷ duplicate d ∷ too_many d classes ∷ []) a.1 in
     let c = none_first (kernel_class d) (cycle d classes ∷ duplicate d ∷ too_many d classes ∷ []) b.1 in
-    no_kernel_class d c.0
+    apart_name d.class_name c.0
 
 -- nor does it leave a variable in a class of bytes or words
 pub accepted_bits : (d : Definition) (classes : Classes) → refusal_of d classes ≡ None → (extent_of (define d classes) d.class_name).bits_variables ≤ 0
@@ -59,7 +43,7 @@ accepted_bits d classes h =
     let q = none_first side (pools ∷ bits ∷ []) o.1 in
     let r = none_first pools (bits ∷ []) q.1 in
     let s = none_first bits [] r.1 in
-    none_above E.bits_variables s.0
+    few_enough 0 BitsVariables E.bits_variables s.0
 
 -- ---- the map with one class put in
 

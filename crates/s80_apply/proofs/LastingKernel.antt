@@ -11,13 +11,15 @@ use Rattle.std.proofs.lemmas.List.Sums.{sum_by-cons}
 use Rattle.s80_kernel.specs.Rows.{KernelRow, kernel_rows, has_name, is_kernel_class}
 use Rattle.s80_change.specs.declared.change.Change.{Change}
 use Rattle.s80_form.specs.declared.definition.Definition.{Definition}
-use Rattle.s80_class.specs.Classes.{Name, ClassRow, Classes, IsLine, Inherited, own_or, effective_kind, bits_variables_of, inherited_in, inherited_of}
-use Rattle.s80_class.proofs.lemmas.Lines.{Entry, get-inserted, get-elsewhere, eq_not, lineage_line}
-use Rattle.s80_apply.specs.Accept.{row_of, define, refusal_of}
+use Rattle.s80_class.specs.Classes.{Name, ClassRow, Classes, IsLine, Inherited, own_or, effective_kind, bits_variables_of, change_row, inherited_in, inherited_of, with_class_side_vars, with_comment}
+use Rattle.s80_class.proofs.lemmas.Lines.{Entry, get-inserted, get-elsewhere, get-left, eq_not, lineage_line, not_eq}
+use Rattle.s80_class.proofs.lemmas.Changed.{changed_elsewhere, changed_here}
+use Rattle.s80_apply.specs.Accept.{row_of, define, refusal_of, refusal_of_class_vars, refusal_of_removal}
 use Rattle.s80_apply.specs.Kernel.{kernel_row, superclass_of, kernel_classes}
 use Rattle.s80_apply.specs.List.{classes_of}
 use Rattle.s80_apply.proofs.Booted.{built, built_has}
 use Rattle.s80_apply.proofs.Seen.{words_turned}
+use Rattle.s80_apply.proofs.Passing.{removal_accepted, vars_accepted}
 use Rattle.s80_apply.proofs.LastingDefined.{accepted_apart}
 use Rattle.s80_apply.proofs.LastingLists.{in_each_list}
 
@@ -53,21 +55,52 @@ is_class : (name : Name) → has_name kernel_rows name ≡ true → is_kernel_cl
 unfolding is_kernel_class
 is_class name is = is
 
--- ---- they stand in each list
+-- ---- they stand in each list, whatever their comments
+
+abbrev pub HasClass : Classes → Name → ClassRow → Type 0
+HasClass classes name row = (comment : List ℕ) × (map.get classes name ≡ Some (with_comment comment row))
 
 abbrev pub Stands : Classes → Type 0
-Stands classes = (name : Name) (row : ClassRow) → map.get kernel_classes name ≡ Some row → map.get classes name ≡ Some row
+Stands classes = (name : Name) (row : ClassRow) → map.get kernel_classes name ≡ Some row → HasClass classes name row
+
+-- a class that is none of the kernel's is another
+other_class : (name class : Name) (row : ClassRow) → map.get kernel_classes name ≡ Some row → is_kernel_class class ≡ false → name ≢ class
+other_class name class row is apart same = true≢false (sym (is_class name (has_row name row is)) ∙ ap is_kernel_class same ∙ apart)
 
 stands_defined : (d : Definition) (classes : Classes) → refusal_of d classes ≡ None → Stands classes → Stands (define d classes)
 stands_defined d classes none stands name row is =
-    let ne : name ≢ d.class_name = λ same. true≢false (sym (is_class name (has_row name row is)) ∙ ap is_kernel_class same ∙ accepted_apart d classes none) in
-    get-elsewhere classes d.class_name (row_of d (map.get classes d.class_name)) name ne ∙ stands name row is
+    let ne = other_class name d.class_name row is (accepted_apart d classes none) in
+    let there = stands name row is in
+    (there.0, get-elsewhere classes d.class_name (row_of d (map.get classes d.class_name)) name ne ∙ there.1)
+
+stands_given_vars : (class : Name) (names : List Name) (classes : Classes) → refusal_of_class_vars class names classes ≡ None → Stands classes → Stands (change_row (with_class_side_vars names) class classes)
+stands_given_vars class names classes none stands name row is =
+    let ne = other_class name class row is (vars_accepted class names classes none).apart in
+    let there = stands name row is in
+    (there.0, changed_elsewhere (with_class_side_vars names) class classes name ne ∙ there.1)
+
+stands_commented : (class : Name) (text : List ℕ) (classes : Classes) → Stands classes → Stands (change_row (with_comment text) class classes)
+stands_commented class text classes stands name row is =
+    let there = stands name row is in
+    elim (bytes_eq name class) as (λ b. bytes_eq name class ≡ b → HasClass (change_row (with_comment text) class classes) name row) [
+      | true ↦ λ same.
+          let here : name ≡ class = (bytes_decides name class).0 same in
+          let was : map.get classes class ≡ Some (with_comment there.0 row) = ap (map.get classes) (sym here) ∙ there.1 in
+          (text, ap (map.get (change_row (with_comment text) class classes)) here ∙ changed_here (with_comment text) class classes (with_comment there.0 row) was)
+      | false ↦ λ differs. (there.0, changed_elsewhere (with_comment text) class classes name (not_eq name class differs) ∙ there.1)
+    ] refl
+
+stands_removed : (class : Name) (classes : Classes) → refusal_of_removal class classes ≡ None → Stands classes → Stands (map.remove classes class)
+stands_removed class classes none stands name row is =
+    let ne = other_class name class row is (removal_accepted class classes none).apart in
+    let there = stands name row is in
+    (there.0, get-left classes class name ne ∙ there.1)
 
 pub stands_first : Stands kernel_classes
-stands_first = λ name row is. is
+stands_first = λ name row is. (row.comment, is)
 
 pub stands_last : (changes : List Change) → Stands (classes_of changes)
-stands_last changes = in_each_list Stands stands_defined stands_first changes
+stands_last changes = in_each_list Stands (record { defined = stands_defined; given_vars = stands_given_vars; commented = stands_commented; removed = stands_removed }) stands_first changes
 
 -- ---- what a class has by the rows
 
@@ -108,7 +141,7 @@ some_same : (t u : Inherited) → Some t ≡ Some u → t ≡ u
 some_same t u h = cc
 
 -- in each map where the rows stand
-module _ (rows : List KernelRow) (classes : Classes) (stand : (name : Name) (row : KernelRow) → row_named rows name ≡ Some row → map.get classes name ≡ Some (kernel_row row)) where
+module _ (rows : List KernelRow) (classes : Classes) (stand : (name : Name) (row : KernelRow) → row_named rows name ≡ Some row → HasClass classes name (kernel_row row)) where
   abbrev HasLine : Name → Inherited → Type 0
   HasLine name t = (es : List Entry) × IsLine classes (superclass_of name) es × (inherited_in es ≡ t)
 
@@ -122,8 +155,9 @@ module _ (rows : List KernelRow) (classes : Classes) (stand : (name : Name) (row
       by_above above row named None _ is = absurd (let bad : None ≡ Some t = is in cc)
       by_above above row named (Some u) up is =
           let rest = above row.superclass u up in
-          let e : Entry = (b ∷ bytes, kernel_row row) in
-          (e ∷ rest.0, (refl, stand (b ∷ bytes) row named, rest.1), inherited_onto e rest.0 ∙ ap (onto (kernel_row row)) rest.2 ∙ some_same (onto (kernel_row row) u) t is)
+          let there = stand (b ∷ bytes) row named in
+          let e : Entry = (b ∷ bytes, with_comment there.0 (kernel_row row)) in
+          (e ∷ rest.0, (refl, there.1, rest.1), inherited_onto e rest.0 ∙ ap (onto (kernel_row row)) rest.2 ∙ some_same (onto (kernel_row row) u) t is)
 
       by_row : ((name : Name) (t : Inherited) → has_by rows n name ≡ Some t → HasLine name t) → (o : Option KernelRow) → row_named rows (b ∷ bytes) ≡ o
           → with_row o (λ row. has_by rows n row.superclass) ≡ Some t → HasLine (b ∷ bytes) t
@@ -187,7 +221,7 @@ few_parts t h =
     (most_of t.inst_vars 64 first.0, most_of t.class_side_vars 0 second.0, most_of (bits_variables_of t) 0 second.1)
 
 module _ (classes : Classes) (stands : Stands classes) where
-  stand : (name : Name) (row : KernelRow) → row_named kernel_rows name ≡ Some row → map.get classes name ≡ Some (kernel_row row)
+  stand : (name : Name) (row : KernelRow) → row_named kernel_rows name ≡ Some row → HasClass classes name (kernel_row row)
   stand name row is = stands name (kernel_row row) (row_stands name row is)
 
   pub kernel_line : (name : Name) → has_name kernel_rows name ≡ true → (es : List Entry) × IsLine classes (Some name) es

@@ -8,7 +8,7 @@ use Rattle.s80_base.specs.declared.names.Side.{Side}
 use Rattle.s80_base.specs.declared.names.Side.TheVariants.{Instance, Class}
 use Rattle.s80_class.proofs.lemmas.Lines.{not_eq}
 use Rattle.s80_dict.specs.Dict.{HasRoom, Methods}
-use Rattle.s80_dict.specs.Table.{MethodsValue, is_place, methods_at, put_at, room_at, same_side}
+use Rattle.s80_dict.specs.Table.{MethodsValue, is_place, methods_at, put_at, room_at, same_side, taken_at}
 use Rattle.s80_apply.specs.declared.step.PlacedMethod.{PlacedMethod}
 use Rattle.s80_apply.specs.Entries.{Entry}
 use Rattle.s80_apply.specs.System.{HaveRoom, put_all}
@@ -63,6 +63,43 @@ module _ {X : Type 0} (dictionaries : ℕ → Side → Methods X) (number : ℕ)
 
   pub found_after : map.get (put_at dictionaries number side selector x n s) k ≡ Some y → IsFound (IsPlace number side selector n s k) x y (map.get (dictionaries n s) k)
   found_after is = by_place (nat_eq n number) (same_side s side) refl refl is
+
+-- ---- one method taken away
+
+get-taken : {X : Type 0} (methods : Methods X) (selector q : List ℕ) → map.get (map.remove methods selector) q ≡ cond (bytes_eq q selector) None (map.get methods q)
+get-taken methods selector q = map.get-remove nat_list_cmp_total methods selector q ∙ ap (λ b. cond b None (map.get methods q)) (sym (texts_ties q selector))
+
+-- put again, it stands as if it had not been taken
+pub put_over : {X : Type 0} (methods : Methods X) (selector : List ℕ) (x : X) → map.insert (map.remove methods selector) selector x ≡ map.insert methods selector x
+put_over {X} methods selector x =
+    map.same_map nat_list_cmp_total (map.slice_cmp-IsAntisymmetric map.nat_cmp-IsAntisymmetric) (map.insert (map.remove methods selector) selector x) (map.insert methods selector x) (λ q.
+    get-put (map.remove methods selector) selector x q ∙ ap (cond (bytes_eq q selector) (Some x)) (get-taken methods selector q) ∙ by_key (bytes_eq q selector) (map.get methods q) ∙ sym (get-put methods selector x q))
+  where
+    by_key : (b : Bool) (o : Option X) → cond b (Some x) (cond b None o) ≡ cond b (Some x) o
+    by_key true o = refl
+    by_key false o = refl
+
+pub put_over_at : {X : Type 0} (dictionaries : ℕ → Side → Methods X) (number : ℕ) (side : Side) (selector : List ℕ) (x : X) (n : ℕ) (s : Side)
+    → put_at (taken_at dictionaries number side selector) number side selector x n s ≡ put_at dictionaries number side selector x n s
+put_over_at dictionaries number side selector x n s = by_place (is_place number side n s)
+  where
+    by_place : (b : Bool)
+        → cond b (map.insert (cond b (map.remove (dictionaries n s) selector) (dictionaries n s)) selector x) (cond b (map.remove (dictionaries n s) selector) (dictionaries n s)) ≡ cond b (map.insert (dictionaries n s) selector x) (dictionaries n s)
+    by_place true = put_over (dictionaries n s) selector x
+    by_place false = refl
+
+-- what is found yet stood there before
+pub found_before : {X : Type 0} (dictionaries : ℕ → Side → Methods X) (number : ℕ) (side : Side) (selector : List ℕ) (n : ℕ) (s : Side) (k : List ℕ) (y : X)
+    → map.get (taken_at dictionaries number side selector n s) k ≡ Some y → map.get (dictionaries n s) k ≡ Some y
+found_before dictionaries number side selector n s k y = by_place (is_place number side n s)
+  where
+    by_key : (b : Bool) → cond b None (map.get (dictionaries n s) k) ≡ Some y → map.get (dictionaries n s) k ≡ Some y
+    by_key true is = absurd (let bad : None ≡ Some y = is in cc)
+    by_key false is = is
+
+    by_place : (b : Bool) → map.get (cond b (map.remove (dictionaries n s) selector) (dictionaries n s)) k ≡ Some y → map.get (dictionaries n s) k ≡ Some y
+    by_place true is = by_key (bytes_eq k selector) (sym (get-taken (dictionaries n s) selector k) ∙ is)
+    by_place false is = is
 
 -- ---- methods one after the other
 

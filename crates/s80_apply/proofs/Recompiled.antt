@@ -1,5 +1,5 @@
 -- The methods of a class and of its descendants, compiled again one after the other.
-use Rattle.std.proofs.Common.{◌≡◌, ◌⊎◌, inl, inr, ◌<◌, ◌≤◌, ◌+◌, ◌∙◌, ◌||◌, ◌++◌, ℕ, zero, suc, true, false, refl, sym, ap, subst, List, [], ◌∷◌, length, get_or, Some, None, is_some, true≢false, arith, append_assoc, slice_get}
+use Rattle.std.proofs.Common.{◌≡◌, ◌⊎◌, inl, inr, ◌<◌, ◌≤◌, ◌+◌, ◌∙◌, ◌||◌, ◌++◌, ℕ, zero, suc, true, false, refl, sym, ap, subst, List, [], ◌∷◌, length, get_or, Some, None, Ok, is_some, true≢false, arith, append_assoc, slice_get}
 use Rattle.std.specs.List.{list_any}
 use Rattle.std.specs.Str.{bytes_eq}
 use Rattle.std.specs.Cmp.Lexicographic.{bytes_decides, texts_ties}
@@ -18,7 +18,6 @@ use Rattle.s80_class.proofs.Keys.{keys_rise, one_place}
 use Rattle.s80_class.proofs.lemmas.Rows.{get_kept, get_new, get_pushed}
 use Rattle.s80_apply.specs.declared.step.PlacedMethod.{PlacedMethod}
 use Rattle.s80_change.specs.Check.{IsCheckOf}
-use Rattle.s80_change.specs.declared.source_check.SourceCheck.TheVariants.{Fits}
 use Rattle.s80_apply.specs.Codes.{HasCode, HaveSources}
 use Rattle.s80_apply.specs.Entries.{Entry, row_in}
 use Rattle.s80_apply.specs.System.{Adds, AreRecompiled, IsRecompiled, SystemState}
@@ -62,7 +61,7 @@ keys_once m keys are j k q here there = one_place keys j k q (subst IsRising (sy
 
 pub is_recompiled : (system : SystemState) (class : ℕ) (side : Side) (key word : List ℕ) (entry again : Entry) → length system.methods.sides ≡ length system.table.names → IsClass system.table.names class → HaveSources system.methods → word ≡ key
     → map.get (methods_at system.methods class side) key ≡ Some entry → HasRoom (room_at system.methods class side) key → row_in again ≡ row_in entry
-    → ((name selector : List ℕ) → IsNumberOf system.table.names class name → IsCheckOf entry.source (Fits selector) → HasCode system.table.classes name side selector again)
+    → ((name selector : List ℕ) → IsNumberOf system.table.names class name → IsCheckOf entry.source (Ok selector) → HasCode system.table.classes name side selector again)
     → IsRecompiled system system.table.classes (record { number = class; side = side; selector = word; entry = again })
 is_recompiled system class side key word entry again dictionaries some sources same there room row code =
     let within = slice_get_within system.table.names class (Some some.0) some.1 in

@@ -1,11 +1,9 @@
 -- What an accepted definition meets, and the step that is made of it.
-use Rattle.std.proofs.Common.{◌≡◌, ◌≤◌, ◌<◌, ◌+◌, ◌^◌, ◌∙◌, ℕ, Bool, cond, true, false, nat_le, refl, sym, ap, subst, List, [], ◌∷◌, length, Vec, Global, Option, Some, None, is_some, option_map, unwrap_or, MatchOption, true≢false, arith}
+use Rattle.std.proofs.Common.{◌≡◌, ◌≤◌, ◌<◌, ◌+◌, ◌^◌, ◌∙◌, ℕ, Bool, cond, true, false, refl, sym, ap, subst, [], ◌∷◌, length, Vec, Global, Option, Some, None, is_some, option_map, unwrap_or, MatchOption, true≢false, arith}
 use Rattle.std.specs.FinMap as map
 use Rattle.std.proofs.lemmas.List.Sums.{sum_by-cons}
-use Rattle.std.proofs.lemmas.Bool.Decides.{nat_tests}
 use Rattle.s80_form.specs.declared.definition.Definition.{Definition}
-use Rattle.s80_form.specs.declared.refusal.Refusal.TheVariants.{UnknownClass, Cycle, TooMany}
-use Rattle.s80_form.specs.declared.refusal.ManyKind.{ManyKind}
+use Rattle.s80_form.specs.declared.refusal.Refusal.TheVariants.{Cycle}
 use Rattle.s80_form.specs.declared.refusal.ManyKind.TheVariants.{Classes as ManyClasses, InstanceVariables, ClassVariables, ClassSideVariables, Pools, BitsVariables}
 use Rattle.s80_class.specs.declared.entry.ClassEntry.{ClassEntry}
 use Rattle.s80_class.specs.declared.inherited.Totals.{Totals}
@@ -14,28 +12,18 @@ use Rattle.s80_class.specs.Classes.{Name, ClassRow, Classes, IsLine, IsValid, li
 use Rattle.s80_class.specs.Counted.{counted, totals, greatest_of}
 use Rattle.s80_class.specs.Table.{Table, IsNumberOf, IsSuperclass, IsAbove, row_of}
 use Rattle.s80_class.proofs.lemmas.Lines.{Entry, IsOver, passes}
-use Rattle.s80_apply.specs.Accept.{row_of as defined_row, define, bad_name, unknown_class, kernel_class, cycle, duplicate, first_some, too_many, above, refusal_of}
+use Rattle.s80_apply.specs.Accept.{row_of as defined_row, define, bad_name, unknown_class, kernel_class, cycle, duplicate, too_many, above, refusal_of}
 use Rattle.s80_apply.specs.Entry.{IsDefined}
 use Rattle.s80_apply.specs.Extent.{IsGreatest, totals_on, alone}
 use Rattle.s80_apply.specs.Limits.{IsWithin}
 use Rattle.s80_apply.specs.System.{AreRecompiled, CanPut, HasDictionaryRoom, MayPut, SystemState, with_entry}
 use Rattle.s80_apply.specs.declared.step.PlacedMethod.{PlacedMethod}
 use Rattle.s80_class.proofs.lemmas.Most.{some_row}
+use Rattle.s80_apply.proofs.Passing.{few_enough, known_name, none_first}
 use Rattle.s80_apply.proofs.Defined.{alone_under, line_of, no_lineage, over_of, inherited_defined, valid_defined}
 use Rattle.s80_apply.proofs.Extents.{bits_extent, own_side, within_defined, alone_extent, grown_extent}
 
 -- ---- no check refuses
-
-pub none_first : {T : Type 0} (o : Option T) (os : List (Option T)) → first_some (o ∷ os) ≡ None → (o ≡ None) × (first_some os ≡ None)
-none_first None os h = (refl, h)
-none_first (Some x) os h = absurd (let bad : Some x ≡ None = h in cc)
-
-pub known_where : (d : Definition) (classes : Classes) → unknown_class d classes ≡ None → map.contains_key classes d.superclass ≡ true
-known_where d classes h = go (map.contains_key classes d.superclass) refl h
-  where
-    go : (b : Bool) → map.contains_key classes d.superclass ≡ b → cond b None (Some (UnknownClass d.superclass)) ≡ None → map.contains_key classes d.superclass ≡ true
-    go true is _ = is
-    go false is bad = absurd (cc)
 
 not_under : (d : Definition) (classes : Classes) → cycle d classes ≡ None → is_under classes d.superclass d.class_name ≡ false
 not_under d classes h = go (is_under classes d.superclass d.class_name) refl h
@@ -43,13 +31,6 @@ not_under d classes h = go (is_under classes d.superclass d.class_name) refl h
     go : (b : Bool) → is_under classes d.superclass d.class_name ≡ b → cond b (Some (Cycle d.class_name)) None ≡ None → is_under classes d.superclass d.class_name ≡ false
     go false is _ = is
     go true is bad = absurd (cc)
-
-not_above : (limit : ℕ) (kind : ManyKind) (n : ℕ) → above limit kind n ≡ None → n ≤ limit
-not_above limit kind n h = go (nat_le n limit) refl h
-  where
-    go : (b : Bool) → nat_le n limit ≡ b → cond b None (Some (TooMany kind n)) ≡ None → n ≤ limit
-    go true is _ = grind (arith, nat_tests)
-    go false is bad = absurd (cc)
 
 -- what the classes meet for which no reason to refuse was found
 pub record IsAccepted (d : Definition) (classes : Classes) : Type 0 where
@@ -79,11 +60,11 @@ accepted_where d classes h =
     let o = none_first vars (side ∷ pools ∷ bits ∷ []) n.1 in
     let q = none_first side (pools ∷ bits ∷ []) o.1 in
     record {
-      known = known_where d classes b.0;
+      known = known_name d.superclass classes b.0;
       acyclic = not_under d classes e.0;
-      count = not_above 65536 ManyClasses (map.len (define d classes)) m.0;
-      inst_vars = not_above 64 InstanceVariables E.inst_vars n.0;
-      class_side_vars = not_above 64 ClassSideVariables E.class_side_vars q.0;
+      count = few_enough 65536 ManyClasses (map.len (define d classes)) m.0;
+      inst_vars = few_enough 64 InstanceVariables E.inst_vars n.0;
+      class_side_vars = few_enough 64 ClassSideVariables E.class_side_vars q.0;
     }
 
 -- ---- the totals of the class as it is defined

@@ -1,11 +1,9 @@
 -- Where sources stand, and the state: the same classes and methods.
-use Rattle.std.proofs.Common.{◌≡◌, ◌∙◌, ◌+◌, ◌&&◌, ℕ, Bool, cond, true, false, refl, sym, ap, subst, List, [], ◌∷◌, length, Option, Some, None, option_map}
-use Rattle.std.specs.List.{All, Contains}
+use Rattle.std.proofs.Common.{◌≡◌, ◌∙◌, ◌+◌, ◌&&◌, ℕ, cond, refl, sym, ap, subst, List, [], ◌∷◌, length, Option, Some, None, Result, Ok, Err, is_some, option_map, unwrap_or}
 use Rattle.std.specs.Str.{bytes_eq}
 use Rattle.std.specs.Ordering.{nat_cmp}
-use Rattle.std.specs.Cmp.Lexicographic.{slice_cmp, bytes_decides, nat_list_cmp_total}
+use Rattle.std.specs.Cmp.Lexicographic.{slice_cmp, nat_list_cmp_total}
 use Rattle.std.specs.FinMap as map
-use Rattle.std.proofs.lemmas.List.Elements.{All-contains_itself, All-head, All-tail}
 use Rattle.s80_base.specs.declared.names.Side.{Side}
 use Rattle.s80_dict.specs.Dict.{Methods}
 use Rattle.s80_dict.specs.Table.{methods_at, same_side}
@@ -14,112 +12,143 @@ use Rattle.s80_change.specs.Block.{block}
 use Rattle.s80_change.specs.declared.change.Change.{Change}
 use Rattle.s80_change.specs.declared.change.Change.TheVariants as changes
 use Rattle.s80_change.specs.declared.change.Method.{Method as MethodChange}
-use Rattle.s80_change.specs.declared.source_check.SourceCheck.{SourceCheck}
-use Rattle.s80_change.specs.declared.source_check.SourceCheck.TheVariants as checks
-use Rattle.s80_form.specs.declared.definition.Definition.{Definition}
+use Rattle.s80_form.specs.declared.form.Form.{Form}
+use Rattle.s80_form.specs.declared.form.Form.TheVariants.{Define, ClassVars, Comment, RemoveMethod, Classify, RemoveClass, NoChanges}
 use Rattle.s80_form.specs.declared.refusal.Refusal.{Refusal}
+use Rattle.s80_form.specs.declared.refusal.Refusal.TheVariants.{NoSelector}
 use Rattle.s80_form.specs.declared.refusal.ManyKind.TheVariants.{Methods as ManyMethods}
-use Rattle.s80_class.specs.Classes.{Name, Classes}
+use Rattle.s80_class.specs.Classes.{Name, Classes, change_row, with_class_side_vars, with_comment}
 use Rattle.s80_apply.specs.Kernel.{kernel_classes}
-use Rattle.s80_apply.specs.State.{MethodRow, State, is_kernel_method, kernel_method, kernel_state, no_methods, put_kernel_methods, put_method, side_of}
-use Rattle.s80_apply.specs.Accept.{above, accept_checked, accepted, define, first_some, method_row, put_source, refusal_of, too_many_methods, unknown_name}
+use Rattle.s80_apply.specs.State.{MethodRow, State, kernel_method, kernel_state, no_methods, put_kernel_methods, put_method, side_of, take_class, take_method}
+use Rattle.s80_apply.specs.Accept.{above, accept_checked, accept_form, accepted, classify, define, first_some, keeping_rows, no_method, put_source, refusal_of, refusal_of_class_vars, refusal_of_removal, too_many_methods, unknown_name}
 use Rattle.s80_apply.specs.List.{state_after, state_from, state_of, state_or}
-use Rattle.s80_apply.specs.Placed.{ArePlacesOf, PlacedRow, PlacedState, placed_after, placed_from, placed_kernel_method, placed_kernel_state, placed_of, row_at, without_place}
+use Rattle.s80_apply.specs.Placed.{ArePlacesOf, PlacedRow, PlacedState, keeping_places, placed_after, placed_from, placed_kernel_method, placed_kernel_state, placed_of, without_place}
 use Rattle.s80_apply.specs.Seen.{AreSeen}
 use Rattle.s80_apply.specs.Entries.{Entry, row_in, state_row}
-use Rattle.s80_apply.specs.System.{HasPlaces, IsSystemOf, SystemState, TellOwn}
-use Rattle.s80_apply.proofs.Places.{get-put, side_is, some_same}
-use Rattle.s80_apply.proofs.Shown.{AreNamed, kernel_told, row_shown, row_told}
-use Rattle.s80_apply.proofs.Stands.{same_count, seen_empty, seen_put, seen_where}
+use Rattle.s80_apply.specs.System.{HasPlaces, IsSystemOf, SystemState}
+use Rattle.s80_apply.proofs.Stands.{same_count, seen_empty, seen_put, seen_taken, seen_where}
 
--- ---- a method more
+-- ---- a change of the state, and the same of the places
 
-module _ (class : Name) (side : Side) (selector : List ℕ) (row : PlacedRow) (shown : MethodRow) (is : without_place row ≡ shown) (told : row.from_kernel ≡ is_kernel_method class side selector (without_place row)) (placed : PlacedState) (state : State)
-    (tied : ArePlacesOf placed state) where
-  own_key : (name : Name) (s : Side) (q : List ℕ) (r : PlacedRow) → name ≡ class → s ≡ side → (b : Bool) → bytes_eq q selector ≡ b → cond b (Some row) (map.get (placed.methods name s) q) ≡ Some r
-      → r.from_kernel ≡ is_kernel_method name s q (without_place r)
-  own_key name s q r here on true at there =
-      let same : row ≡ r = some_same row r there in
-      let key : q ≡ selector = (bytes_decides q selector).0 at in
-      subst (λ (x : PlacedRow). x.from_kernel ≡ is_kernel_method name s q (without_place x)) same (told ∙ (λ i. is_kernel_method (sym here i) (sym on i) (sym key i) (without_place row)))
-  own_key name s q r here on false at there = tied.own name s q r there
-
-  own_place : (name : Name) (s : Side) (q : List ℕ) (r : PlacedRow) (a b : Bool) → bytes_eq name class ≡ a → same_side s side ≡ b
-      → map.get (cond (a && b) (map.insert (placed.methods name s) selector row) (placed.methods name s)) q ≡ Some r → r.from_kernel ≡ is_kernel_method name s q (without_place r)
-  own_place name s q r true true here on there =
-      own_key name s q r ((bytes_decides name class).0 here) (side_is s side on) (bytes_eq q selector) refl (sym (get-put (placed.methods name s) selector row q) ∙ there)
-  own_place name s q r true false here on there = tied.own name s q r there
-  own_place name s q r false b here on there = tied.own name s q r there
-
-  pub put_tied : ArePlacesOf (put_method class side selector row placed) (put_method class side selector shown state)
-  put_tied = record {
+module _ (placed : PlacedState) (state : State) (tied : ArePlacesOf placed state) where
+  put_tied : (class : Name) (side : Side) (selector : List ℕ) (row : PlacedRow) (shown : MethodRow) → without_place row ≡ shown → ArePlacesOf (put_method class side selector row placed) (put_method class side selector shown state)
+  put_tied class side selector row shown is = record {
     classes = tied.classes;
     methods = λ name s.
         seen_where without_place (bytes_eq name class && same_side s side) (map.insert (placed.methods name s) selector row) (placed.methods name s) (map.insert (state.methods name s) selector shown) (state.methods name s)
         (seen_put without_place (placed.methods name s) (state.methods name s) selector row shown is (tied.methods name s)) (tied.methods name s);
-    own = λ name s q r there. own_place name s q r (bytes_eq name class) (same_side s side) refl refl there;
   }
+
+  taken_tied : (class : Name) (side : Side) (selector : List ℕ) → ArePlacesOf (take_method class side selector placed) (take_method class side selector state)
+  taken_tied class side selector = record {
+    classes = tied.classes;
+    methods = λ name s.
+        seen_where without_place (bytes_eq name class && same_side s side) (map.remove (placed.methods name s) selector) (placed.methods name s) (map.remove (state.methods name s) selector) (state.methods name s)
+        (seen_taken without_place (placed.methods name s) (state.methods name s) selector (tied.methods name s)) (tied.methods name s);
+  }
+
+  gone_tied : (class : Name) → ArePlacesOf (take_class class placed) (take_class class state)
+  gone_tied class = record {
+    classes = ap (λ (c : Classes). map.remove c class) tied.classes;
+    methods = λ name s. seen_where without_place (bytes_eq name class) map.empty (placed.methods name s) map.empty (state.methods name s) (seen_empty without_place) (tied.methods name s);
+  }
+
+  classified_tied : (at : ℕ) (name : Name) (side : Side) (selector category : List ℕ) → ArePlacesOf (classify (keeping_places at) name side selector category placed) (classify keeping_rows name side selector category state)
+  classified_tied at name side selector category = go (map.get (placed.methods name side) selector) (map.get (state.methods name side) selector) ((tied.methods name side).each selector)
+    where
+      go : (a : Option PlacedRow) (b : Option MethodRow) → option_map without_place a ≡ b
+          → ArePlacesOf (unwrap_or (option_map (λ row. put_method name side selector (record row { category = category }) placed) a) placed) (unwrap_or (option_map (λ row. put_method name side selector (record row { category = category }) state) b) state)
+      go None None same = tied
+      go None (Some row) same = absurd (cc)
+      go (Some row) None same = absurd (cc)
+      go (Some row) (Some shown) same =
+          let rows : without_place row ≡ shown = cc in
+          put_tied name side selector (record row { category = category }) (record shown { category = category }) (ap (λ (r : MethodRow). record r { category = category }) rows)
+
+  -- the classes changed alone
+  classes_tied : (change : Classes → Classes) → ArePlacesOf (record placed { classes = change placed.classes }) (record state { classes = change state.classes })
+  classes_tied change = record { classes = ap change tied.classes; methods = tied.methods }
+
+  -- ---- it is refused for the same
+
+  accepted_tied : (o p : Option Refusal) (after : PlacedState) (now : State) → o ≡ p → ArePlacesOf after now → ArePlacesOf (state_or (accepted o after) placed) (state_or (accepted p now) state)
+  accepted_tied o p after now same then = subst (λ q. ArePlacesOf (state_or (accepted q after) placed) (state_or (accepted p now) state)) (sym same) (both p)
+    where
+      both : (p : Option Refusal) → ArePlacesOf (state_or (accepted p after) placed) (state_or (accepted p now) state)
+      both None = then
+      both (Some refusal) = tied
+
+  there_same : (a : Option PlacedRow) (b : Option MethodRow) → option_map without_place a ≡ b → is_some a ≡ is_some b
+  there_same None b same = ap is_some same
+  there_same (Some row) b same = ap is_some same
+
+  same_method : (name : Name) (side : Side) (selector : List ℕ) → no_method name side selector placed ≡ no_method name side selector state
+  same_method name side selector =
+      let there : map.contains_key (placed.methods name side) selector ≡ map.contains_key (state.methods name side) selector =
+      there_same (map.get (placed.methods name side) selector) (map.get (state.methods name side) selector) ((tied.methods name side).each selector) in
+      λ i. first_some (unknown_name name (tied.classes i) ∷ cond (there i) None (Some (NoSelector name side selector)) ∷ [])
+
+  same_place : (m : MethodChange) (selector : List ℕ)
+      → first_some (unknown_name m.class_name placed.classes ∷ too_many_methods m selector placed ∷ []) ≡ first_some (unknown_name m.class_name state.classes ∷ too_many_methods m selector state ∷ [])
+  same_place m selector =
+      let many = same_count without_place (placed.methods m.class_name m.side) (state.methods m.class_name m.side) selector (tied.methods m.class_name m.side) in
+      λ i. first_some (unknown_name m.class_name (tied.classes i) ∷ above 16384 ManyMethods (many i) ∷ [])
+
+  -- ---- a change
+
+  form_tied : (form : Form) (at : ℕ) → ArePlacesOf (state_or (accept_form (keeping_places at) form placed) placed) (state_or (accept_form keeping_rows form state) state)
+  form_tied (Define d) at =
+      accepted_tied (refusal_of d placed.classes) (refusal_of d state.classes) (record placed { classes = define d placed.classes }) (record state { classes = define d state.classes }) (ap (refusal_of d) tied.classes)
+      (classes_tied (define d))
+  form_tied (ClassVars name names) at =
+      accepted_tied (refusal_of_class_vars name names placed.classes) (refusal_of_class_vars name names state.classes) (record placed { classes = change_row (with_class_side_vars names) name placed.classes })
+      (record state { classes = change_row (with_class_side_vars names) name state.classes }) (ap (refusal_of_class_vars name names) tied.classes) (classes_tied (change_row (with_class_side_vars names) name))
+  form_tied (Comment name text) at =
+      accepted_tied (unknown_name name placed.classes) (unknown_name name state.classes) (record placed { classes = change_row (with_comment text) name placed.classes })
+      (record state { classes = change_row (with_comment text) name state.classes }) (ap (unknown_name name) tied.classes) (classes_tied (change_row (with_comment text) name))
+  form_tied (RemoveMethod name side selector) at =
+      accepted_tied (no_method name side selector placed) (no_method name side selector state) (take_method name side selector placed) (take_method name side selector state) (same_method name side selector) (taken_tied name side selector)
+  form_tied (Classify name side selector category) at =
+      accepted_tied (no_method name side selector placed) (no_method name side selector state) (classify (keeping_places at) name side selector category placed) (classify keeping_rows name side selector category state)
+      (same_method name side selector) (classified_tied at name side selector category)
+  form_tied (RemoveClass name) at =
+      accepted_tied (refusal_of_removal name placed.classes) (refusal_of_removal name state.classes) (take_class name placed) (take_class name state) (ap (refusal_of_removal name) tied.classes) (gone_tied name)
+  form_tied NoChanges at = tied
+
+  method_tied : (m : MethodChange) (check : Result (List ℕ) Refusal) (at : ℕ) → ArePlacesOf (state_or (accept_checked (keeping_places at) m check placed) placed) (state_or (accept_checked keeping_rows m check state) state)
+  method_tied m (Err refusal) at = tied
+  method_tied m (Ok selector) at =
+      accepted_tied (first_some (unknown_name m.class_name placed.classes ∷ too_many_methods m selector placed ∷ [])) (first_some (unknown_name m.class_name state.classes ∷ too_many_methods m selector state ∷ []))
+      (put_source (keeping_places at) m selector placed) (put_source keeping_rows m selector state) (same_place m selector) (put_tied m.class_name m.side selector ((keeping_places at).put m) (keeping_rows.put m) refl)
+
+  after_tied : (change : Change) (at : ℕ) → ArePlacesOf (placed_after change at placed) (state_after change state)
+  after_tied (changes.Form form) at = form_tied form at
+  after_tied (changes.Method m) at = method_tied m m.source.selector at
+  after_tied (changes.DoIt text) at = tied
 
 -- ---- the kernel
 
-no_method : (q : List ℕ) (r : PlacedRow) → map.get (map.empty {X = PlacedRow} {R = slice_cmp nat_cmp}) q ≡ Some r → ⊥
-no_method q r is = let bad : None ≡ Some r = sym (map.get-empty (slice_cmp nat_cmp) q) ∙ is in cc
-
 bare_tied : ArePlacesOf (record { classes = kernel_classes; methods = no_methods }) (record { classes = kernel_classes; methods = no_methods })
-bare_tied = record { classes = refl; methods = λ name side. seen_empty without_place; own = λ name side q r is. absurd (no_method q r is) }
+bare_tied = record { classes = refl; methods = λ name side. seen_empty without_place }
 
-kernel_more : AreNamed → (ks : List KernelMethodRow) → All (Contains kernel_methods) ks → (placed : PlacedState) (state : State) → ArePlacesOf placed state
-    → ArePlacesOf (put_kernel_methods placed_kernel_method ks placed) (put_kernel_methods kernel_method ks state)
-kernel_more named [] there placed state tied = tied
-kernel_more named (k ∷ ks) there placed state tied =
-    kernel_more named ks (All-tail (Contains kernel_methods) k ks there) (put_method k.class (side_of k.on_class_side) k.selector (placed_kernel_method k) placed) (put_method k.class (side_of k.on_class_side) k.selector (kernel_method k) state)
-    (put_tied k.class (side_of k.on_class_side) k.selector (placed_kernel_method k) (kernel_method k) refl (kernel_told named k (All-head (Contains kernel_methods) k ks there)) placed state tied)
+kernel_more : (ks : List KernelMethodRow) (placed : PlacedState) (state : State) → ArePlacesOf placed state → ArePlacesOf (put_kernel_methods placed_kernel_method ks placed) (put_kernel_methods kernel_method ks state)
+kernel_more [] placed state tied = tied
+kernel_more (k ∷ ks) placed state tied =
+    kernel_more ks (put_method k.class (side_of k.on_class_side) k.selector (placed_kernel_method k) placed) (put_method k.class (side_of k.on_class_side) k.selector (kernel_method k) state)
+    (put_tied placed state tied k.class (side_of k.on_class_side) k.selector (placed_kernel_method k) (kernel_method k) refl)
 
-pub kernel_tied : AreNamed → ArePlacesOf placed_kernel_state kernel_state
+pub kernel_tied : ArePlacesOf placed_kernel_state kernel_state
 unfolding kernel_state placed_kernel_state
-kernel_tied named = kernel_more named kernel_methods (All-contains_itself kernel_methods) (record { classes = kernel_classes; methods = no_methods }) (record { classes = kernel_classes; methods = no_methods }) bare_tied
-
--- ---- a change
-
-accepted_tied : (o : Option Refusal) (placed after : PlacedState) (state now : State) → ArePlacesOf placed state → ArePlacesOf after now → ArePlacesOf (state_or (accepted o after) placed) (state_or (accepted o now) state)
-accepted_tied None placed after state now tied then = then
-accepted_tied (Some refusal) placed after state now tied then = tied
-
-define_tied : (d : Definition) (placed : PlacedState) (state : State) → ArePlacesOf placed state → ArePlacesOf (record placed { classes = define d placed.classes }) (record state { classes = define d state.classes })
-define_tied d placed state tied = record { classes = ap (define d) tied.classes; methods = tied.methods; own = tied.own }
-
--- it is refused for the same
-same_refused : (m : MethodChange) (selector : List ℕ) (placed : PlacedState) (state : State) → ArePlacesOf placed state
-    → first_some (unknown_name m.class_name placed.classes ∷ too_many_methods m selector placed ∷ []) ≡ first_some (unknown_name m.class_name state.classes ∷ too_many_methods m selector state ∷ [])
-same_refused m selector placed state tied =
-    let many = same_count without_place (placed.methods m.class_name m.side) (state.methods m.class_name m.side) selector (tied.methods m.class_name m.side) in
-    λ i. first_some (unknown_name m.class_name (tied.classes i) ∷ above 16384 ManyMethods (many i) ∷ [])
-
-method_tied : (m : MethodChange) (check : SourceCheck) (at : ℕ) (placed : PlacedState) (state : State) → ArePlacesOf placed state
-    → ArePlacesOf (state_or (accept_checked (row_at at) m check placed) placed) (state_or (accept_checked method_row m check state) state)
-method_tied m (checks.Refused refusal) at placed state tied = tied
-method_tied m (checks.Fits selector) at placed state tied =
-    subst (λ o. ArePlacesOf (state_or (accepted o (put_source (row_at at) m selector placed)) placed) (state_or (accepted (first_some (unknown_name m.class_name state.classes ∷ too_many_methods m selector state ∷ [])) (put_source method_row m selector state)) state))
-    (sym (same_refused m selector placed state tied))
-    (accepted_tied (first_some (unknown_name m.class_name state.classes ∷ too_many_methods m selector state ∷ [])) placed (put_source (row_at at) m selector placed) state (put_source method_row m selector state) tied
-    (put_tied m.class_name m.side selector (row_at at m selector) (method_row m selector) (row_shown m at selector) (row_told m at selector) placed state tied))
-
-after_tied : (change : Change) (at : ℕ) (placed : PlacedState) (state : State) → ArePlacesOf placed state → ArePlacesOf (placed_after change at placed) (state_after change state)
-after_tied (changes.Define d) at placed state tied =
-    subst (λ o. ArePlacesOf (state_or (accepted o (record placed { classes = define d placed.classes })) placed) (state_or (accepted (refusal_of d state.classes) (record state { classes = define d state.classes })) state))
-    (sym (ap (refusal_of d) tied.classes))
-    (accepted_tied (refusal_of d state.classes) placed (record placed { classes = define d placed.classes }) state (record state { classes = define d state.classes }) tied (define_tied d placed state tied))
-after_tied (changes.Method m) at placed state tied = method_tied m m.check at placed state tied
-after_tied (changes.DoIt text) at placed state tied = tied
+kernel_tied = kernel_more kernel_methods (record { classes = kernel_classes; methods = no_methods }) (record { classes = kernel_classes; methods = no_methods }) bare_tied
 
 -- ---- a list
 
 from_tied : (cs : List Change) (at : ℕ) (placed : PlacedState) (state : State) → ArePlacesOf placed state → ArePlacesOf (placed_from placed at cs) (state_from state cs)
 from_tied [] at placed state tied = tied
-from_tied (c ∷ cs) at placed state tied = from_tied cs (at + length (block c)) (placed_after c at placed) (state_after c state) (after_tied c at placed state tied)
+from_tied (c ∷ cs) at placed state tied = from_tied cs (at + length (block c)) (placed_after c at placed) (state_after c state) (after_tied placed state tied c at)
 
-pub list_tied : AreNamed → (cs : List Change) → ArePlacesOf (placed_of cs) (state_of cs)
-list_tied named cs = from_tied cs 0 placed_kernel_state kernel_state (kernel_tied named)
+pub list_tied : (cs : List Change) → ArePlacesOf (placed_of cs) (state_of cs)
+list_tied cs = from_tied cs 0 placed_kernel_state kernel_state kernel_tied
 
 -- ---- a system
 
@@ -146,8 +175,3 @@ system_tied system placed state tied has = record {
   others = λ name side none.
       nothing_shown (placed.methods name side) (state.methods name side) (has.others name side (ap (λ (c : Classes). map.get c name) tied.classes ∙ none)) (tied.methods name side);
 }
-
--- and its entries tell which methods are the kernel's own
-pub own_tied : (system : SystemState) (placed : PlacedState) (state : State) → ArePlacesOf placed state → HasPlaces system placed → TellOwn system.table system.methods
-own_tied system placed state tied has = λ number side selector entry there name named.
-    tied.own name side selector (row_in entry) (sym ((has.methods number name side named).each selector) ∙ ap (option_map row_in) there)

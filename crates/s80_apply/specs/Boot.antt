@@ -5,7 +5,7 @@ use Rattle.s80_kernel.specs.declared.rows.KernelClass.{KernelClass}
 use Rattle.s80_kernel.specs.Text.{kernel_text}
 use Rattle.s80_form.specs.Definition.{split_names}
 use Rattle.s80_class.specs.declared.entry.ClassEntry.{ClassEntry}
-use Rattle.s80_class.specs.Classes.{Name}
+use Rattle.s80_class.specs.Classes.{Name, IsValid}
 use Rattle.s80_class.specs.Table.{Table, IsNumberOf}
 use Rattle.s80_base.specs.declared.names.Side.{Side}
 use Rattle.s80_dict.specs.Table.{MethodsValue, methods_at, put_at}
@@ -37,6 +37,7 @@ pub record IsKernelEntry (table : Table) (class : KernelClass) (entry : ClassEnt
 -- the classes of the kernel, each with dictionaries without methods
 pub record HasClassesAlone (table : Table) (methods : MethodsValue Entry) : Type 0 where
   pub classes : table.classes ≡ kernel_classes
+  pub valid : IsValid table.classes
   pub within : IsWithin table.classes
   pub count : length methods.sides ≡ length table.names
   pub none : (n : ℕ) (s : Side) → methods_at methods n s ≡ map.empty

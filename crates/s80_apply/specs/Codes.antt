@@ -1,10 +1,9 @@
 -- The code of each method agrees with its source in its class.
-use Rattle.std.specs.Prelude.{◌≡◌, ◌≤◌, ℕ, List, length, Some}
+use Rattle.std.specs.Prelude.{◌≡◌, ◌≤◌, ℕ, List, length, Some, Ok}
 use Rattle.std.specs.FinMap as map
 use Rattle.s80_base.specs.declared.names.Side.{Side}
 use Rattle.s80_dict.specs.Table.{MethodsValue, methods_at}
 use Rattle.s80_change.specs.Check.{IsCheckOf}
-use Rattle.s80_change.specs.declared.source_check.SourceCheck.TheVariants.{Fits}
 use Rattle.s80_class.specs.Classes.{Name, Classes}
 use Rattle.s80_class.specs.Table.{Table, IsNumberOf}
 use Rattle.s80_method.specs.Code.{IsMethodCode}
@@ -13,7 +12,7 @@ use Rattle.s80_apply.specs.Entries.{Entry}
 -- the source is a method of this selector that fits, and the code is that of its tree in this class, on this side
 pub record HasCode (classes : Classes) (class : Name) (side : Side) (selector : List ℕ) (entry : Entry) : Type 0 where
   pub short : length entry.source ≤ 65535
-  pub check : IsCheckOf entry.source (Fits selector)
+  pub check : IsCheckOf entry.source (Ok selector)
   pub code : IsMethodCode classes class side selector entry.source entry.code
 
 -- so it is in the class of this number
@@ -29,9 +28,9 @@ AreCodes table methods =
 
 -- a source that is a method of some selector, and fits
 abbrev pub IsSource : Entry → Type 0
-IsSource entry = (length entry.source ≤ 65535) × ((selector : List ℕ) × IsCheckOf entry.source (Fits selector))
+IsSource entry = (length entry.source ≤ 65535) × ((selector : List ℕ) × IsCheckOf entry.source (Ok selector))
 
 -- the sources of all methods are methods of their selectors, whatever their code
 abbrev pub HaveSources : MethodsValue Entry → Type 0
 HaveSources methods =
-    (number : ℕ) (side : Side) (selector : List ℕ) (entry : Entry) → map.get (methods_at methods number side) selector ≡ Some entry → (length entry.source ≤ 65535) × IsCheckOf entry.source (Fits selector)
+    (number : ℕ) (side : Side) (selector : List ℕ) (entry : Entry) → map.get (methods_at methods number side) selector ≡ Some entry → (length entry.source ≤ 65535) × IsCheckOf entry.source (Ok selector)

@@ -1,13 +1,9 @@
 -- The place that a method takes among classes and dictionaries, or why it is refused.
-use Rattle.std.specs.Prelude.{◌≡◌, ◌≤◌, ℕ, List, true, length, codes, Option, Some, None, MatchOption, Result, Ok, Err, ⊤}
+use Rattle.std.specs.Prelude.{◌≡◌, ◌≤◌, ℕ, List, true, length, Option, Some, None, MatchOption, Result, Ok, Err, ⊤}
 use Rattle.std.specs.FinMap as map
 use Rattle.s80_dict.specs.Table.{methods_at}
-use Rattle.s80_kernel.specs.declared.methods.KernelMethod.{KernelMethod}
-use Rattle.s80_kernel.specs.Methods.{KernelMethodRow}
 use Rattle.s80_change.specs.declared.change.Change.TheVariants as changes
 use Rattle.s80_change.specs.declared.change.Method.{Method as MethodChange}
-use Rattle.s80_change.specs.declared.source_check.SourceCheck.{SourceCheck}
-use Rattle.s80_change.specs.declared.source_check.SourceCheck.TheVariants as checks
 use Rattle.s80_form.specs.declared.refusal.Refusal.{Refusal}
 use Rattle.s80_form.specs.declared.refusal.Refusal.TheVariants.{UnknownClass}
 use Rattle.s80_form.specs.declared.refusal.ManyKind.TheVariants.{Methods as ManyMethods}
@@ -17,22 +13,14 @@ use Rattle.s80_change.specs.Block.{block}
 use Rattle.s80_class.specs.Table.{IsNumberOf}
 use Rattle.s80_apply.specs.declared.step.PlacedMethod.{PlacedMethod}
 use Rattle.s80_apply.specs.Accept.{above, len_with}
-use Rattle.s80_apply.specs.Placed.{PlacedRow, kernel_row, row_at}
+use Rattle.s80_apply.specs.Placed.{PlacedRow, keeping_places}
 use Rattle.s80_apply.specs.Entries.{row_in}
 use Rattle.s80_apply.specs.Codes.{HasCode}
-use Rattle.s80_apply.specs.System.{SystemState, offset_in_block}
+use Rattle.s80_apply.specs.System.{SystemState}
 
--- the row of the kernel that a method is
-pub record IsKernelMethod (m : MethodChange) (selector : List ℕ) (own : KernelMethod) : Type 0 where
-  pub row : KernelMethodRow
-  pub is : kernel_row m selector ≡ Some row
-  pub category : m.category ≡ codes "kernel"
-  pub position : own.position ≡ row.position
-  pub size : own.length ≡ length row.source
-
--- a method with the place of its source, whose position in the log is counted from the beginning of its block
-abbrev pub row_for : MethodChange → List ℕ → PlacedRow
-row_for m selector = row_at 0 m selector
+-- a method with the place of its source, whose position is counted from the beginning of its block
+abbrev pub row_for : MethodChange → PlacedRow
+row_for m = (keeping_places 0).put m
 
 -- it takes its selector on its side of its class
 pub record TakesPlace (system : SystemState) (m : MethodChange) (selector : List ℕ) (placed : PlacedMethod) : Type 0 where
@@ -42,9 +30,9 @@ pub record TakesPlace (system : SystemState) (m : MethodChange) (selector : List
   pub only : (c : ℕ) → IsNumberOf system.table.names c m.class_name → c ≡ placed.number
   pub there : map.contains_key system.table.classes m.class_name ≡ true
   pub few : above 16384 ManyMethods (len_with selector (methods_at system.methods placed.number m.side)) ≡ None
-  pub row : row_in placed.entry ≡ row_for m selector
+  pub row : row_in placed.entry ≡ row_for m
   pub code : HasCode system.table.classes m.class_name m.side selector placed.entry
-  pub near : offset_in_block placed.entry ≤ length (block (changes.Method m))
+  pub near : placed.entry.position ≤ length (block (changes.Method m))
 
 -- why a method of this selector is refused in the class of this number, if it is
 abbrev pub refusal_at : SystemState → MethodChange → List ℕ → Option ℕ → Option Refusal
@@ -69,6 +57,6 @@ Refuses why (Err (refused.Refusal refusal)) = refusal ≡ why
 Refuses why (Err refused.Memory) = ⊤
 
 -- what is answered for a method whose source is this by itself
-abbrev pub PlacesIn : SystemState → MethodChange → SourceCheck → Result PlacedMethod Refused → Type 0
-PlacesIn system m (checks.Fits selector) result = PlacesAt system m selector result
-PlacesIn system m (checks.Refused why) result = Refuses why result
+abbrev pub PlacesIn : SystemState → MethodChange → Result (List ℕ) Refusal → Result PlacedMethod Refused → Type 0
+PlacesIn system m (Ok selector) result = PlacesAt system m selector result
+PlacesIn system m (Err why) result = Refuses why result

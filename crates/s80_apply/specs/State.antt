@@ -29,6 +29,19 @@ put_method class side selector row state = record state {
   methods = λ name s. cond (bytes_eq name class && same_side s side) (map.insert (state.methods name s) selector row) (state.methods name s);
 }
 
+-- the method of a selector taken away on one side of a class
+abbrev pub take_method : {M : Type 0} → Name → Side → List ℕ → StateOf M → StateOf M
+take_method class side selector state = record state {
+  methods = λ name s. cond (bytes_eq name class && same_side s side) (map.remove (state.methods name s) selector) (state.methods name s);
+}
+
+-- a class taken away, with its methods on both sides
+abbrev pub take_class : {M : Type 0} → Name → StateOf M → StateOf M
+take_class class state = record {
+  classes = map.remove state.classes class;
+  methods = λ name s. cond (bytes_eq name class) map.empty (state.methods name s);
+}
+
 -- ---- the kernel's state
 
 abbrev pub side_of : Bool → Side

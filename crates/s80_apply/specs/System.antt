@@ -1,27 +1,26 @@
 -- A system at work: what a step does to it.
-use Rattle.std.specs.Prelude.{◌≡◌, true, ◌<◌, ◌≤◌, ◌-◌, ◌+◌, ◌++◌, ℕ, List, [], ◌∷◌, length, slice_get, cond, Option, Some, None, Result, Ok, Err, ⊤}
+use Rattle.std.specs.Prelude.{◌≡◌, ◌⊎◌, true, ◌<◌, ◌≤◌, ◌-◌, ◌+◌, ◌++◌, ℕ, List, [], ◌∷◌, length, slice_get, slice_set, nat_eq, cond, Option, Some, None, Result, Ok, Err, IfOk, ⊤}
 use Rattle.std.specs.FinMap as map
 use Rattle.s80_base.specs.declared.names.Side.{Side}
 use Rattle.s80_dict.specs.Dict.{Methods, HasRoom}
-use Rattle.s80_dict.specs.Table.{MethodsValue, methods_at, room_at, put_at, no_sides}
+use Rattle.s80_dict.specs.Table.{MethodsValue, methods_at, room_at, put_at, taken_at, no_sides}
 use Rattle.s80_change.specs.declared.change.Change.{Change}
-use Rattle.s80_change.specs.declared.change.Change.TheVariants as changes
-use Rattle.s80_change.specs.declared.change.Method.{Method as MethodChange}
-use Rattle.s80_form.specs.declared.definition.Definition.{Definition}
+use Rattle.s80_form.specs.declared.refusal.Refusal.{Refusal}
+use Rattle.s80_form.specs.declared.refusal.Refusal.TheVariants.{NoSelector}
 use Rattle.s80_form.specs.declared.refusal.Refused.{Refused}
 use Rattle.s80_form.specs.declared.refusal.Refused.TheVariants as refused
 use Rattle.s80_class.specs.declared.entry.ClassEntry.{ClassEntry}
-use Rattle.s80_class.specs.Classes.{Name, ClassRow, Classes, is_under}
+use Rattle.s80_class.specs.Classes.{Name, ClassRow, Classes, IsValid, change_row, is_under, with_comment}
 use Rattle.s80_class.specs.Table.{Table, IsNumberOf, IsSuperclass, IsAbove, row_of}
 use Rattle.s80_apply.specs.declared.step.Placed.{Placed}
 use Rattle.s80_apply.specs.declared.step.PlacedMethod.{PlacedMethod}
 use Rattle.s80_apply.specs.declared.step.Step.{Step}
 use Rattle.s80_apply.specs.declared.step.Step.TheVariants as steps
-use Rattle.s80_apply.specs.State.{State, StateOf, is_kernel_method}
+use Rattle.s80_apply.specs.State.{State, StateOf}
 use Rattle.s80_apply.specs.Placed.{PlacedState, accept_placed}
 use Rattle.s80_apply.specs.Seen.{AreSeen}
-use Rattle.s80_apply.specs.Accept.{refusal_of, define, accept}
-use Rattle.s80_change.specs.Check.{IsCheckOf}
+use Rattle.s80_apply.specs.Accept.{refusal_of_removal, unknown_name, accept}
+use Rattle.s80_change.specs.Block.{block}
 use Rattle.s80_apply.specs.Limits.{IsWithin}
 use Rattle.s80_apply.specs.List.{AreOfList}
 use Rattle.s80_apply.specs.Entries.{Entry, row_in, state_row}
@@ -49,25 +48,18 @@ IsSystemOf system state = IsSystemBy state_row system state
 abbrev pub HasPlaces : SystemState → PlacedState → Type 0
 HasPlaces system placed = IsSystemBy row_in system placed
 
--- an entry says that its source stands in the kernel's text exactly where the method is the kernel's own
-abbrev pub TellsOwn : Table → ℕ → Side → List ℕ → Entry → Type 0
-TellsOwn table number side selector entry = (name : Name) → IsNumberOf table.names number name → entry.from_kernel ≡ is_kernel_method name side selector (state_row entry)
-
-abbrev pub TellOwn : Table → MethodsValue Entry → Type 0
-TellOwn table methods =
-    (number : ℕ) (side : Side) (selector : List ℕ) (entry : Entry) → map.get (methods_at methods number side) selector ≡ Some entry → TellsOwn table number side selector entry
-
--- the classes are those of a list and within the limits, each has dictionaries, and each method has the code of its source and tells whether it is the kernel's own
+-- the classes are those of a list, each with its line of superclasses, and within the limits; each has dictionaries, and each method has the code of its source
 pub record IsSoundSystem (system : SystemState) : Type 0 where
   pub of_list : AreOfList system.table.classes
+  pub valid : IsValid system.table.classes
   pub within : IsWithin system.table.classes
   pub dictionaries : length system.methods.sides ≡ length system.table.names
   pub codes : AreCodes system.table system.methods
-  pub own : TellOwn system.table system.methods
 
--- the class of this name has this number, and by it dictionaries
+-- the class of this name has this number alone, and by it dictionaries
 pub record HasNumber (system : SystemState) (name : Name) (number : ℕ) : Type 0 where
   pub named : IsNumberOf system.table.names number name
+  pub only : (c : ℕ) → IsNumberOf system.table.names c name → c ≡ number
   pub dictionaries : number < length system.methods.sides
   pub there : (row : ClassRow) × (map.get system.table.classes name ≡ Some row)
 
@@ -151,28 +143,23 @@ pub record HasClass (before : SystemState) (placed : Placed) (now : SystemState)
   pub methods : (n : ℕ) (s : Side) → methods_at now.methods n s ≡ put_all placed.recompiled.items (methods_at (with_dictionaries placed.number before.methods)) n s
   pub count : length now.methods.sides ≡ length (with_dictionaries placed.number before.methods).sides
 
--- what preparing a definition answers: the first reason to refuse it, or the entry that makes the class
-abbrev pub Places : Classes → Definition → SystemState → Result Placed Refused → Type 0
-Places classes d now (Ok placed) = (refusal_of d classes ≡ None) × CanPut now placed × (with_entry now.table placed.entry ≡ define d classes)
-Places classes d now (Err (refused.Refusal refusal)) = refusal_of d classes ≡ Some refusal
-Places classes d now (Err refused.Memory) = ⊤
+-- what preparing an entry answers that makes these classes: the first reason to refuse it, or the entry
+abbrev pub Places : Option Refusal → Classes → SystemState → Result Placed Refused → Type 0
+Places refusal classes now (Ok placed) = (refusal ≡ None) × CanPut now placed × (with_entry now.table placed.entry ≡ classes)
+Places refusal classes now (Err (refused.Refusal why)) = refusal ≡ Some why
+Places refusal classes now (Err refused.Memory) = ⊤
 
 -- ---- a method that is put
 
--- its class is there, its selector has room on that side, its code is that of its source, and it tells whether it is the kernel's own
+-- its class is there, its selector has room on that side, and its code is that of its source
 pub record CanPutMethod (system : SystemState) (placed : PlacedMethod) : Type 0 where
   pub number : placed.number < length system.methods.sides
   pub room : HasRoom (room_at system.methods placed.number placed.side) placed.selector
   pub code : HasCodeAt system.table placed.number placed.side placed.selector placed.entry
-  pub own : TellsOwn system.table placed.number placed.side placed.selector placed.entry
 
--- so many bytes of its block stand before the source; the kernel's text has a source of the kernel's
-abbrev pub offset_in_block : Entry → ℕ
-offset_in_block entry = cond entry.from_kernel 0 entry.position
-
--- a source in the log stands behind the beginning of its block
+-- a source stands behind the beginning of its block
 abbrev pub moved : ℕ → Entry → Entry
-moved at entry = record entry { position = cond entry.from_kernel entry.position (at + entry.position) }
+moved at entry = record entry { position = at + entry.position }
 
 -- this is the system with the method of a block that begins at this place: but for that all is as before
 pub record HasMethod (before : SystemState) (placed : PlacedMethod) (at : ℕ) (now : SystemState) : Type 0 where
@@ -180,30 +167,79 @@ pub record HasMethod (before : SystemState) (placed : PlacedMethod) (at : ℕ) (
   pub methods : (n : ℕ) (s : Side) → methods_at now.methods n s ≡ put_at (methods_at before.methods) placed.number placed.side placed.selector (moved at placed.entry) n s
   pub count : length now.methods.sides ≡ length before.methods.sides
 
--- ---- a step
+-- ---- what is taken away, or gets another category or comment
 
--- what is said of the source of a method by itself is so, and it is no longer than a chunk may be
-abbrev pub IsChecked : Change → Type 0
-IsChecked (changes.Method m) = IsCheckOf m.source m.check × (length m.source ≤ 65535)
-IsChecked _ = ⊤
+-- a method that is there, and so its selector has room
+pub record HasMethodAt (system : SystemState) (number : ℕ) (side : Side) (selector : List ℕ) : Type 0 where
+  pub within : number < length system.methods.sides
+  pub room : HasRoom (room_at system.methods number side) selector
+  pub entry : Entry
+  pub there : map.get (methods_at system.methods number side) selector ≡ Some entry
+
+-- this is the system without the method
+pub record LosesMethod (before : SystemState) (number : ℕ) (side : Side) (selector : List ℕ) (now : SystemState) : Type 0 where
+  pub table : now.table ≡ before.table
+  pub methods : (n : ℕ) (s : Side) → methods_at now.methods n s ≡ taken_at (methods_at before.methods) number side selector n s
+  pub count : length now.methods.sides ≡ length before.methods.sides
+
+-- this is the system with the method under this category
+pub record ClassifiesMethod (before : SystemState) (number : ℕ) (side : Side) (selector category : List ℕ) (now : SystemState) : Type 0 where
+  pub table : now.table ≡ before.table
+  pub methods : (entry : Entry) → map.get (methods_at before.methods number side) selector ≡ Some entry
+      → (n : ℕ) (s : Side) → methods_at now.methods n s ≡ put_at (methods_at before.methods) number side selector (record entry { category = category }) n s
+  pub count : length now.methods.sides ≡ length before.methods.sides
+
+-- a class that is there and may be removed
+pub record CanTakeClass (system : SystemState) (number : ℕ) : Type 0 where
+  pub class : Name
+  pub number_is : HasNumber system class number
+  pub removable : refusal_of_removal class system.table.classes ≡ None
+
+-- this is the system without the class and its methods
+pub record LosesClass (before : SystemState) (number : ℕ) (now : SystemState) : Type 0 where
+  pub classes : (class : Name) → IsNumberOf before.table.names number class → now.table.classes ≡ map.remove before.table.classes class
+  pub names : now.table.names ≡ slice_set before.table.names number None
+  pub methods : (n : ℕ) (s : Side) → methods_at now.methods n s ≡ cond (nat_eq n number) map.empty (methods_at before.methods n s)
+  pub count : length now.methods.sides ≡ length before.methods.sides
+
+-- a class that is there
+pub record HasClassAt (system : SystemState) (number : ℕ) : Type 0 where
+  pub class : Name
+  pub number_is : HasNumber system class number
+
+-- this is the system with the comment
+pub record HasComment (before : SystemState) (number : ℕ) (text : List ℕ) (now : SystemState) : Type 0 where
+  pub classes : (class : Name) → IsNumberOf before.table.names number class → now.table.classes ≡ change_row (with_comment text) class before.table.classes
+  pub names : now.table.names ≡ before.table.names
+  pub methods : (n : ℕ) (s : Side) → methods_at now.methods n s ≡ methods_at before.methods n s
+  pub count : length now.methods.sides ≡ length before.methods.sides
+
+-- ---- a step
 
 -- the step may be installed
 abbrev pub IsReady : SystemState → Step → Type 0
 IsReady system steps.Nothing = ⊤
 IsReady system (steps.Class placed) = CanPut system placed × AreOfList (with_entry system.table placed.entry)
+IsReady system (steps.Comment number text) = HasClassAt system number
+IsReady system (steps.RemoveClass number) = CanTakeClass system number
 IsReady system (steps.Method placed) = CanPutMethod system placed
+IsReady system (steps.RemoveMethod number side selector) = HasMethodAt system number side selector
+IsReady system (steps.Classify number side selector category) = HasMethodAt system number side selector
 
 -- so many bytes of a block stand before what the step tells the place of
 abbrev pub offset_of : Step → ℕ
-offset_of steps.Nothing = 0
-offset_of (steps.Class placed) = 0
-offset_of (steps.Method placed) = offset_in_block placed.entry
+offset_of (steps.Method placed) = placed.entry.position
+offset_of _ = 0
 
 -- this is the system after a step whose block begins at this place
 abbrev pub IsInstalled : SystemState → Step → ℕ → SystemState → Type 0
 IsInstalled before steps.Nothing at now = now ≡ before
 IsInstalled before (steps.Class placed) at now = HasClass before placed now
+IsInstalled before (steps.Comment number text) at now = HasComment before number text now
+IsInstalled before (steps.RemoveClass number) at now = LosesClass before number now
 IsInstalled before (steps.Method placed) at now = HasMethod before placed at now
+IsInstalled before (steps.RemoveMethod number side selector) at now = LosesMethod before number side selector now
+IsInstalled before (steps.Classify number side selector category) at now = ClassifiesMethod before number side selector category now
 
 -- Whatever a step makes of the system, wherever its block begins, it is what accepting the change makes of the state.
 abbrev pub Makes : SystemState → Step → Change → State → Type 0
@@ -220,7 +256,33 @@ Prepares state change now (Ok step) = Makes now step change state
 Prepares state change now (Err (refused.Refusal refusal)) = accept change state ≡ Err refusal
 Prepares state change now (Err refused.Memory) = ⊤
 
--- what preparing a method answers in this state
-abbrev pub PlacesMethod : State → MethodChange → SystemState → Result PlacedMethod Refused → Type 0
-PlacesMethod state m now (Ok placed) = Prepares state (changes.Method m) now (Ok (steps.Method placed))
-PlacesMethod state m now (Err refusal) = Prepares state (changes.Method m) now (Err refusal)
+-- the number of the class of this name; or there is none
+abbrev pub FindsClass : SystemState → Name → Result ℕ Refused → Type 0
+FindsClass system name (Ok number) = HasNumber system name number
+FindsClass system name (Err (refused.Refusal refusal)) = unknown_name name system.table.classes ≡ Some refusal
+FindsClass system name (Err refused.Memory) = ⊤
+
+-- there is no method of this selector on that side of the class of this name, and so it is refused
+abbrev pub HasNoMethod : SystemState → Name → Side → List ℕ → Refusal → Type 0
+HasNoMethod system name side selector refusal =
+    (unknown_name name system.table.classes ≡ Some refusal)
+    ⊎ ((number : ℕ) × HasNumber system name number × (map.get (methods_at system.methods number side) selector ≡ None) × (refusal ≡ NoSelector name side selector))
+
+-- the number of the class which has that method; or there is none
+abbrev pub FindsMethod : SystemState → Name → Side → List ℕ → Result ℕ Refused → Type 0
+FindsMethod system name side selector (Ok number) = HasNumber system name number × HasMethodAt system number side selector
+FindsMethod system name side selector (Err (refused.Refusal refusal)) = HasNoMethod system name side selector refusal
+FindsMethod system name side selector (Err refused.Memory) = ⊤
+
+-- What preparing a change answers, and what the step is fit for; of the system before by what it stands for.
+pub record IsPrepared (before : SystemState) (change : Change) (now : SystemState) (result : Result Step Refused) : Type 0 where
+  pub answer : (state : State) → IsSystemOf before state → Prepares state change now result
+  pub places : (placed : PlacedState) → HasPlaces before placed → IfOk result (λ step. MakesPlaces now step change placed)
+  pub ready : IfOk result (λ step. IsReady now step × (offset_of step ≤ length (block change)))
+
+-- Preparing makes room alone.
+pub record Stays (before now : SystemState) : Type 0 where
+  pub same : (state : State) → IsSystemOf before state → IsSystemOf now state
+  pub same_places : (placed : PlacedState) → HasPlaces before placed → HasPlaces now placed
+  pub names : now.table.names ≡ before.table.names
+  pub classes : now.table.classes ≡ before.table.classes

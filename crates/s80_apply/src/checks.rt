@@ -1,10 +1,13 @@
-// Why a definition is refused, in the order in which its checks are made.
-ghost use Rattle.std.specs.Prelude.{◌≡◌, ◌<◌, ◌≤◌, ◌^◌, ◌++◌, ◌∷◌, [], List, ℕ, Bool, true, false, not, length, find, IfOk, IfNone, Option, option_copied};
+// Why a change of a class is refused, in the order in which its checks are made.
+ghost use Rattle.std.specs.Prelude.{◌≡◌, ◌<◌, ◌≤◌, ◌^◌, ◌++◌, ◌∷◌, [], List, ℕ, Bool, true, false, not, length, find, IfOk, IfNone, Option, Some, option_copied, option_map};
 ghost use Rattle.std.specs.FinMap as map;
 ghost use Rattle.s80_form.specs.Name.{is_name};
-ghost use Rattle.s80_class.specs.Classes.{ClassRow, is_under, inherited_of, extent_of};
+ghost use Rattle.s80_form.specs.declared.refusal.Refusal.TheVariants.{BadName, Duplicate};
+ghost use Rattle.s80_form.specs.declared.refusal.ManyKind.TheVariants.{ClassSideVariables};
+ghost use Rattle.s80_class.specs.Classes.{IsValid, Name, ClassRow, change_row, is_under, inherited_of, extent_of, with_class_side_vars};
+ghost use Rattle.s80_class.specs.Table.{IsClass, IsNumberOf};
 ghost use Rattle.s80_class.specs.Counted.{totals};
-ghost use Rattle.s80_apply.specs.Accept.{define, bad_name, unknown_class, kernel_class, cycle, duplicate, first_again, too_many, above};
+ghost use Rattle.s80_apply.specs.Accept.{define, bad_name, unknown_name, has_subclasses, kernel_name, cycle, duplicate, first_again, too_many, above};
 ghost use Rattle.s80_apply.specs.Limits.{IsWithin};
 ghost use Rattle.s80_apply.specs.Extent.{IsGreatest, totals_on, alone};
 
@@ -27,6 +30,16 @@ pub(crate) fn bad_name(
         return Ok(Some(Refusal::BadName(name)));
     }
     match bad_variable(definition) {
+        Some(name) => Ok(Some(Refusal::BadName(name.copy(alloc)?))),
+        None => Ok(None),
+    }
+}
+
+/// These names are names.
+pub(crate) fn bad_name_among(alloc: Global, names: &Names) -> Result<Option<Refusal>, OutOfMemory>
+    ensures { IfOk result (λ r. r ≡ option_map BadName (find (λ name. not (is_name name)) names.now)) }
+{
+    match first_bad(names) {
         Some(name) => Ok(Some(Refusal::BadName(name.copy(alloc)?))),
         None => Ok(None),
     }
@@ -57,35 +70,44 @@ fn first_bad(names: &Names) -> Option<&Text>
     None
 }
 
-/// The superclass is a class.
+/// The name is that of a class.
 pub(crate) fn unknown_class(
     alloc: Global,
     classes: &ClassTable,
-    definition: &Definition,
+    name: &Text,
 ) -> Result<Option<Refusal>, OutOfMemory>
-    ensures { IfOk result (λ r. r ≡ unknown_class definition.now classes.now.classes) }
+    ensures { IfOk result (λ r. r ≡ unknown_name name.now classes.now.classes) }
 {
-    match class_named(classes, &definition.superclass) {
+    match class_named(classes, name) {
         Some(_) => Ok(None),
-        None => {
-            let name = definition.superclass.copy(alloc)?;
-            Ok(Some(Refusal::UnknownClass(name)))
-        }
+        None => Ok(Some(Refusal::UnknownClass(name.copy(alloc)?))),
     }
 }
 
-/// The class isn't one of the kernel's.
-pub(crate) fn kernel_class(
-    alloc: Global,
-    definition: &Definition,
-) -> Result<Option<Refusal>, OutOfMemory>
-    ensures { IfOk result (λ r. r ≡ kernel_class definition.now) }
+/// The name isn't that of a class of the kernel.
+pub(crate) fn kernel_class(alloc: Global, name: &Text) -> Result<Option<Refusal>, OutOfMemory>
+    ensures { IfOk result (λ r. r ≡ kernel_name name.now) }
 {
-    if !s80_kernel::is_kernel_class(definition.class_name.bytes()) {
+    if !s80_kernel::is_kernel_class(name.bytes()) {
         return Ok(None);
     }
-    let name = definition.class_name.copy(alloc)?;
-    Ok(Some(Refusal::KernelClass(name)))
+    Ok(Some(Refusal::KernelClass(name.copy(alloc)?)))
+}
+
+/// No class has the class of this number and name as its superclass.
+pub(crate) fn has_subclasses(
+    alloc: Global,
+    classes: &ClassTable,
+    number: u32,
+    name: &Text,
+) -> Result<Option<Refusal>, OutOfMemory>
+    requires { IsNumberOf classes.now.names number name.now }
+    ensures { IfOk result (λ r. r ≡ has_subclasses name.now classes.now.classes) }
+{
+    if !classes.has_subclass(number) {
+        return Ok(None);
+    }
+    Ok(Some(Refusal::HasSubclasses(name.copy(alloc)?)))
 }
 
 /// The superclass isn't the class itself and doesn't descend from it.
@@ -136,6 +158,17 @@ pub(crate) fn duplicate(
     Ok(None)
 }
 
+/// No name stands twice among these.
+pub(crate) fn duplicate_among(alloc: Global, names: &Names) -> Result<Option<Refusal>, OutOfMemory>
+    ensures refusal { IfOk result (λ r. r ≡ option_map Duplicate (first_again [] names.now)) }
+    ensures small { IfOk result (λ r. IfNone r (length names.now < 2 ^ 63)) }
+{
+    match first_again(alloc, names)? {
+        Some(name) => Ok(Some(Refusal::Duplicate(name.copy(alloc)?))),
+        None => Ok(None),
+    }
+}
+
 /// The first name that stands among those before it. Where there is none, the list is no longer than a set can be.
 fn first_again(alloc: Global, names: &Names) -> Result<Option<&Text>, OutOfMemory>
     ensures again { IfOk result (λ r. option_copied r ≡ first_again [] names.now) }
@@ -172,6 +205,41 @@ pub(crate) fn too_many(
         .or_else(|| above(256, ManyKind::Pools, definition.pools.count()))
         .or_else(|| above(0, ManyKind::BitsVariables, extent.bits_variables));
     Ok(refusal)
+}
+
+/// The limit of class-side variables, if the class of this number had these.
+pub(crate) fn too_many_class_side(
+    alloc: Global,
+    classes: &ClassTable,
+    number: u32,
+    names: &Names,
+) -> Result<Option<Refusal>, OutOfMemory>
+    requires class { IsClass classes.now.names number }
+    requires valid { IsValid classes.now.classes }
+    requires within { IsWithin classes.now.classes }
+    requires small { length names.now < 2 ^ 63 }
+    ensures { (name : Name) (row : ClassRow) → IsNumberOf classes.now.names number name → map.get classes.now.classes name ≡ Some row → IfOk result (λ r. r
+        ≡ above 64 ClassSideVariables (extent_of (change_row (with_class_side_vars names.now) name classes.now.classes) name).class_side_vars) }
+{
+    let top = totals_with_side(classes, number, names.count());
+    let greatest = classes.greatest_with(alloc, number, top)?;
+    Ok(above(64, ManyKind::ClassSideVariables, greatest.class_side_vars))
+}
+
+/// What the class of this number has with all that it inherits, if it declared so many class-side variables.
+fn totals_with_side(classes: &ClassTable, number: u32, class_side_vars: usize) -> Totals
+    requires class { IsClass classes.now.names number }
+    requires valid { IsValid classes.now.classes }
+    requires within { IsWithin classes.now.classes }
+    ensures { (name : Name) (row : ClassRow) (names : List Name) → IsNumberOf classes.now.names number name → map.get classes.now.classes name ≡ Some row → length names ≡ class_side_vars
+        → result ≡ totals (inherited_of (map.insert classes.now.classes name (with_class_side_vars names row)) name) }
+{
+    let totals = classes.totals_of(number);
+    let own = classes.at(number).class_side_vars.count();
+    Totals {
+        class_side_vars: (totals.class_side_vars - own).saturating_add(class_side_vars),
+        ..totals
+    }
 }
 
 /// Why so many of a kind are refused, if they are.

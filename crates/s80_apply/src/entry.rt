@@ -1,8 +1,8 @@
 // Entries of classes, and the one that a definition makes.
-ghost use Rattle.std.specs.Prelude.{◌≡◌, ℕ, [], true, Some, None, IfOk, MatchOption, option_map, unwrap_or};
+ghost use Rattle.std.specs.Prelude.{◌≡◌, ℕ, List, Option, [], true, Some, None, IfOk, MatchOption, option_map, unwrap_or};
 ghost use Rattle.std.specs.FinMap as map;
-ghost use Rattle.s80_class.specs.Classes.{IsValid};
-ghost use Rattle.s80_class.specs.Table.{IsNumberOf};
+ghost use Rattle.s80_class.specs.Classes.{IsValid, Name, with_class_side_vars};
+ghost use Rattle.s80_class.specs.Table.{IsNumberOf, row_of};
 ghost use Rattle.s80_apply.specs.Entry.{IsDefined, IsNamed};
 
 use s80_base::{Names, OutOfMemory, Text};
@@ -59,4 +59,27 @@ pub(crate) fn kept(
         Some((_, old)) => Ok((old.comment.copy(alloc)?, old.class_side_vars.copy(alloc)?)),
         None => Ok((Text::empty(alloc), Names::empty(alloc))),
     }
+}
+
+/// The entry of a class with other class-side variables.
+pub(crate) fn with_class_side_vars(
+    alloc: Global,
+    entry: &ClassEntry,
+    names: &Names,
+) -> Result<ClassEntry, OutOfMemory>
+    ensures row { (numbers : List (Option Name)) → IfOk result (λ with. row_of numbers with ≡ with_class_side_vars names.now (row_of numbers entry.now)) }
+    ensures class_name { IfOk result (λ with. with.class_name ≡ entry.now.class_name) }
+    ensures superclass { IfOk result (λ with. with.superclass ≡ entry.now.superclass) }
+{
+    Ok(ClassEntry {
+        class_name: entry.class_name.copy(alloc)?,
+        superclass: entry.superclass,
+        kind: entry.kind,
+        inst_vars: entry.inst_vars.copy(alloc)?,
+        class_vars: entry.class_vars.copy(alloc)?,
+        pools: entry.pools.copy(alloc)?,
+        category: entry.category.copy(alloc)?,
+        comment: entry.comment.copy(alloc)?,
+        class_side_vars: names.copy(alloc)?,
+    })
 }

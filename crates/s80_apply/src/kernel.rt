@@ -1,13 +1,12 @@
 // The classes and methods before any change.
-ghost use Rattle.std.specs.Prelude.{◌≡◌, ◌+◌, ◌≤◌, true, codes, length, IfOk, OnOk};
+ghost use Rattle.std.specs.Prelude.{◌≡◌, ◌+◌, ◌≤◌, Ok, true, codes, length, IfOk, OnOk};
 ghost use Rattle.std.specs.FinMap as map;
 ghost use Rattle.s80_apply.specs.Kernel.{kind_of};
 ghost use Rattle.s80_apply.specs.State.{kernel_state, side_of};
 ghost use Rattle.s80_apply.specs.Placed.{placed_kernel_state};
-ghost use Rattle.s80_apply.specs.System.{HasPlaces, IsSystemOf, TellOwn};
+ghost use Rattle.s80_apply.specs.System.{HasPlaces, IsSystemOf};
 ghost use Rattle.s80_kernel.specs.Text.{kernel_text};
 ghost use Rattle.s80_change.specs.Check.{IsCheckOf};
-ghost use Rattle.s80_change.specs.declared.source_check.SourceCheck.TheVariants.{Fits};
 ghost use Rattle.s80_apply.specs.Boot.{HasClassesAlone, IsKernelEntry, IsFoundAbove, TakesMethod, row_held};
 ghost use Rattle.s80_apply.specs.Codes.{AreCodes};
 ghost use Rattle.s80_apply.specs.Entries.{row_in};
@@ -53,7 +52,6 @@ fn put_kernel_methods(
     ensures system { OnOk result (IsSystemOf (record { table = classes.now; methods = methods.new }) kernel_state) }
     ensures places { OnOk result (HasPlaces (record { table = classes.now; methods = methods.new }) placed_kernel_state) }
     ensures codes { OnOk result (AreCodes classes.now methods.new) }
-    ensures own { OnOk result (TellOwn classes.now methods.new) }
 {
     kernel_methods_are_of_kernel_classes();
     kernel_sources_stand_in_the_text();
@@ -93,7 +91,7 @@ fn put_kernel_method(
     requires within { IsWithin classes.now.classes }
     requires stands { method.now.position + method.now.length ≤ length kernel_text }
     requires short { method.now.length ≤ 65535 }
-    requires fits { IsCheckOf (row_held method.now).source (Fits method.now.selector.now) }
+    requires fits { IsCheckOf (row_held method.now).source (Ok method.now.selector.now) }
     requires count { length methods.old.sides ≡ length classes.now.names }
     ensures count { length methods.new.sides ≡ length methods.old.sides }
     ensures put { OnOk result (TakesMethod classes.now method.now methods.old methods.new) }

@@ -1,16 +1,16 @@
 // What every list of changes leaves as it is.
-ghost use Rattle.std.specs.Prelude.{◌≡◌, ◌≢◌, ◌≤◌, List, Some, true, codes};
+ghost use Rattle.std.specs.Prelude.{◌≡◌, ◌≢◌, ◌≤◌, List, ℕ, Some, true, codes};
 ghost use Rattle.std.specs.FinMap as map;
 ghost use Rattle.s80_kernel.specs.Rows.{is_kernel_class};
-ghost use Rattle.s80_class.specs.Classes.{Name, ClassRow, inherited_of, is_bits};
+ghost use Rattle.s80_class.specs.Classes.{Name, ClassRow, inherited_of, is_bits, with_comment};
 ghost use Rattle.s80_change.specs.declared.change.Change.{Change};
 ghost use Rattle.s80_apply.specs.Kernel.{kernel_classes};
 ghost use Rattle.s80_apply.specs.List.{classes_of};
 
-/// The classes of the kernel stay as they are defined.
+/// The classes of the kernel stay as they are defined, but for their comments.
 pub fn kernel_classes_last()
     ensures { (changes : List Change) (name : Name) (row : ClassRow) → map.get kernel_classes name ≡ Some row
-        → map.get (classes_of changes) name ≡ Some row }
+        → (comment : List ℕ) × (map.get (classes_of changes) name ≡ Some (with_comment comment row)) }
 {}
 
 /// Message apart, no class of the kernel has instance variables; none has class-side variables.

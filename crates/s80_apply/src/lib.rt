@@ -20,8 +20,8 @@ pub use lasting::{
     kernel_classes_have_their_variables, kernel_classes_last,
 };
 pub use laws::{
-    accepted_classes_are_named, accepted_definitions_are_lawful, kernel_classes_are_named,
-    places_are_of_the_state, sources_stand,
+    accepted_forms_are_lawful, classes_are_named, places_are_of_the_state, sources_stand,
 };
+pub use method::is_kernel_method;
 pub use step::{Placed, PlacedMethod, Step};
 pub use system::System;

@@ -1,11 +1,10 @@
 // Methods whose classes change, compiled again.
-ghost use Rattle.std.specs.Prelude.{◌≡◌, ℕ, List, length, IfOk, OnOk};
+ghost use Rattle.std.specs.Prelude.{◌≡◌, ℕ, List, Ok, length, IfOk, OnOk};
 ghost use Rattle.std.specs.FinMap as map;
 ghost use Rattle.s80_dict.specs.Table.{methods_at};
 ghost use Rattle.s80_class.specs.Classes.{IsValid};
 ghost use Rattle.s80_class.specs.Table.{IsAbove, IsClass, IsNumberOf};
 ghost use Rattle.s80_change.specs.Check.{IsCheckOf};
-ghost use Rattle.s80_change.specs.declared.source_check.SourceCheck.TheVariants.{Fits};
 ghost use Rattle.s80_apply.specs.Codes.{HasCode, HaveSources, IsSource};
 ghost use Rattle.s80_apply.specs.Entries.{row_in};
 ghost use Rattle.s80_apply.specs.Limits.{IsWithin};
@@ -147,7 +146,7 @@ fn recompiled_entry(
     requires within { IsWithin classes.now.classes }
     requires source { IsSource entry.now }
     ensures row { IfOk result (λ again. row_in again ≡ row_in entry.now) }
-    ensures code { (name selector : List ℕ) → IsNumberOf classes.now.names class name → IsCheckOf entry.now.source (Fits selector)
+    ensures code { (name selector : List ℕ) → IsNumberOf classes.now.names class name → IsCheckOf entry.now.source (Ok selector)
         → IfOk result (HasCode classes.now.classes name side selector) }
 {
     Ok(MethodEntry {

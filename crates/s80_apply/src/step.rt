@@ -20,15 +20,39 @@ pub struct PlacedMethod {
     pub(crate) number: u32,
     pub(crate) side: Side,
     pub(crate) selector: Text,
-    /// The position of a source in the log is counted from the beginning of its block.
+    /// The position of its source is counted from the beginning of its block.
     pub(crate) entry: MethodEntry<Verified>,
 }
 
-/// What is needed to install a change. Installing takes no memory.
+/// What is needed to install a change. Classes go by their numbers. Installing takes no memory.
 #[derive(Debug, Drop)]
 pub enum Step {
     /// Nothing is changed.
     Nothing,
+    /// An entry is put among the classes, with the methods that are compiled again for it.
     Class(Placed),
+    /// A class gets this comment.
+    Comment {
+        number: u32,
+        text: Text,
+    },
+    /// A class is taken away with its methods.
+    RemoveClass {
+        number: u32,
+    },
+    /// A method is put.
     Method(PlacedMethod),
+    /// A method is taken away.
+    RemoveMethod {
+        number: u32,
+        side: Side,
+        selector: Text,
+    },
+    /// A method gets this category.
+    Classify {
+        number: u32,
+        side: Side,
+        selector: Text,
+        category: Text,
+    },
 }

@@ -1,29 +1,30 @@
 // The classes and their methods at work.
-ghost use Rattle.std.specs.Prelude.{◌≡◌, ◌+◌, ◌<◌, ◌≤◌, ◌^◌, ℕ, length, None, IfOk, MatchOption};
+ghost use Rattle.std.specs.Prelude.{◌≡◌, ◌+◌, ◌<◌, ◌≤◌, ◌^◌, ℕ, length, None, IfOk, MatchOption, find, not};
 ghost use Rattle.std.specs.FinMap as map;
 ghost use Rattle.s80_base.specs.declared.names.Side.{Side};
 ghost use Rattle.s80_dict.specs.Table.{methods_at, room_at};
-ghost use Rattle.s80_class.specs.Classes.{IsValid};
-ghost use Rattle.s80_change.specs.Block.{block};
+ghost use Rattle.s80_class.specs.Classes.{IsValid, change_row, with_class_side_vars};
 ghost use Rattle.s80_change.specs.declared.change.Change.TheVariants as changes;
-ghost use Rattle.s80_apply.specs.declared.step.Step.TheVariants as steps;
-ghost use Rattle.s80_apply.specs.Accept.{refusal_of};
+ghost use Rattle.s80_form.specs.declared.form.Form.TheVariants as forms;
+ghost use Rattle.s80_form.specs.Name.{is_name};
+ghost use Rattle.s80_apply.specs.Accept.{define, refusal_of, refusal_of_class_vars};
 ghost use Rattle.s80_apply.specs.List.{AreOfList};
-ghost use Rattle.s80_apply.specs.State.{State};
-ghost use Rattle.s80_apply.specs.Placed.{PlacedState};
 ghost use Rattle.s80_apply.specs.Codes.{AreCodes};
-ghost use Rattle.s80_apply.specs.System.{CanPut, CanPutMethod, HasClass, HasMethod, HasNumber, HasDictionaryRoom, HasPlaces, HaveRoom, IsChecked, IsInstalled, IsReady, IsSoundSystem, IsSystemOf, MakesPlaces, MayPut, Places, PlacesMethod, Prepares, TellOwn, offset_in_block, offset_of, put_all, put_at_number, with_dictionaries, with_entry};
+ghost use Rattle.s80_apply.specs.System.{CanPut, CanPutMethod, CanTakeClass, ClassifiesMethod, FindsClass, FindsMethod, HasClass, HasClassAt, HasComment, HasDictionaryRoom, HasMethod, HasMethodAt, HasNumber, HaveRoom, IsInstalled, IsPrepared, IsReady, IsSoundSystem, LosesClass, LosesMethod, MayPut, Places, Stays, offset_of, put_all, put_at_number, with_dictionaries, with_entry};
 
-use crate::checks::{bad_name, cycle, duplicate, kernel_class, too_many, unknown_class};
-use crate::entry::{class_named, defined_entry};
+use crate::checks::{
+    bad_name, bad_name_among, cycle, duplicate, duplicate_among, has_subclasses, kernel_class,
+    too_many, too_many_class_side, unknown_class,
+};
+use crate::entry::{class_named, defined_entry, with_class_side_vars};
 use crate::method::placed_method;
 use crate::recompile::placed_again;
 use crate::step::{Placed, PlacedMethod, Step};
-use s80_base::{OutOfMemory, Text};
+use s80_base::{Names, OutOfMemory, Side, Text};
 use s80_change::{Change, Method};
 use s80_class::{ClassEntry, ClassTable};
 use s80_dict::MethodTable;
-use s80_form::{Definition, Refusal, Refused};
+use s80_form::{Definition, Form, Refusal, Refused};
 use s80_verify::Verified;
 use std::alloc::Global;
 use std::marker::Model;
@@ -62,7 +63,6 @@ impl System {
     pub fn methods(&self) -> &MethodTable<Verified>
         ensures methods { result.now ≡ self.now.methods }
         ensures codes { AreCodes self.now.table self.now.methods }
-        ensures own { TellOwn self.now.table self.now.methods }
         ensures dictionaries { length self.now.methods.sides ≡ length self.now.table.names }
     {
         &self.methods
@@ -80,31 +80,146 @@ impl System {
 
     /// Prepares a change to be installed, or says why it is refused. Classes and methods stay.
     pub fn prepare(&mut self, alloc: Global, change: &Change) -> Result<Step, Refused>
-        requires { IsChecked change.now }
-        ensures answer { (state : State) → IsSystemOf self.old state → Prepares state change.now self.new result }
-        ensures places { (placed : PlacedState) → HasPlaces self.old placed → IfOk result (λ step. MakesPlaces self.new step change.now placed) }
-        ensures ready { IfOk result (λ step. IsReady self.new step × (offset_of step ≤ length (block change.now))) }
-        ensures same { (state : State) → IsSystemOf self.old state → IsSystemOf self.new state }
-        ensures same_places { (placed : PlacedState) → HasPlaces self.old placed → HasPlaces self.new placed }
-        ensures names { self.new.table.names ≡ self.old.table.names }
-        ensures classes { self.new.table.classes ≡ self.old.table.classes }
+        ensures prepared { IsPrepared self.old change.now self.new result }
+        ensures stays { Stays self.old self.new }
     {
         match change {
-            Change::Define(definition) => Ok(Step::Class(self.place(alloc, definition)?)),
-            Change::Method(method) => Ok(Step::Method(self.place_method(alloc, method)?)),
+            Change::Form(form) => self.prepare_form(alloc, form),
+            Change::Method(method) => self.prepare_method(alloc, method),
             Change::DoIt { .. } => Ok(Step::Nothing),
+        }
+    }
+
+    /// The same of what a doIt changes by its form.
+    fn prepare_form(&mut self, alloc: Global, form: &Form) -> Result<Step, Refused>
+        ensures prepared { IsPrepared self.old (changes.Form form.now) self.new result }
+        ensures stays { Stays self.old self.new }
+    {
+        match form {
+            Form::Define(definition) => Ok(Step::Class(self.place(alloc, definition)?)),
+            Form::ClassVars { class_name, names } => {
+                Ok(Step::Class(self.place_class_vars(alloc, class_name, names)?))
+            }
+            Form::Comment { class_name, text } => self.prepare_comment(alloc, class_name, text),
+            Form::RemoveMethod {
+                class_name,
+                side,
+                selector,
+            } => self.prepare_removal_of_method(alloc, class_name, *side, selector),
+            Form::Classify {
+                class_name,
+                side,
+                selector,
+                category,
+            } => self.prepare_classifying(alloc, class_name, *side, selector, category),
+            Form::RemoveClass { class_name } => self.prepare_removal(alloc, class_name),
+            Form::NoChanges => Ok(Step::Nothing),
+        }
+    }
+
+    /// A class gets a comment, if it is there.
+    fn prepare_comment(
+        &self,
+        alloc: Global,
+        class_name: &Text,
+        text: &Text,
+    ) -> Result<Step, Refused>
+        ensures { IsPrepared self.now (changes.Form (forms.Comment class_name.now text.now)) self.now result }
+    {
+        let number = self.number_of(alloc, class_name)?;
+        Ok(Step::Comment {
+            number,
+            text: text.copy(alloc)?,
+        })
+    }
+
+    /// A method is taken away, if it is there.
+    fn prepare_removal_of_method(
+        &self,
+        alloc: Global,
+        class_name: &Text,
+        side: Side,
+        selector: &Text,
+    ) -> Result<Step, Refused>
+        ensures { IsPrepared self.now (changes.Form (forms.RemoveMethod class_name.now side selector.now)) self.now result }
+    {
+        let number = self.number_with_method(alloc, class_name, side, selector)?;
+        Ok(Step::RemoveMethod {
+            number,
+            side,
+            selector: selector.copy(alloc)?,
+        })
+    }
+
+    /// A method gets a category, if it is there.
+    fn prepare_classifying(
+        &self,
+        alloc: Global,
+        class_name: &Text,
+        side: Side,
+        selector: &Text,
+        category: &Text,
+    ) -> Result<Step, Refused>
+        ensures { IsPrepared self.now (changes.Form (forms.Classify class_name.now side selector.now category.now)) self.now result }
+    {
+        let number = self.number_with_method(alloc, class_name, side, selector)?;
+        Ok(Step::Classify {
+            number,
+            side,
+            selector: selector.copy(alloc)?,
+            category: category.copy(alloc)?,
+        })
+    }
+
+    /// A class is taken away, if it is there, isn't one of the kernel's, and no class has it as its superclass.
+    fn prepare_removal(&self, alloc: Global, class_name: &Text) -> Result<Step, Refused>
+        ensures { IsPrepared self.now (changes.Form (forms.RemoveClass class_name.now)) self.now result }
+    {
+        let number = self.number_of(alloc, class_name)?;
+        if let Some(refusal) = kernel_class(alloc, class_name)? {
+            return Err(Refused::Refusal(refusal));
+        }
+        if let Some(refusal) = has_subclasses(alloc, &self.classes, number, class_name)? {
+            return Err(Refused::Refusal(refusal));
+        }
+        Ok(Step::RemoveClass { number })
+    }
+
+    /// The number of the class of this name, or that there is none.
+    fn number_of(&self, alloc: Global, name: &Text) -> Result<u32, Refused>
+        ensures { FindsClass self.now name.now result }
+    {
+        match self.find(name) {
+            Some(number) => Ok(number),
+            None => Err(Refused::Refusal(Refusal::UnknownClass(name.copy(alloc)?))),
+        }
+    }
+
+    /// The number of the class of this name, which has a method of this selector on this side; or that there is none.
+    fn number_with_method(
+        &self,
+        alloc: Global,
+        name: &Text,
+        side: Side,
+        selector: &Text,
+    ) -> Result<u32, Refused>
+        ensures { FindsMethod self.now name.now side selector.now result }
+    {
+        let number = self.number_of(alloc, name)?;
+        match self.methods.dict(number, side).get(selector) {
+            Some(_) => Ok(number),
+            None => {
+                let refusal = Refusal::NoSelector(name.copy(alloc)?, side, selector.copy(alloc)?);
+                Err(Refused::Refusal(refusal))
+            }
         }
     }
 
     /// The entry that a definition puts, or why it is refused.
     fn place(&mut self, alloc: Global, definition: &Definition) -> Result<Placed, Refused>
-        ensures answer { Places self.old.table.classes definition.now self.new result }
+        ensures answer { Places (refusal_of definition.now self.old.table.classes) (define definition.now self.old.table.classes) self.new result }
         ensures sound { IfOk result (λ _. IsSoundSystem self.new) }
-        ensures of_list { IfOk result (λ _. AreOfList self.old.table.classes) }
-        ensures same { (state : State) → IsSystemOf self.old state → IsSystemOf self.new state }
-        ensures same_places { (placed : PlacedState) → HasPlaces self.old placed → HasPlaces self.new placed }
-        ensures names { self.new.table.names ≡ self.old.table.names }
-        ensures classes { self.new.table.classes ≡ self.old.table.classes }
+        ensures stays { Stays self.old self.new }
     {
         if let Some(refusal) = self.refusal(alloc, definition)? {
             return Err(Refused::Refusal(refusal));
@@ -129,6 +244,50 @@ impl System {
         }
     }
 
+    /// The entry that gives a class other class-side variables, or why they are refused.
+    fn place_class_vars(
+        &mut self,
+        alloc: Global,
+        class_name: &Text,
+        names: &Names,
+    ) -> Result<Placed, Refused>
+        ensures answer { Places (refusal_of_class_vars class_name.now names.now self.old.table.classes)
+            (change_row (with_class_side_vars names.now) class_name.now self.old.table.classes) self.new result }
+        ensures sound { IfOk result (λ _. IsSoundSystem self.new) }
+        ensures stays { Stays self.old self.new }
+    {
+        if let Some(refusal) = bad_name_among(alloc, names)? {
+            return Err(Refused::Refusal(refusal));
+        }
+        let number = self.number_of(alloc, class_name)?;
+        if let Some(refusal) = self.refusal_of_class_vars(alloc, number, class_name, names)? {
+            return Err(Refused::Refusal(refusal));
+        }
+        let entry = with_class_side_vars(alloc, self.classes.at(number), names)?;
+        Ok(placed_again(alloc, &mut self.classes, &self.methods, number, entry)?)
+    }
+
+    /// Why class-side variables are refused, whose names are names, for the class of this name and number.
+    fn refusal_of_class_vars(
+        &self,
+        alloc: Global,
+        number: u32,
+        class_name: &Text,
+        names: &Names,
+    ) -> Result<Option<Refusal>, OutOfMemory>
+        requires class { HasNumber self.now class_name.now number }
+        requires names { find (λ name. not (is_name name)) names.now ≡ None }
+        ensures { IfOk result (λ r. r ≡ refusal_of_class_vars class_name.now names.now self.now.table.classes) }
+    {
+        if let Some(refusal) = kernel_class(alloc, class_name)? {
+            return Ok(Some(refusal));
+        }
+        if let Some(refusal) = duplicate_among(alloc, names)? {
+            return Ok(Some(refusal));
+        }
+        too_many_class_side(alloc, &self.classes, number, names)
+    }
+
     /// Why a definition is refused, if it is.
     fn refusal(
         &self,
@@ -140,10 +299,10 @@ impl System {
         if let Some(refusal) = bad_name(alloc, definition)? {
             return Ok(Some(refusal));
         }
-        if let Some(refusal) = unknown_class(alloc, &self.classes, definition)? {
+        if let Some(refusal) = unknown_class(alloc, &self.classes, &definition.superclass)? {
             return Ok(Some(refusal));
         }
-        if let Some(refusal) = kernel_class(alloc, definition)? {
+        if let Some(refusal) = kernel_class(alloc, &definition.class_name)? {
             return Ok(Some(refusal));
         }
         if let Some(refusal) = cycle(alloc, &self.classes, definition)? {
@@ -155,21 +314,15 @@ impl System {
         too_many(alloc, &self.classes, definition)
     }
 
-    /// The place that a method takes, with room for its selector; or why it is refused.
-    fn place_method(&mut self, alloc: Global, method: &Method) -> Result<PlacedMethod, Refused>
-        requires { IsChecked (changes.Method method.now) }
-        ensures answer { (state : State) → IsSystemOf self.old state → PlacesMethod state method.now self.new result }
-        ensures places { (state : PlacedState) → HasPlaces self.old state → IfOk result (λ placed. MakesPlaces self.new (steps.Method placed) (changes.Method method.now) state) }
-        ensures ready { IfOk result (λ placed. CanPutMethod self.new placed × (offset_in_block placed.entry ≤ length (block (changes.Method method.now)))) }
-        ensures same { (state : State) → IsSystemOf self.old state → IsSystemOf self.new state }
-        ensures same_places { (state : PlacedState) → HasPlaces self.old state → HasPlaces self.new state }
-        ensures names { self.new.table.names ≡ self.old.table.names }
-        ensures classes { self.new.table.classes ≡ self.old.table.classes }
+    /// A method takes its place, in which its selector has room; or it is refused.
+    fn prepare_method(&mut self, alloc: Global, method: &Method) -> Result<Step, Refused>
+        ensures prepared { IsPrepared self.old (changes.Method method.now) self.new result }
+        ensures stays { Stays self.old self.new }
     {
         let placed = placed_method(alloc, &self.classes, &self.methods, method)?;
         self.methods
             .make_room(placed.number, placed.side, placed.selector.copy(alloc)?)?;
-        Ok(placed)
+        Ok(Step::Method(placed))
     }
 
     /// Installs a step that was prepared for these classes, whose block begins at this place of the log. Takes no memory.
@@ -181,7 +334,20 @@ impl System {
         match step {
             Step::Nothing => {}
             Step::Class(placed) => self.put(placed),
+            Step::Comment { number, text } => self.comment(number, text),
+            Step::RemoveClass { number } => self.remove_class(number),
             Step::Method(placed) => self.put_method(placed, at),
+            Step::RemoveMethod {
+                number,
+                side,
+                selector,
+            } => self.remove_method(number, side, &selector),
+            Step::Classify {
+                number,
+                side,
+                selector,
+                category,
+            } => self.classify(number, side, &selector, category),
         }
     }
 
@@ -201,18 +367,52 @@ impl System {
         put_all(&mut self.methods, placed.recompiled);
     }
 
+    /// Gives a class a comment.
+    fn comment(&mut self, number: u32, text: Text)
+        requires { HasClassAt self.old number }
+        ensures { HasComment self.old number text self.new }
+    {
+        self.classes.set_comment(number, text);
+    }
+
+    /// Takes a class away with its methods.
+    fn remove_class(&mut self, number: u32)
+        requires { CanTakeClass self.old number }
+        ensures { LosesClass self.old number self.new }
+    {
+        self.classes.remove(number);
+        self.methods.clear(self.alloc, number);
+    }
+
     /// Puts a method whose block begins at this place of the log.
     fn put_method(&mut self, placed: PlacedMethod, at: u64)
         requires ready { CanPutMethod self.old placed }
-        requires place { at + offset_in_block placed.entry < 2 ^ 64 }
+        requires place { at + placed.entry.position < 2 ^ 64 }
         ensures { HasMethod self.old placed at self.new }
     {
         let mut entry = placed.entry;
-        if !entry.from_kernel {
-            entry.position += at;
-        }
+        entry.position += at;
         self.methods
             .insert(placed.number, placed.side, &placed.selector, entry);
+    }
+
+    /// Takes a method away.
+    fn remove_method(&mut self, number: u32, side: Side, selector: &Text)
+        requires { HasMethodAt self.old number side selector.now }
+        ensures { LosesMethod self.old number side selector.now self.new }
+    {
+        self.methods.remove(number, side, selector);
+    }
+
+    /// Gives a method another category.
+    fn classify(&mut self, number: u32, side: Side, selector: &Text, category: Text)
+        requires { HasMethodAt self.old number side selector.now }
+        ensures { ClassifiesMethod self.old number side selector.now category self.new }
+    {
+        if let Some(mut entry) = self.methods.remove(number, side, selector) {
+            entry.category = category;
+            self.methods.insert(number, side, selector, entry);
+        }
     }
 }
 

@@ -1,9 +1,14 @@
 -- The block that bytes begin with, by the framing that they begin with.
-use Rattle.std.proofs.Common.{ℕ, List, [], ◌∷◌, ◌++◌, length, sym, ap, ◌∙◌, subst, append_assoc}
+use Rattle.std.proofs.Common.{◌≡◌, ℕ, codes, List, [], ◌∷◌, ◌++◌, length, sym, ap, ◌∙◌, subst, arith, append_assoc}
 use Rattle.std.proofs.lemmas.Bool.{true≢false}
 use Rattle.s80_chunk.specs.Chunks.{mark, IsPlainText}
 use Rattle.s80_change.specs.declared.change.Change.{Change}
-use Rattle.s80_change.specs.declared.change.Change.TheVariants.{Define, Method, DoIt}
+use Rattle.s80_change.specs.declared.change.Change.TheVariants.{Form, Method, DoIt}
+use Rattle.s80_form.specs.declared.form.Form.{Form as AnyForm}
+use Rattle.s80_form.specs.declared.form.Form.TheVariants as forms
+use Rattle.s80_lex.specs.Spelling.{quoted}
+use Rattle.s80_form.specs.Definition.{joined}
+use Rattle.s80_form.specs.Form.{form_text, side_text, IsLawfulForm}
 use Rattle.s80_form.specs.Name.{IsName}
 use Rattle.s80_form.proofs.lemmas.Cuts.{spread}
 use Rattle.s80_change.specs.declared.framing.Framing.{Framing}
@@ -24,8 +29,17 @@ plain_first : (text : List ℕ) → IsPlainText text → IsProper (Plain text)
 plain_first [] plain = plain.0
 plain_first (b ∷ text) plain = plain.1
 
+form_is_proper : (form : AnyForm) → IsLawfulForm form → IsProper (Plain (form_text form))
+form_is_proper (forms.Define d) lawful = subst (λ t. IsProper (Plain t)) (sym (spread d)) (named_first d.superclass _ lawful.names.superclass)
+form_is_proper (forms.ClassVars name names) lawful = named_first name (codes " class instanceVariableNames: " ++ quoted 39 (joined names)) lawful.names.0
+form_is_proper (forms.Comment name text) lawful = named_first name (codes " comment: " ++ quoted 39 text) lawful.names
+form_is_proper (forms.RemoveMethod name s selector) lawful = named_first name (side_text s ++ (codes " removeSelector: #" ++ selector)) lawful.names.0
+form_is_proper (forms.Classify name s selector category) lawful = named_first name (side_text s ++ (codes " organization classify: #" ++ (selector ++ (codes " under: " ++ quoted 39 category)))) lawful.names.0
+form_is_proper (forms.RemoveClass name) lawful = λ e. let f : 83 ≡ 33 = e in omega (arith, f)
+form_is_proper forms.NoChanges lawful = λ e. let f : 83 ≡ 33 = e in omega (arith, f)
+
 pub lawful_is_proper : (change : Change) → IsLawful change → IsProper (framing_of change)
-lawful_is_proper (Define d) lawful = subst (λ t. IsProper (Plain t)) (sym (spread d)) (named_first d.superclass _ lawful.superclass)
+lawful_is_proper (Form form) lawful = form_is_proper form lawful
 lawful_is_proper (Method m) lawful = tt
 lawful_is_proper (DoIt text) lawful = plain_first text lawful.0
 

@@ -7,7 +7,8 @@ use Rattle.s80_lex.specs.Spelling.{quoted}
 use Rattle.s80_form.specs.TextParts.{FindsString, word_len}
 use Rattle.s80_form.proofs.lemmas.Cuts.{word_cut, name_inner}
 use Rattle.s80_change.specs.declared.head.SectionHead.{SectionHead}
-use Rattle.s80_change.specs.Head.{head_text, side_text}
+use Rattle.s80_form.specs.Form.{side_text}
+use Rattle.s80_change.specs.Head.{head_text}
 use Rattle.s80_change.specs.HeadParts.{FindsParts, FindsSide}
 use Rattle.s80_change.proofs.Heads.{fields_same}
 

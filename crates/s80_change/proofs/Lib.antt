@@ -3,7 +3,13 @@ pub mod Heads
 pub mod HeadFinding
 pub mod HeadBeginning
 pub mod Checking
+pub mod Selecting
 pub mod MethodOf
 pub mod Lines
 pub mod FirstFramings
 pub mod FirstBlocks
+pub mod TreeSizes
+pub mod TreeWeights
+pub mod TreeNeeds
+pub mod TreeEntries
+pub mod Told

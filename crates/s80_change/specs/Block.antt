@@ -3,9 +3,9 @@ use Rattle.std.specs.Prelude.{◌≡◌, ℕ, ◌^◌, ◌≤◌, List, [], ◌�
 use Rattle.std.specs.List.{flat_map}
 use Rattle.s80_chunk.specs.Chunks.{mark, chunk, longest, IsChunkText, IsPlainText}
 use Rattle.s80_change.specs.declared.change.Change.{Change}
-use Rattle.s80_change.specs.declared.change.Change.TheVariants.{Define, Method, DoIt}
+use Rattle.s80_change.specs.declared.change.Change.TheVariants.{Form, Method, DoIt}
 use Rattle.s80_change.specs.declared.change.Method.{Method as MethodChange}
-use Rattle.s80_form.specs.Definition.{definition_text, IsLawfulDefinition, IsNoDefinition}
+use Rattle.s80_form.specs.Form.{form_text, IsLawfulForm, IsNoFormText}
 use Rattle.s80_change.specs.declared.head.SectionHead.{SectionHead}
 use Rattle.s80_change.specs.Head.{head_text, IsLawfulHead}
 use Rattle.s80_change.specs.Check.{IsCheckOf}
@@ -21,10 +21,10 @@ framed (Section head source) = mark ∷ chunk head ++ (10 ∷ chunk source ++ (3
 abbrev pub head_of : MethodChange → SectionHead
 head_of m = record { class_name = m.class_name; side = m.side; category = m.category }
 
--- a definition and a doIt stand in the log as plain texts, and a method in a section of its own
+-- a form and a doIt stand in the log as plain texts, and a method in a section of its own
 abbrev pub framing_of : Change → Framing
-framing_of (Define d) = Plain (definition_text d)
-framing_of (Method m) = Section (head_text (head_of m)) m.source
+framing_of (Form form) = Plain (form_text form)
+framing_of (Method m) = Section (head_text (head_of m)) m.source.text
 framing_of (DoIt text) = Plain text
 
 -- how the log keeps a change
@@ -38,15 +38,15 @@ blocks changes = flat_map block changes
 -- A method stands under a lawful head. Its source is a text of a chunk that isn't too long, and what is said of it by itself is so.
 pub record IsLawfulMethod (m : MethodChange) : Type 0 where
   pub head : IsLawfulHead (head_of m)
-  pub text : IsChunkText m.source
-  pub short : length m.source ≤ longest
-  pub check : IsCheckOf m.source m.check
+  pub text : IsChunkText m.source.text
+  pub short : length m.source.text ≤ longest
+  pub check : IsCheckOf m.source.text m.source.selector
 
--- A definition has lawful names. A doIt's text is that of a chunk that isn't too long, doesn't begin as a head does, and is no definition.
+-- A form has lawful names. A doIt's text is that of a chunk that isn't too long, doesn't begin as a head does, and has none of the forms.
 abbrev pub IsLawful : Change → Type 0
-IsLawful (Define d) = IsLawfulDefinition d
+IsLawful (Form form) = IsLawfulForm form
 IsLawful (Method m) = IsLawfulMethod m
-IsLawful (DoIt text) = IsPlainText text × IsNoDefinition text
+IsLawful (DoIt text) = IsPlainText text × IsNoFormText text
 
 -- the framing is that of no lawful change
 abbrev pub HasNoChange : Framing → Type 0

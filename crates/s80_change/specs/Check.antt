@@ -1,6 +1,7 @@
--- Why a text is refused by itself, and what the source of a method is.
-use Rattle.std.specs.Prelude.{◌≡◌, ◌⊎◌, ℕ, List, [], Bool, Option, Some, None}
-use Rattle.s80_tree.specs.Tree.{MethodParts, DoItParts}
+-- Why a text is refused by itself, and what the source of a method is by itself.
+use Rattle.std.specs.Prelude.{◌≡◌, ◌⊎◌, ℕ, List, [], Bool, Option, Some, None, Result, Ok, Err}
+use Rattle.s80_tree.specs.declared.method.MethodTree.{MethodTree}
+use Rattle.s80_tree.specs.Tree.{MethodParts, DoItParts, method_of}
 use Rattle.s80_syntax.specs.Lexeme.{Lexemes}
 use Rattle.s80_syntax.specs.Faults.{IsMethodText}
 use Rattle.s80_syntax.specs.declared.fault.ParseFault.{ParseFault}
@@ -11,14 +12,14 @@ use Rattle.s80_scope.specs.declared.fit.Fit.TheVariants as fits
 use Rattle.s80_scope.specs.declared.fit.FitKind.{FitKind}
 use Rattle.s80_scope.specs.declared.fit.FitKind.TheVariants as measure
 use Rattle.s80_scope.specs.Fit.{fit, measures, cut_measures}
-use Rattle.s80_change.specs.declared.source_check.SourceCheck.{SourceCheck}
-use Rattle.s80_change.specs.declared.source_check.SourceCheck.TheVariants.{Fits, Refused}
 use Rattle.s80_form.specs.declared.refusal.FitWord.{FitWord}
 use Rattle.s80_form.specs.declared.refusal.FitWord.TheVariants as words
 use Rattle.s80_form.specs.declared.refusal.SyntaxKind.{SyntaxKind}
 use Rattle.s80_form.specs.declared.refusal.SyntaxKind.TheVariants as kinds
 use Rattle.s80_form.specs.declared.refusal.Refusal.{Refusal}
 use Rattle.s80_form.specs.declared.refusal.Refusal.TheVariants as refusals
+use Rattle.s80_form.specs.declared.refusal.Refused.{Refused}
+use Rattle.s80_form.specs.declared.refusal.Refused.TheVariants as refused
 
 -- ---- the syntax
 
@@ -57,11 +58,20 @@ as_method tree = record { selector = []; parameters = []; temporaries = tree.tem
 
 -- ---- the source of a method
 
-abbrev pub IsCheckOf : List ℕ → SourceCheck → Type 0
-IsCheckOf source (Fits selector) = (m : MethodParts) × IsMethodOf source m × (size_refusal m ≡ None) × (selector ≡ m.selector)
-IsCheckOf source (Refused refusal) = IsSyntaxRefusal IsMethodText source refusal ⊎ ((m : MethodParts) × IsMethodOf source m × (size_refusal m ≡ Some refusal))
+-- the selector of the method that a source is, where that fits a machine; or else why each class refuses it
+abbrev pub IsCheckOf : List ℕ → Result (List ℕ) Refusal → Type 0
+IsCheckOf source (Ok selector) = (m : MethodParts) × IsMethodOf source m × (size_refusal m ≡ None) × (selector ≡ m.selector)
+IsCheckOf source (Err refusal) = IsSyntaxRefusal IsMethodText source refusal ⊎ ((m : MethodParts) × IsMethodOf source m × (size_refusal m ≡ Some refusal))
 
--- the same, of a source that has this tree
-abbrev pub IsTreeChecked : MethodParts → SourceCheck → Type 0
-IsTreeChecked m (Fits selector) = (size_refusal m ≡ None) × (selector ≡ m.selector)
-IsTreeChecked m (Refused refusal) = size_refusal m ≡ Some refusal
+-- ---- what fits
+
+-- the method itself, which fits; or the refusal of its size
+abbrev pub IsFitting : MethodParts → Result MethodTree Refusal → Type 0
+IsFitting m (Ok tree) = (method_of tree ≡ m) × (size_refusal m ≡ None)
+IsFitting m (Err refusal) = size_refusal m ≡ Some refusal
+
+-- the same of the method that a doIt is evaluated as, or out of memory
+abbrev pub IsFittingDoIt : DoItParts → Result MethodTree Refused → Type 0
+IsFittingDoIt tree (Ok method) = (method_of method ≡ as_method tree) × (size_refusal (as_method tree) ≡ None)
+IsFittingDoIt tree (Err refused.Memory) = Unit {0}
+IsFittingDoIt tree (Err (refused.Refusal refusal)) = size_refusal (as_method tree) ≡ Some refusal

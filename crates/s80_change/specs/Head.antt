@@ -1,15 +1,14 @@
 -- Heads of sections: their trees, and their texts in the log.
-use Rattle.std.specs.Prelude.{◌≡◌, ◌≢◌, ℕ, List, [], ◌++◌, codes}
+use Rattle.std.specs.Prelude.{◌≡◌, ◌≢◌, ℕ, List, ◌++◌, codes}
 use Rattle.s80_base.specs.Literal.{str}
-use Rattle.s80_base.specs.declared.names.Side.{Side}
-use Rattle.s80_base.specs.declared.names.Side.TheVariants.{Instance, Class}
 use Rattle.s80_lex.specs.Spelling.{quoted}
-use Rattle.s80_tree.specs.Tree.{DoItParts, MessageTree, exprs, no_exprs}
+use Rattle.s80_tree.specs.Tree.{DoItParts, MessageTree}
 use Rattle.s80_syntax.specs.Faults.{IsDoItText}
 use Rattle.s80_syntax.specs.declared.fault.ParseFault.TheVariants as parse
 use Rattle.s80_syntax.specs.Text.{IsDoItOf, IsFaultOf}
+use Rattle.s80_form.specs.Form.{side_text, with_literal}
 use Rattle.s80_form.specs.Name.{IsName, IsBrief}
-use Rattle.s80_form.specs.TreeParts.{argument, IsSending}
+use Rattle.s80_form.specs.TreeParts.{IsSending}
 use Rattle.s80_change.specs.declared.head.SectionHead.{SectionHead}
 use Rattle.s80_change.specs.declared.head.HeadFault.{HeadFault}
 use Rattle.s80_change.specs.declared.head.HeadFault.TheVariants.{Memory, Syntax, NoSection}
@@ -18,7 +17,7 @@ use Rattle.s80_change.specs.declared.head.HeadFault.TheVariants.{Memory, Syntax,
 
 -- the message that begins a section of this category
 abbrev pub beginning : List ℕ → MessageTree
-beginning category = (codes "methodsFor:", exprs (argument (str category)) no_exprs)
+beginning category = with_literal (codes "methodsFor:") (str category)
 
 -- the name of its class and its category have fewer than 2^32 bytes
 pub record IsBriefHead (head : SectionHead) : Type 0 where
@@ -43,10 +42,6 @@ IsHeadFault text (Syntax fault) = (fault ≢ parse.Memory) × IsFaultOf IsDoItTe
 IsHeadFault text NoSection = ((tree : DoItParts) × IsDoItOf text tree) × ((head : SectionHead) → IsHeadOf text head → ⊥)
 
 -- ---- the text
-
-abbrev pub side_text : Side → List ℕ
-side_text Instance = []
-side_text Class = codes " class"
 
 abbrev pub head_text : SectionHead → List ℕ
 head_text head = head.class_name ++ (side_text head.side ++ (codes " methodsFor: " ++ quoted 39 head.category))

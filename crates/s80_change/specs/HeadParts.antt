@@ -2,7 +2,8 @@
 use Rattle.std.specs.Prelude.{◌≡◌, ℕ, List, ◌++◌, codes}
 use Rattle.s80_base.specs.declared.names.Side.{Side}
 use Rattle.s80_change.specs.declared.head.SectionHead.{SectionHead}
-use Rattle.s80_change.specs.Head.{head_text, side_text, IsLawfulHead}
+use Rattle.s80_form.specs.Form.{side_text}
+use Rattle.s80_change.specs.Head.{head_text, IsLawfulHead}
 
 -- of the text of a lawful head, this is that head
 abbrev pub FindsParts : List ℕ → SectionHead → Type 0

@@ -1,4 +1,5 @@
 pub mod Check
+pub mod Source
 pub mod HeadForm
 pub mod Head
 pub mod HeadParts

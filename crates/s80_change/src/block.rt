@@ -2,19 +2,19 @@
 ghost use Rattle.std.specs.Prelude.{◌≡◌, ◌≤◌, ◌↔◌, ◌++◌, ℕ, List, length, IsTrue, IfOk, MatchOption, MatchBool};
 ghost use Rattle.s80_chunk.specs.Chunks.{IsChunkText, IsPlainText};
 ghost use Rattle.s80_change.specs.declared.change.Change.{Change};
-ghost use Rattle.s80_form.specs.Definition.{IsNoDefinition, IsNoForm, IsSomeDefinition, IsSomeForm};
+ghost use Rattle.s80_form.specs.Form.{IsNoForm, IsNoFormText};
 ghost use Rattle.s80_tree.specs.Tree.{doit_of};
 ghost use Rattle.s80_change.specs.Block.{block, framing_of, IsLawful, HasNoChange};
 ghost use Rattle.s80_change.specs.declared.framing.Framing.{Framing};
 
 use crate::change::{Change, Method};
-use crate::check::check_source;
 use crate::framing::Framing;
 use crate::head::SectionHead;
 use crate::logged_head::{head_text, read_head};
+use crate::source::Source;
 use s80_base::{OutOfMemory, Text, is_separator};
 use s80_chunk::LONGEST;
-use s80_form::{Recognised, definition_text, read_definition, recognise};
+use s80_form::{Recognised, form_text, read_form, recognise};
 use s80_syntax::{DoItTree, ParseFault, parse_doit};
 use std::alloc::Global;
 
@@ -30,14 +30,14 @@ fn framing(alloc: Global, change: &Change) -> Result<Framing, OutOfMemory>
     ensures { IfOk result (λ framing. framing ≡ framing_of change.now) }
 {
     match change {
-        Change::Define(definition) => Ok(Framing::Plain(definition_text(alloc, definition)?)),
+        Change::Form(form) => Ok(Framing::Plain(form_text(alloc, form)?)),
         Change::Method(method) => {
             let head = SectionHead {
                 class_name: method.class_name.copy(alloc)?,
                 side: method.side,
                 category: method.category.copy(alloc)?,
             };
-            Ok(Framing::Section(head_text(alloc, &head)?, method.source.copy(alloc)?))
+            Ok(Framing::Section(head_text(alloc, &head)?, method.source.text().copy(alloc)?))
         }
         Change::DoIt { text } => Ok(Framing::Plain(text.copy(alloc)?)),
     }
@@ -63,13 +63,12 @@ fn read_method(alloc: Global, head: &Text, source: Text) -> Result<Option<Change
     if !is_short_text(source.bytes()) {
         return Ok(None);
     }
-    let check = check_source(alloc, &source)?;
+    let source = Source::parse(alloc, source)?;
     Ok(Some(Change::Method(Method {
         class_name: head.class_name,
         side: head.side,
         category: head.category,
         source,
-        check,
     })))
 }
 
@@ -87,8 +86,8 @@ fn is_short_text(text: &[u8]) -> bool
 fn read_plain(alloc: Global, text: Text) -> Result<Option<Change>, OutOfMemory>
     ensures { IfOk result (λ found. MatchOption found (HasNoChange (Framing.Plain text)) (λ change. IsLawful change × (framing_of change ≡ Framing.Plain text))) }
 {
-    if let Some(definition) = read_definition(alloc, &text)? {
-        return Ok(Some(Change::Define(definition)));
+    if let Some(form) = read_form(alloc, &text)? {
+        return Ok(Some(Change::Form(form)));
     }
     if is_doit(alloc, &text)? {
         return Ok(Some(Change::DoIt { text }));
@@ -103,28 +102,29 @@ fn is_doit(alloc: Global, text: &Text) -> Result<bool, OutOfMemory>
     if !is_plain_text(text.bytes()) {
         return Ok(false);
     }
-    Ok(!is_definition(alloc, text)?)
+    has_no_form(alloc, text)
 }
 
-/// Whether a text is a doIt whose tree is the form of a definition.
-fn is_definition(alloc: Global, text: &Text) -> Result<bool, OutOfMemory>
+/// Whether a text has none of the forms by which doIts change classes.
+fn has_no_form(alloc: Global, text: &Text) -> Result<bool, OutOfMemory>
     requires { length text.now ≤ 65535 }
-    ensures { IfOk result (λ is. MatchBool is (IsSomeDefinition text.now) (IsNoDefinition text.now)) }
+    ensures { IfOk result (λ none. MatchBool none (IsNoFormText text.now) (IsNoFormText text.now → ⊥)) }
 {
     match parse_doit(alloc, text) {
-        Ok(tree) => is_form(alloc, &tree),
+        Ok(tree) => is_evaluated(alloc, &tree),
         Err(ParseFault::Memory) => Err(OutOfMemory),
-        Err(_) => Ok(false),
+        Err(_) => Ok(true),
     }
 }
 
-/// Whether a tree is the form of a definition.
-fn is_form(alloc: Global, tree: &DoItTree) -> Result<bool, OutOfMemory>
-    ensures { IfOk result (λ is. MatchBool is (IsSomeForm (doit_of tree.now)) (IsNoForm (doit_of tree.now))) }
+/// Whether a tree has none of these forms.
+fn is_evaluated(alloc: Global, tree: &DoItTree) -> Result<bool, OutOfMemory>
+    ensures { IfOk result (λ none. MatchBool none (IsNoForm (doit_of tree.now)) (IsNoForm (doit_of tree.now) → ⊥)) }
 {
     match recognise(alloc, tree)? {
-        Recognised::Define(_) => Ok(true),
-        Recognised::Evaluate => Ok(false),
+        Recognised::Form(_) => Ok(false),
+        Recognised::Snapshot => Ok(false),
+        Recognised::Evaluate => Ok(true),
     }
 }
 

@@ -1,13 +1,13 @@
 // Changes of the programmer's work, methods among them.
-use crate::source_check::SourceCheck;
+use crate::source::Source;
 use s80_base::{Side, Text};
-use s80_form::Definition;
+use s80_form::Form;
 
 /// A change of the programmer's work, as the log keeps it.
 #[derive(Debug, Drop)]
 pub enum Change {
-    /// The definition of a class: it makes one, or makes one anew.
-    Define(Definition),
+    /// What a doIt changes by its form.
+    Form(Form),
     /// A method of a class, which takes the place of the one that has its selector.
     Method(Method),
     /// An expression to evaluate. It changes no class.
@@ -20,7 +20,5 @@ pub struct Method {
     pub class_name: Text,
     pub side: Side,
     pub category: Text,
-    pub source: Text,
-    /// What the source is by itself.
-    pub check: SourceCheck,
+    pub source: Source,
 }

@@ -1,39 +1,18 @@
 // Why a text is refused by itself.
-ghost use Rattle.std.specs.Prelude.{◌≡◌, ◌≤◌, ℕ, List, length, IfOk, OnErr};
+ghost use Rattle.std.specs.Prelude.{◌≡◌, ℕ, List, Ok, Result, IfOk, OnErr};
 ghost use Rattle.s80_tree.specs.Tree.{doit_of, method_of};
 ghost use Rattle.s80_syntax.specs.Faults.{IsDoItText, IsMethodText};
-ghost use Rattle.s80_change.specs.declared.source_check.SourceCheck.{SourceCheck as Check};
+ghost use Rattle.s80_form.specs.Name.{IsSelectorWord};
+ghost use Rattle.s80_form.specs.declared.refusal.Refusal.{Refusal as Reason};
 ghost use Rattle.s80_syntax.specs.Text.{IsFaultOf};
 ghost use Rattle.s80_syntax.specs.declared.fault.ParseFault.TheVariants.{Memory};
-ghost use Rattle.s80_change.specs.Check.{IsCheckOf, IsSyntaxRefusal, IsTreeChecked, as_method, size_refusal, too_large, word_of};
+ghost use Rattle.s80_change.specs.Check.{IsCheckOf, IsFitting, IsFittingDoIt, IsSyntaxRefusal, too_large, word_of};
 
-use crate::source_check::SourceCheck;
-use s80_base::{OutOfMemory, Text};
-use s80_form::{FitWord, Refusal, SyntaxKind};
+use s80_base::OutOfMemory;
+use s80_form::{FitWord, Refusal, Refused, SyntaxKind};
 use s80_scope::{Fit, FitKind, doit_method, fits};
-use s80_syntax::{DoItTree, MethodTree, ParseFault, parse_method};
+use s80_syntax::{DoItTree, MethodTree, ParseFault};
 use std::alloc::Global;
-
-/// What the source of a method is by itself.
-pub fn check_source(alloc: Global, source: &Text) -> Result<SourceCheck, OutOfMemory>
-    requires { length source.now ≤ 65535 }
-    ensures { IfOk result (IsCheckOf source.now) }
-{
-    match parse_method(alloc, source) {
-        Ok(tree) => check_tree(alloc, &tree),
-        Err(fault) => Ok(SourceCheck::Refused(syntax_refusal(fault)?)),
-    }
-}
-
-/// What a source is that has this tree.
-fn check_tree(alloc: Global, tree: &MethodTree) -> Result<SourceCheck, OutOfMemory>
-    ensures { IfOk result (λ check. IsTreeChecked (method_of tree.now) check) }
-{
-    match method_size_refusal(alloc, tree)? {
-        None => Ok(SourceCheck::Fits(tree.selector.copy(alloc)?)),
-        Some(refusal) => Ok(SourceCheck::Refused(refusal)),
-    }
-}
 
 /// The refusal of a text with this fault. Takes no memory: that there was none is the one fault without a refusal.
 pub fn syntax_refusal(fault: ParseFault) -> Result<Refusal, OutOfMemory>
@@ -53,18 +32,27 @@ pub fn syntax_refusal(fault: ParseFault) -> Result<Refusal, OutOfMemory>
     Ok(Refusal::Syntax(kind, place))
 }
 
-/// The refusal of a method that doesn't fit a machine.
-fn method_size_refusal(alloc: Global, tree: &MethodTree) -> Result<Option<Refusal>, OutOfMemory>
-    ensures { IfOk result (λ refusal. refusal ≡ size_refusal (method_of tree.now)) }
+/// The method that a doIt is evaluated as, where it fits a machine. Its selector is empty.
+pub fn fitting_doit(alloc: Global, tree: DoItTree) -> Result<MethodTree, Refused>
+    ensures { IsFittingDoIt (doit_of tree) result }
 {
-    Ok(too_large(fits(alloc, tree)?))
+    match fitting(alloc, doit_method(alloc, tree))? {
+        Ok(method) => Ok(method),
+        Err(refusal) => Err(Refused::Refusal(refusal)),
+    }
 }
 
-/// The refusal of a doIt that doesn't fit a machine: a doIt is evaluated as a method with an empty selector.
-pub fn size_refusal(alloc: Global, tree: DoItTree) -> Result<Option<Refusal>, OutOfMemory>
-    ensures { IfOk result (λ refusal. refusal ≡ size_refusal (as_method (doit_of tree))) }
+/// A method, where it fits a machine; or its refusal.
+pub(crate) fn fitting(
+    alloc: Global,
+    tree: MethodTree,
+) -> Result<Result<MethodTree, Refusal>, OutOfMemory>
+    ensures { IfOk result (IsFitting (method_of tree)) }
 {
-    method_size_refusal(alloc, &doit_method(alloc, tree))
+    match too_large(fits(alloc, &tree)?) {
+        None => Ok(Ok(tree)),
+        Some(refusal) => Ok(Err(refusal)),
+    }
 }
 
 fn too_large(fit: Fit) -> Option<Refusal>
@@ -89,5 +77,10 @@ fn word_of(kind: FitKind) -> FitWord
 
 /// A source is one thing by itself.
 pub fn one_check()
-    ensures { (source : List ℕ) (one other : Check) → IsCheckOf source one → IsCheckOf source other → one ≡ other }
+    ensures { (source : List ℕ) (one other : Result (List ℕ) Reason) → IsCheckOf source one → IsCheckOf source other → one ≡ other }
+{}
+
+/// The selector of a source is a selector.
+pub fn sources_have_selectors()
+    ensures { (source selector : List ℕ) → IsCheckOf source (Ok selector) → IsSelectorWord selector }
 {}

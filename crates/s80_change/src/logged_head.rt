@@ -1,12 +1,12 @@
 // Heads as the log keeps them.
 ghost use Rattle.std.specs.Prelude.{◌≡◌, ◌↔◌, IsTrue, IfOk, MatchOption};
 ghost use Rattle.s80_change.specs.declared.head.SectionHead.{SectionHead as Head};
-ghost use Rattle.s80_change.specs.Head.{IsHeadOf, IsLawfulHead, IsNoHeadText, head_text, side_text};
+ghost use Rattle.s80_change.specs.Head.{IsHeadOf, IsLawfulHead, IsNoHeadText, head_text};
 
 use crate::head::{SectionHead, is_brief_head};
 use crate::head_parts::parts;
-use s80_base::{OutOfMemory, Side, Text};
-use s80_form::{add_quoted, is_name};
+use s80_base::{OutOfMemory, Text};
+use s80_form::{add_quoted, is_name, side_text};
 use std::alloc::Global;
 
 /// The text of a head.
@@ -18,16 +18,6 @@ pub fn head_text(alloc: Global, head: &SectionHead) -> Result<Text, OutOfMemory>
     text.append(b" methodsFor: ")?;
     add_quoted(&mut text, head.category.bytes())?;
     Ok(text)
-}
-
-/// What stands behind the name of a class for its class side.
-fn side_text(side: Side) -> &'static [u8]
-    ensures { result.now ≡ side_text side }
-{
-    match side {
-        Side::Instance => b"",
-        Side::Class => b" class",
-    }
 }
 
 /// The lawful head that has this very text, if there is one. The text may be longer than one that is read from a chunk.

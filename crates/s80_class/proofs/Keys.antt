@@ -91,7 +91,7 @@ present_place ks q p k rises place within is =
       ]
     ]
 
-any_at : (t : Name → Bool) (ks : List Name) → list_any t ks ≡ true → (k : ℕ) × (k < length ks) × (t (get_or ks k []) ≡ true)
+pub any_at : (t : Name → Bool) (ks : List Name) → list_any t ks ≡ true → (k : ℕ) × (k < length ks) × (t (get_or ks k []) ≡ true)
 any_at t [] h = absurd (true≢false (sym h))
 any_at t (x ∷ ks) h = elim (t x) as (λ b. t x ≡ b → (b || list_any t ks) ≡ true → (k : ℕ) × (k < length (x ∷ ks)) × (t (get_or (x ∷ ks) k []) ≡ true)) [
   | true ↦ λ is _. (0, omega arith, is)

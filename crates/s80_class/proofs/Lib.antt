@@ -9,3 +9,5 @@ pub mod Families
 pub mod Extents
 pub mod Settled
 pub mod Members
+pub mod Commenting
+pub mod Subclassed

@@ -6,7 +6,7 @@ use Rattle.std.specs.Cmp.Lexicographic.{nat_list_cmp_total}
 use Rattle.std.proofs.lemmas.Option.{slice_get_within, slice_get-get_or}
 use Rattle.s80_class.specs.declared.entry.ClassEntry.{ClassEntry}
 use Rattle.s80_class.specs.declared.inherited.Totals.{Totals}
-use Rattle.s80_class.specs.Classes.{Name, ClassRow, Classes, IsLine, IsValid, inherited_in, inherited_of, is_under}
+use Rattle.s80_class.specs.Classes.{Name, ClassRow, Classes, IsLine, IsValid, Inherited, inherited_in, inherited_of, is_under}
 use Rattle.s80_class.specs.Counted.{totals, nothing, over, own}
 use Rattle.s80_class.specs.Table.{Table, IsNumberOf, IsSuperclass, IsAbove, name_of, row_of}
 use Rattle.s80_class.specs.Family.{Found, IsFamily}
@@ -16,6 +16,7 @@ use Rattle.s80_class.proofs.lemmas.Lines.{Entry, passes, valid-insert, get-here,
 use Rattle.s80_class.proofs.lemmas.Rows.{get_kept, get_new, get_pushed, get_set, get_set_other, same_number, superclass_in, name_is}
 use Rattle.s80_class.proofs.Indexed.{none_there}
 use Rattle.s80_class.proofs.lemmas.Walks.{same_name, totals_more}
+use Rattle.s80_class.proofs.lemmas.Commented.{AreCommented, commented_inherited}
 
 -- ---- as many classes as before, one more, one less
 
@@ -172,6 +173,16 @@ module _ (table : Table) (is : IsKnown table) where
         each : (number : ℕ) (q : Name) → IsNumberOf new.names number q → slice_get (kept ++ top ∷ []) number ≡ Some (totals (inherited_of new.classes q))
         each number q named =
             each_in number q (subst (λ names. IsNumberOf names number q) names_are named) ∙ ap (λ (m : Classes). Some (totals (inherited_of m q))) (sym classes_are)
+
+    -- ---- another comment
+
+    pub totals_commented : (new : Table) → AreCommented table.classes new.classes → new.names ≡ table.names → AreTotals new kept
+    totals_commented new alike names_are = record {
+      size = have.size ∙ ap length (sym names_are);
+      each = λ number q named.
+          have.each number q (subst (λ names. IsNumberOf names number q) names_are named)
+          ∙ ap (λ (t : Inherited). Some (totals t)) (sym (commented_inherited table.classes new.classes alike q));
+    }
 
     -- ---- another entry in a class's place
 

@@ -4,3 +4,9 @@ pub mod Walks
 pub mod Most
 pub mod Numbers
 pub mod Lookups
+pub mod Alike
+pub mod Changed
+pub mod Commented
+pub mod Subclasses
+pub mod Removed
+pub mod Above

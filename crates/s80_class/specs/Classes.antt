@@ -1,6 +1,7 @@
 -- The classes as a finite map from their names, and what a class has from its superclasses.
-use Rattle.std.specs.Prelude.{◌≡◌, ℕ, suc, zero, List, [], ◌∷◌, Bool, true, false, Option, Some, None, length, fold, map as list_map, max, if◌then◌else◌, drop, filter}
+use Rattle.std.specs.Prelude.{◌≡◌, ℕ, suc, zero, List, [], ◌∷◌, Bool, true, false, Option, Some, None, length, fold, map as list_map, max, if◌then◌else◌, drop, filter, option_map, unwrap_or}
 use Rattle.std.specs.List.{list_any, sum_by}
+use Rattle.std.specs.Option.{option_map_or}
 use Rattle.std.specs.Str.{bytes_eq}
 use Rattle.std.specs.Ordering.{nat_cmp}
 use Rattle.std.specs.Cmp.Lexicographic.{slice_cmp}
@@ -60,6 +61,27 @@ is_under classes name other = list_any (λ e. bytes_eq e.0 other) (lineage class
 -- the class descends from this one
 abbrev pub descends : Classes → Name → Name → Bool
 descends classes name other = list_any (λ e. bytes_eq e.0 other) (drop 1 (lineage classes name))
+
+-- the class of this name is its superclass
+abbrev pub is_right_below : Name → Option ClassRow → Bool
+is_right_below name None = false
+is_right_below name (Some row) = option_map_or (bytes_eq name) row.superclass false
+
+-- some class has it as its superclass
+abbrev pub has_subclass : Classes → Name → Bool
+has_subclass classes name = list_any (λ other. is_right_below name (map.get classes other)) (map.keys classes)
+
+-- ---- one class changed
+
+-- a class with its row changed so, where it is there
+abbrev pub change_row : (ClassRow → ClassRow) → Name → Classes → Classes
+change_row change name classes = unwrap_or (option_map (λ row. map.insert classes name (change row)) (map.get classes name)) classes
+
+abbrev pub with_comment : List ℕ → ClassRow → ClassRow
+with_comment text row = record row { comment = text }
+
+abbrev pub with_class_side_vars : List Name → ClassRow → ClassRow
+with_class_side_vars names row = record row { class_side_vars = names }
 
 -- ---- what a class has with all that it inherits
 

@@ -1,7 +1,7 @@
 // The table of classes.
-ghost use Rattle.std.specs.Prelude.{◌≡◌, ◌≢◌, ◌+◌, ◌<◌, ◌≤◌, ◌++◌, ◌∷◌, [], List, ℕ, length, slice_get, slice_set, Some, None, IfOk, OnOk, MatchOption, option_and_then};
+ghost use Rattle.std.specs.Prelude.{◌≡◌, ◌≢◌, ◌+◌, ◌<◌, ◌≤◌, ◌++◌, ◌∷◌, [], List, ℕ, length, slice_get, slice_set, Some, None, IfOk, OnOk, MatchOption, option_and_then, option_map};
 ghost use Rattle.std.specs.FinMap as map;
-ghost use Rattle.s80_class.specs.Classes.{Name, ClassRow, IsLine, IsValid, descends, inherited_in, inherited_of, extent_of};
+ghost use Rattle.s80_class.specs.Classes.{Name, ClassRow, IsLine, IsValid, change_row, descends, has_subclass, inherited_in, inherited_of, extent_of, with_comment};
 ghost use Rattle.s80_class.specs.Counted.{totals, greatest_of, over, own};
 ghost use Rattle.s80_class.specs.Table.{IsNumberOf, IsClass, IsSuperclass, IsAbove, IsEntryOf, name_of, number_of, row_of};
 ghost use Rattle.s80_class.specs.Family.{AreFamily, Found};
@@ -111,6 +111,14 @@ impl ClassTable {
         self.tree.is_descendant(c, of)
     }
 
+    /// Whether some class has this one as its superclass. Takes no memory.
+    pub fn has_subclass(&self, c: u32) -> bool
+        requires { IsClass self.now.names c }
+        ensures { (name : List ℕ) → IsNumberOf self.now.names c name → result ≡ has_subclass self.now.classes name }
+    {
+        self.tree.has_subclass(c)
+    }
+
     /// What a class has with all that it inherits.
     pub fn totals_of(&self, c: u32) -> Totals
         requires { IsClass self.now.names c }
@@ -190,6 +198,17 @@ impl ClassTable {
         settle(&mut self.totals, &self.found);
         self.found.clear();
         self.tree.replace(c, entry)
+    }
+
+    /// Gives a class another comment, and answers the old one. Takes no memory, and looks at no other class.
+    pub fn set_comment(&mut self, c: u32, comment: Text) -> Text
+        requires { IsClass self.old.names c }
+        ensures old { (name : List ℕ) → IsNumberOf self.old.names c name → option_map (λ row. row.comment) (map.get self.old.classes name) ≡ Some result }
+        ensures classes { (name : List ℕ) → IsNumberOf self.old.names c name → self.new.classes ≡ change_row (with_comment comment) name self.old.classes }
+        ensures names { self.new.names ≡ self.old.names }
+        ensures spare { self.new.spare ≡ self.old.spare }
+    {
+        self.tree.set_comment(c, comment)
     }
 
     /// Takes a class off that is no superclass, and answers its entry. Takes no memory.

@@ -1,7 +1,7 @@
 // The classes by number and by name, and their subclasses.
-ghost use Rattle.std.specs.Prelude.{◌≡◌, ◌≢◌, ◌+◌, ◌-◌, ◌^◌, ◌<◌, ◌≤◌, ◌++◌, ◌∷◌, [], List, ℕ, map as list_map, length, max, slice_set, Some, None, IfOk, OnOk, MatchOption, vec_capacity};
+ghost use Rattle.std.specs.Prelude.{◌≡◌, ◌≢◌, ◌+◌, ◌-◌, ◌^◌, ◌<◌, ◌≤◌, ◌++◌, ◌∷◌, [], List, ℕ, map as list_map, length, max, slice_set, Some, None, IfOk, OnOk, MatchOption, option_map, vec_capacity};
 ghost use Rattle.std.specs.FinMap as map;
-ghost use Rattle.s80_class.specs.Classes.{ClassRow, IsValid, descends};
+ghost use Rattle.s80_class.specs.Classes.{ClassRow, IsValid, change_row, descends, has_subclass, with_comment};
 ghost use Rattle.s80_class.specs.Table.{IsNumberOf, IsClass, IsSuperclass, IsAbove, IsEntryOf, row_of};
 ghost use Rattle.s80_class.specs.Kept.{names_of, name_at, IsRising, IsPlace};
 ghost use Rattle.s80_class.specs.Family.{Found, FindsFamily, AreUnder, Grows};
@@ -13,6 +13,7 @@ use crate::inherited::Totals;
 use s80_base::{Names, OutOfMemory, Text};
 use std::alloc::Global;
 use std::marker::Model;
+use std::mem;
 
 // The classes without what they inherit. Contracts see a finite map from names to what is known of each class, and the name of the class of each number.
 #[derive(Debug, Drop)]
@@ -141,6 +142,18 @@ impl ClassTree {
         false
     }
 
+    /// Whether some class has this one as its superclass. Takes no memory.
+    pub(crate) fn has_subclass(&self, c: u32) -> bool
+        requires { IsClass self.now.names c }
+        ensures { (name : List ℕ) → IsNumberOf self.now.names c name → result ≡ has_subclass self.now.classes name }
+    {
+        let first = place_below(&self.subclasses, (Some(c), 0));
+        match self.subclasses.get(first) {
+            Some(&(superclass, _)) => superclass == Some(c),
+            None => false,
+        }
+    }
+
     /// A class and its descendants with their totals, if the class itself came to have these. No other class is looked at.
     /// Takes no memory.
     pub(crate) fn family(&self, c: u32, top: Totals, found: &mut Vec<(u32, Totals)>)
@@ -223,6 +236,19 @@ impl ClassTree {
         let old = self.entries[c as usize].replace(entry).unwrap();
         move_below(&mut self.subclasses, c, old.superclass, superclass);
         old
+    }
+
+    /// Gives a class another comment, and answers the old one. Takes no memory.
+    pub(crate) fn set_comment(&mut self, c: u32, comment: Text) -> Text
+        requires { IsClass self.old.names c }
+        ensures old { (name : List ℕ) → IsNumberOf self.old.names c name → option_map (λ row. row.comment) (map.get self.old.classes name) ≡ Some result }
+        ensures classes { (name : List ℕ) → IsNumberOf self.old.names c name → self.new.classes ≡ change_row (with_comment comment) name self.old.classes }
+        ensures names { self.new.names ≡ self.old.names }
+        ensures spare { self.new.spare ≡ self.old.spare }
+        ensures known { IsKnown self.new }
+    {
+        let entry = self.entries[c as usize].as_mut().unwrap();
+        mem::replace(&mut entry.comment, comment)
     }
 
     /// Takes a class off that is no superclass, and answers its entry. Takes no memory.

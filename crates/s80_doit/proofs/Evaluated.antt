@@ -8,12 +8,10 @@ use Rattle.s80_syntax.specs.Text.{IsDoItOf, IsMethodOf}
 use Rattle.s80_code.specs.declared.code.Code.{Code}
 use Rattle.s80_compile.specs.Sent.{AreWellSent, BodyIsWellSent}
 use Rattle.s80_change.specs.Check.{as_method}
-use Rattle.s80_class.specs.Classes.{Name, Classes}
-use Rattle.s80_class.specs.Known.{IsKnown}
+use Rattle.s80_class.specs.Classes.{Name}
 use Rattle.s80_class.specs.Table.{Table, IsNumberOf, class_name, name_of}
-use Rattle.s80_dict.specs.Table.{MethodsValue, methods_at}
+use Rattle.s80_dict.specs.Table.{methods_at}
 use Rattle.s80_method.specs.Shape.{shape_of}
-use Rattle.s80_apply.specs.Codes.{AreCodes, HasCodeAt}
 use Rattle.s80_apply.specs.Entries.{Entry, state_row}
 use Rattle.s80_apply.specs.State.{MethodRow, State}
 use Rattle.s80_apply.specs.System.{IsSystemOf, SystemState}

@@ -4,7 +4,6 @@ use Rattle.std.proofs.lemmas.Bool.Decides.{nat_tests}
 use Rattle.s80_base.specs.declared.names.Side.TheVariants.{Instance}
 use Rattle.s80_tree.specs.Tree.{DoItParts, MethodParts}
 use Rattle.s80_syntax.specs.Text.{IsDoItOf}
-use Rattle.s80_syntax.proofs.lemmas.OneReading.{one_doit_of}
 use Rattle.s80_scope.specs.declared.fit.Fit.{Fit}
 use Rattle.s80_scope.specs.declared.fit.Fit.TheVariants as fits
 use Rattle.s80_scope.specs.declared.fit.FitKind.{FitKind}
@@ -15,7 +14,7 @@ use Rattle.s80_scope.specs.Walk.{cut}
 use Rattle.s80_code.specs.declared.code.Code.{Code}
 use Rattle.s80_compile.specs.Compiles.{Compiles}
 use Rattle.s80_change.specs.Check.{as_method, size_refusal, too_large}
-use Rattle.s80_doit.specs.DoIt.{Fits, IsDoItCode}
+use Rattle.s80_doit.specs.DoIt.{IsDoItCode}
 
 -- ---- measures that fit where their cuts do
 
@@ -46,13 +45,8 @@ not_refused (fits.TooMuch k n) h = absurd (cc h)
 
 -- ---- the tree
 
--- it is the one that fits
-pub size_fits : (text : List ℕ) (tree : DoItParts) → IsDoItOf text tree → Fits text → size_refusal (as_method tree) ≡ None
-size_fits text tree is (other, also, none) = subst (λ (d : DoItParts). size_refusal (as_method d) ≡ None) (one_doit_of text other tree also is) none
-
-pub tree_fits : (text : List ℕ) (tree : DoItParts) → IsDoItOf text tree → Fits text → fit (measures (as_method tree)) ≡ fits.Fits
-tree_fits text tree is all =
-    uncut (measures (as_method tree)) (not_refused (fit (cut_measures (measures (as_method tree)))) (size_fits text tree is all))
+pub tree_fits : (tree : DoItParts) → size_refusal (as_method tree) ≡ None → fit (measures (as_method tree)) ≡ fits.Fits
+tree_fits tree none = uncut (measures (as_method tree)) (not_refused (fit (cut_measures (measures (as_method tree)))) none)
 
 pub is_code : (text : List ℕ) (tree : DoItParts) (m : MethodParts) (code : Code) → IsDoItOf text tree → size_refusal (as_method tree) ≡ None → m ≡ as_method tree
     → Compiles m (record { inst_vars = []; class_vars = [] }) (codes "UndefinedObject") Instance code → IsDoItCode text code

@@ -1,13 +1,12 @@
 -- Whatever their numbers, the classes of a state and what its sources mean are the same.
-use Rattle.std.proofs.Common.{◌≡◌, ◌∙◌, refl, sym, ap, subst, ℕ, List, Bool, true, false, IsTrue, Option, Some, None, option_and_then}
+use Rattle.std.proofs.Common.{◌≡◌, ◌∙◌, refl, sym, ap, subst, ℕ, List, Bool, Option, Some, None, option_and_then}
 use Rattle.std.specs.FinMap as map
 use Rattle.s80_base.specs.declared.names.Side.{Side}
 use Rattle.s80_tree.specs.Tree.{DoItParts, MethodParts}
 use Rattle.s80_syntax.specs.Text.{IsDoItOf, IsMethodOf}
 use Rattle.s80_change.specs.declared.change.Change.{Change}
-use Rattle.s80_kernel.specs.Rows.{is_kernel_class}
 use Rattle.s80_class.specs.Classes.{Name, Classes}
-use Rattle.s80_class.specs.Table.{Table, IsNumberOf, name_of}
+use Rattle.s80_class.specs.Table.{Table, IsNumberOf}
 use Rattle.s80_method.specs.Shape.{shape_of}
 use Rattle.s80_apply.specs.List.{state_of}
 use Rattle.s80_apply.specs.State.{MethodRow, State}

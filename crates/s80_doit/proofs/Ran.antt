@@ -10,7 +10,7 @@ use Rattle.s80_prims.specs.declared.stop.Outcome.{Outcome}
 use Rattle.s80_apply.specs.Entries.{Entry}
 use Rattle.s80_apply.specs.State.{State}
 use Rattle.s80_apply.specs.System.{IsSystemOf, SystemState}
-use Rattle.s80_machine.specs.Came.{AnswersKnown, EndIsKnown, RanValue}
+use Rattle.s80_machine.specs.Came.{EndIsKnown, RanValue}
 use Rattle.s80_machine.specs.Run.{RunsTo}
 use Rattle.s80_print.specs.Outcome.{HasKnownAnswer, outcome_text}
 use Rattle.s80_doit.specs.Answer.{EvaluatesTo}

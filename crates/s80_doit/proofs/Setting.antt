@@ -1,5 +1,5 @@
 -- The classes and methods of a list, and a doIt's code, are what a run may be given.
-use Rattle.std.proofs.Common.{◌≡◌, ◌≢◌, ◌≤◌, ◌∙◌, ℕ, true, is_some, sym, ap, subst, List, [], codes, length, Some, None, unwrap_or, option_and_then}
+use Rattle.std.proofs.Common.{◌≡◌, ◌≢◌, ◌≤◌, ◌∙◌, ℕ, true, is_some, sym, ap, subst, List, [], codes, length, Some, None, unwrap_or, option_and_then, Ok}
 use Rattle.std.specs.FinMap as map
 use Rattle.s80_base.specs.declared.names.Side.{Side}
 use Rattle.s80_base.specs.declared.names.Side.TheVariants.{Instance, Class}
@@ -9,8 +9,7 @@ use Rattle.s80_syntax.specs.Text.{IsDoItOf}
 use Rattle.s80_code.specs.declared.code.Code.{Code}
 use Rattle.s80_compile.specs.Compiles.{Compiles}
 use Rattle.s80_change.specs.Check.{IsCheckOf, as_method, size_refusal}
-use Rattle.s80_change.specs.declared.source_check.SourceCheck.TheVariants as checks
-use Rattle.s80_class.specs.Classes.{Name, ClassRow, Classes, inherited_of, is_bits}
+use Rattle.s80_class.specs.Classes.{Name, ClassRow, Classes, inherited_of, is_bits, with_comment}
 use Rattle.s80_class.specs.Known.{IsKnown}
 use Rattle.s80_class.specs.Table.{Table, IsClass, IsNumberOf, class_name}
 use Rattle.s80_class.proofs.lemmas.Most.{some_row}
@@ -33,7 +32,7 @@ use Rattle.s80_doit.specs.DoIt.{IsDoItCode}
 -- ---- what is true of every list, of every shape and of all code that agrees
 
 abbrev pub KernelLasts : Type 0
-KernelLasts = (changes : List Change) (name : Name) (row : ClassRow) → map.get kernel_classes name ≡ Some row → map.get (classes_of changes) name ≡ Some row
+KernelLasts = (changes : List Change) (name : Name) (row : ClassRow) → map.get kernel_classes name ≡ Some row → (comment : List ℕ) × (map.get (classes_of changes) name ≡ Some (with_comment comment row))
 
 abbrev pub KernelIsPlain : Type 0
 KernelIsPlain = (changes : List Change) (name : Name) → is_kernel_class name ≡ true → name ≢ codes "Message" → (inherited_of (classes_of changes) name).inst_vars ≡ 0
@@ -56,7 +55,7 @@ class_side_vars_of classes name = (inherited_of classes name).class_side_vars
 
 abbrev pub MethodCodeSuits : Type 0
 MethodCodeSuits = (t : Table) (c : ℕ) (name : Name) (side : Side) (selector source : List ℕ) (code : Code)
-    → IsNumberOf t.names c name → IsCheckOf source (checks.Fits selector) → length (shape_of t.classes name side).inst_vars ≤ 64
+    → IsNumberOf t.names c name → IsCheckOf source (Ok selector) → length (shape_of t.classes name side).inst_vars ≤ 64
     → IsMethodCode t.classes name side selector source code → SuitsMethod t c side selector code
 
 abbrev pub Agrees : DoItParts → Code → Type 0
@@ -91,7 +90,10 @@ kernel_row word is = some_row kernel_classes word (built_has kernel_rows word �
 
 module _ (t : Table) (changes : List Change) (of : t.classes ≡ classes_of changes) where
   pub there : KernelLasts → (word : Name) → is_kernel_class word ≡ true → (row : ClassRow) × (map.get t.classes word ≡ Some row)
-  there lasts word is = let row = kernel_row word is in (row.0, ap (λ classes. map.get classes word) of ∙ lasts changes word row.0 row.1)
+  there lasts word is =
+      let row = kernel_row word is in
+      let last = lasts changes word row.0 row.1 in
+      (with_comment last.0 row.0, ap (λ classes. map.get classes word) of ∙ last.1)
 
   has_kernel : KernelLasts → HasKernel t
   has_kernel lasts word is = ap is_some (there lasts word is).1

@@ -1,19 +1,13 @@
 -- Code of a tree that fits suits the machine.
-use Rattle.std.proofs.Common.{◌≡◌, ◌∙◌, ◌<◌, ◌≤◌, ◌-◌, ◌^◌, ℕ, Bool, cond, true, false, nat_lt, refl, sym, ap, subst, List, [], codes, length, None, option_and_then, unwrap_or, arith}
-use Rattle.std.proofs.lemmas.Bool.Decides.{nat_tests}
+use Rattle.std.proofs.Common.{◌≡◌, ◌∙◌, ◌≤◌, ℕ, refl, sym, ap, subst, List, [], codes, length, None, option_and_then, unwrap_or, arith, Ok}
 use Rattle.s80_base.specs.declared.names.Side.{Side}
 use Rattle.s80_base.specs.declared.names.Side.TheVariants.{Instance, Class}
 use Rattle.s80_tree.specs.Tree.{MethodParts, DoItParts}
 use Rattle.s80_syntax.specs.Text.{IsDoItOf}
-use Rattle.s80_scope.specs.declared.fit.Fit.{Fit}
 use Rattle.s80_scope.specs.declared.fit.Fit.TheVariants as fits
-use Rattle.s80_scope.specs.declared.fit.FitKind.{FitKind}
-use Rattle.s80_scope.specs.declared.fit.FitKind.TheVariants as kind
-use Rattle.s80_scope.specs.declared.fit.Measures.{Measures}
 use Rattle.s80_scope.specs.declared.shape.Shape.{Shape}
-use Rattle.s80_scope.specs.Fit.{fit, measures, cut_measures}
+use Rattle.s80_scope.specs.Fit.{fit, measures}
 use Rattle.s80_scope.specs.Names.{AreInOrder, uses_of}
-use Rattle.s80_scope.specs.Walk.{cut}
 use Rattle.s80_scope.proofs.lemmas.Apart.{method_in_order, doit_in_order}
 use Rattle.s80_code.specs.declared.code.Code.{Code}
 use Rattle.s80_code.specs.Entries.{entries_of}
@@ -28,14 +22,14 @@ use Rattle.s80_compile.proofs.lemmas.SentCore.{core_sent}
 use Rattle.s80_compile.proofs.SentTrees.{method_sent, doit_sent}
 use Rattle.s80_verify.specs.Record.{HasDepths}
 use Rattle.s80_lex.specs.Selector.{IsSelectorOf}
-use Rattle.s80_change.specs.Check.{IsCheckOf, as_method, size_refusal, too_large}
-use Rattle.s80_change.specs.declared.source_check.SourceCheck.TheVariants.{Fits}
+use Rattle.s80_change.specs.Check.{IsCheckOf, as_method, size_refusal}
 use Rattle.s80_class.specs.Classes.{Name, Classes, inherited_of}
 use Rattle.s80_class.specs.Table.{Table, IsNumberOf, class_name}
 use Rattle.s80_method.specs.Code.{IsMethodCode}
 use Rattle.s80_method.specs.Shape.{shape_of}
 use Rattle.s80_method.proofs.Fitting.{tree_fits}
 use Rattle.s80_machine.specs.Sound.{variables_on, Suits, SuitsMethod}
+use Rattle.s80_doit.proofs.Fitting.{tree_fits as doit_fits}
 use Rattle.s80_doit.proofs.Behind.{runs_with, at_the_end}
 use Rattle.s80_doit.proofs.Naming.{NamesBelow, core_from}
 use Rattle.s80_doit.proofs.Targets.{BodyIsFree, method_free, doit_free}
@@ -73,7 +67,7 @@ counted instance class t c name Class is = class t.classes name ∙ ap (λ (n : 
 pub method_suits : ((classes : Classes) (name : Name) → length (shape_of classes name Instance).inst_vars ≡ (inherited_of classes name).inst_vars)
     → ((classes : Classes) (name : Name) → length (shape_of classes name Class).inst_vars ≡ (inherited_of classes name).class_side_vars)
     → (t : Table) (c : ℕ) (name : Name) (side : Side) (selector source : List ℕ) (code : Code)
-    → IsNumberOf t.names c name → IsCheckOf source (Fits selector) → length (shape_of t.classes name side).inst_vars ≤ 64
+    → IsNumberOf t.names c name → IsCheckOf source (Ok selector) → length (shape_of t.classes name side).inst_vars ≤ 64
     → IsMethodCode t.classes name side selector source code → SuitsMethod t c side selector code
 method_suits instance class t c name side selector source code named check few is =
     let m = is.tree in
@@ -90,34 +84,8 @@ method_suits instance class t c name side selector source code named check few i
 
 -- ---- doIts
 
-above_cut : (limit n : ℕ) → limit < 2 ^ 32 - 1 → nat_lt limit (cut n) ≡ false → nat_lt limit n ≡ false
-above_cut limit n small is = grind (arith, nat_tests)
-
-passed : (b : Bool) (k : FitKind) (n : ℕ) (rest : Fit) → cond b (fits.TooMuch k n) rest ≡ fits.Fits → (b ≡ false) × (rest ≡ fits.Fits)
-passed true k n rest h = absurd (let bad : fits.TooMuch k n ≡ fits.Fits = h in cc)
-passed false k n rest h = (refl, h)
-
-passes : (b : Bool) (k : FitKind) (n : ℕ) (rest : Fit) → b ≡ false → rest ≡ fits.Fits → cond b (fits.TooMuch k n) rest ≡ fits.Fits
-passes b k n rest is h = ap (λ c. cond c (fits.TooMuch k n) rest) is ∙ h
-
-uncut : (m : Measures) → fit (cut_measures m) ≡ fits.Fits → fit m ≡ fits.Fits
-uncut m h =
-    let a = passed (nat_lt 60 (cut m.literals)) kind.Literals (cut m.literals) _ h in
-    let b = passed (nat_lt 31 (cut m.temporaries)) kind.Temporaries (cut m.temporaries) _ a.1 in
-    let c = passed (nat_lt 32 (cut m.stack)) kind.Stack (cut m.stack) _ b.1 in
-    let d = passed (nat_lt 1000 (cut m.weight)) kind.Weight (cut m.weight) _ c.1 in
-    passes (nat_lt 60 m.literals) kind.Literals m.literals _ (above_cut 60 m.literals (omega arith) a.0)
-    (passes (nat_lt 31 m.temporaries) kind.Temporaries m.temporaries _ (above_cut 31 m.temporaries (omega arith) b.0)
-    (passes (nat_lt 32 m.stack) kind.Stack m.stack _ (above_cut 32 m.stack (omega arith) c.0)
-    (passes (nat_lt 1000 m.weight) kind.Weight m.weight fits.Fits (above_cut 1000 m.weight (omega arith) d.0) refl)))
-
-not_refused : (f : Fit) → too_large f ≡ None → f ≡ fits.Fits
-not_refused fits.Fits h = refl
-not_refused (fits.TooMuch k n) h = absurd (cc h)
-
 pub doit_suits : (text : List ℕ) (tree : DoItParts) (code : Code) → IsDoItOf text tree → size_refusal (as_method tree) ≡ None
     → Compiles (as_method tree) (record { inst_vars = []; class_vars = [] }) (codes "UndefinedObject") Instance code → Suits 0 code
 doit_suits text tree code is fitting compiled =
     code_suits (as_method tree) (record { inst_vars = []; class_vars = [] }) (codes "UndefinedObject") Instance code
-    (uncut (measures (as_method tree)) (not_refused (fit (cut_measures (measures (as_method tree)))) fitting))
-    (doit_in_order text tree is) (doit_sent text tree is) (doit_free text tree is) (omega arith) compiled
+    (doit_fits tree fitting) (doit_in_order text tree is) (doit_sent text tree is) (doit_free text tree is) (omega arith) compiled

@@ -1,7 +1,8 @@
 -- DoIts, their code and their runs.
 use Rattle.std.specs.Prelude.{◌≡◌, ℕ, Bool, true, false, List, [], None, codes}
 use Rattle.s80_base.specs.declared.names.Side.TheVariants.{Instance}
-use Rattle.s80_tree.specs.Tree.{DoItParts}
+use Rattle.s80_tree.specs.declared.method.MethodTree.{MethodTree}
+use Rattle.s80_tree.specs.Tree.{DoItParts, method_of}
 use Rattle.s80_syntax.specs.Text.{IsDoItOf}
 use Rattle.s80_code.specs.declared.code.Code.{Code}
 use Rattle.s80_compile.specs.Compiles.{Compiles}
@@ -17,6 +18,13 @@ use Rattle.s80_machine.specs.Run.{RunsTo}
 -- the text has a tree, which fits a machine
 abbrev pub Fits : List ℕ → Type 0
 Fits text = (tree : DoItParts) × IsDoItOf text tree × (size_refusal (as_method tree) ≡ None)
+
+-- the method is the text's tree, which fits, as it is evaluated
+pub record IsMethodOfDoIt (text : List ℕ) (method : MethodTree) : Type 0 where
+  pub tree : DoItParts
+  pub tree_is : IsDoItOf text tree
+  pub method_is : method_of method ≡ as_method tree
+  pub fits : size_refusal (as_method tree) ≡ None
 
 -- the code is that of the text's tree, which fits, as a method of the instances of UndefinedObject that sees no variable of a class
 pub record IsDoItCode (text : List ℕ) (code : Code) : Type 0 where

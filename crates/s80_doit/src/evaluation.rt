@@ -1,5 +1,5 @@
 // The runs of doIts among the classes and their methods.
-ghost use Rattle.std.specs.Prelude.{◌≡◌, ◌≤◌, ℕ, Bool, List, length, IfOk};
+ghost use Rattle.std.specs.Prelude.{◌≡◌, ℕ, Bool, List, IfOk};
 ghost use Rattle.s80_code.specs.declared.code.Code.{Code};
 ghost use Rattle.s80_machine.specs.Came.{AnswersKnown, RanValue};
 ghost use Rattle.s80_machine.specs.Sound.{IsSetting};
@@ -8,7 +8,7 @@ ghost use Rattle.s80_prims.specs.Known.{HasKernel};
 ghost use Rattle.s80_apply.specs.State.{State};
 ghost use Rattle.s80_apply.specs.System.{IsSystemOf};
 ghost use Rattle.s80_doit.specs.Answer.{EvaluatesTo};
-ghost use Rattle.s80_doit.specs.DoIt.{AreGiven, Fits, IsDoItCode, IsRunOf, is_stopped};
+ghost use Rattle.s80_doit.specs.DoIt.{AreGiven, IsDoItCode, IsMethodOfDoIt, IsRunOf, is_stopped};
 
 use crate::answers::runs_are_evaluations;
 use crate::code::doit_code;
@@ -23,24 +23,26 @@ use s80_meaning::run;
 use s80_method::shapes_have_as_many_variables;
 use s80_prims::End;
 use s80_print::outcome_text;
+use s80_syntax::MethodTree;
 use s80_verify::Verified;
 use std::alloc::Global;
 
-/// The code of a doIt's text: this fails only when out of memory. Among these classes and methods it comes to an end under every
-/// budget, and so does its tree.
-pub fn compile(alloc: Global, system: &System, text: &Text) -> Result<Verified, OutOfMemory>
-    requires short { length text.now ≤ 65535 }
-    requires fits { Fits text.now }
-    ensures code { IfOk result (IsDoItCode text.now) }
+/// The code of a doIt that fits, by its tree as a method: this fails only when out of memory. Among these classes and methods it comes to an
+/// end under every budget, and so does its tree.
+pub fn compile(alloc: Global, system: &System, method: &MethodTree) -> Result<Verified, OutOfMemory>
+    requires { (text : List ℕ) × IsMethodOfDoIt text method.now }
+    ensures code { (text : List ℕ) → IsMethodOfDoIt text method.now → IfOk result (IsDoItCode text) }
     ensures given { AreGiven system.now }
-    ensures ends { IfOk result (λ _. (budget : ℕ) → (ran : RanValue) × IsRunOf system.now text.now budget ran) }
-    ensures evaluates { IfOk result (λ _. (state : State) (budget : ℕ) → IsSystemOf system.now state
-        → (told : List ℕ) × (stopped : Bool) × EvaluatesTo state text.now budget told stopped) }
+    ensures ends { (text : List ℕ) → IsMethodOfDoIt text method.now
+        → IfOk result (λ _. (budget : ℕ) → (ran : RanValue) × IsRunOf system.now text budget ran) }
+    ensures evaluates { (text : List ℕ) → IsMethodOfDoIt text method.now
+        → IfOk result (λ _. (state : State) (budget : ℕ) → IsSystemOf system.now state
+        → (told : List ℕ) × (stopped : Bool) × EvaluatesTo state text budget told stopped) }
 {
     a_run_ends();
     runs_are_evaluations();
     doits_are_given(system);
-    doit_code(alloc, text)
+    doit_code(alloc, method)
 }
 
 /// Runs the code of a doIt among the classes and their methods, for at most so many ticks (Blue Book, part four). What it comes to is what

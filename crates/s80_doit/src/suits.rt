@@ -1,5 +1,5 @@
 // Laws of code that agrees with its source.
-ghost use Rattle.std.specs.Prelude.{◌≡◌, ◌≤◌, ℕ, List, None, [], codes, length};
+ghost use Rattle.std.specs.Prelude.{◌≡◌, ◌≤◌, ℕ, List, None, Ok, [], codes, length};
 ghost use Rattle.s80_base.specs.declared.names.Side.{Side};
 ghost use Rattle.s80_base.specs.declared.names.Side.TheVariants.{Instance};
 ghost use Rattle.s80_tree.specs.Tree.{DoItParts};
@@ -7,7 +7,6 @@ ghost use Rattle.s80_syntax.specs.Text.{IsDoItOf};
 ghost use Rattle.s80_code.specs.declared.code.Code.{Code};
 ghost use Rattle.s80_compile.specs.Compiles.{Compiles};
 ghost use Rattle.s80_change.specs.Check.{IsCheckOf, as_method, size_refusal};
-ghost use Rattle.s80_change.specs.declared.source_check.SourceCheck.TheVariants.{Fits};
 ghost use Rattle.s80_class.specs.Classes.{Name};
 ghost use Rattle.s80_class.specs.Table.{Table, IsNumberOf};
 ghost use Rattle.s80_method.specs.Code.{IsMethodCode};
@@ -19,7 +18,7 @@ use s80_method::shapes_have_as_many_variables;
 /// The code of a source that fits, as a method of a class of at most 64 variables on that side, suits the class and the selector.
 pub fn method_code_suits()
     ensures { (t : Table) (c : ℕ) (name : Name) (side : Side) (selector source : List ℕ) (code : Code)
-        → IsNumberOf t.names c name → IsCheckOf source (Fits selector) → length (shape_of t.classes name side).inst_vars ≤ 64
+        → IsNumberOf t.names c name → IsCheckOf source (Ok selector) → length (shape_of t.classes name side).inst_vars ≤ 64
         → IsMethodCode t.classes name side selector source code → SuitsMethod t c side selector code }
 {
     shapes_have_as_many_variables();

@@ -2,7 +2,7 @@ pub mod lemmas
 pub mod Splits
 pub mod Spelled
 pub mod Trees
-pub mod Forms
+pub mod Keywords
+pub mod Shapes
 pub mod Reading
 pub mod Longest
-pub mod Defining

@@ -1,9 +1,10 @@
--- What the text of a definition is made of.
+-- What the texts of forms are made of.
 use Rattle.std.proofs.Common.{◌≡◌, ℕ, ◌+◌, ◌<◌, List, [], ◌∷◌, ◌++◌, take, length, Some, ap, sym, ◌∙◌, arith, codes, append_assoc, length-take}
 use Rattle.std.specs.List.{slice_get, flat_map}
 use Rattle.std.proofs.lemmas.List.{append-nil, take_more}
 use Rattle.std.proofs.lemmas.List.Concat.{flat_map-append}
 use Rattle.std.proofs.lemmas.Option.{slice_get_within, get_or_from_slice_get}
+use Rattle.s80_lex.specs.Spelling.{quoted}
 use Rattle.s80_form.specs.declared.definition.Definition.{Definition}
 use Rattle.s80_form.specs.Definition.{first_line, next_line, joined, definition_text}
 
@@ -44,3 +45,19 @@ lines_text d t u v w x i c p et ei ec ep eu ev ew ex =
     ew ∙ ap (λ l. l ++ next_line (codes "poolDictionaries:") p) two
     ∙ ap (λ l. ((first_line d ++ next_line (codes "instanceVariableNames:") (joined d.inst_vars)) ++ next_line (codes "classVariableNames:") (joined d.class_vars)) ++ next_line (codes "poolDictionaries:") l) ep in
     ex ∙ ap (λ l. l ++ next_line (codes "category:") d.category) three
+
+-- the text of a list of names, and of a category, part by part
+pub named_text : (name one two names strings text : List ℕ) → one ≡ name → two ≡ one ++ codes " class instanceVariableNames: " → strings ≡ names → text ≡ two ++ quoted 39 strings → text ≡ name ++ (codes " class instanceVariableNames: " ++ quoted 39 names)
+named_text name one two names strings text e f g h =
+    h ∙ ap (λ l. l ++ quoted 39 strings) (f ∙ ap (λ l. l ++ codes " class instanceVariableNames: ") e) ∙ ap (λ l. (name ++ codes " class instanceVariableNames: ") ++ quoted 39 l) g
+    ∙ append_assoc name (codes " class instanceVariableNames: ") (quoted 39 names)
+
+pub category_text : (name side selector category one two three four five text : List ℕ) → one ≡ name → two ≡ one ++ side → three ≡ two ++ codes " organization classify: #" → four ≡ three ++ selector → five ≡ four ++ codes " under: " → text ≡ five ++ quoted 39 category
+    → text ≡ name ++ (side ++ (codes " organization classify: #" ++ (selector ++ (codes " under: " ++ quoted 39 category))))
+category_text name side selector category one two three four five text e f g h i j =
+    let whole : text ≡ ((((name ++ side) ++ codes " organization classify: #") ++ selector) ++ codes " under: ") ++ quoted 39 category =
+    j ∙ ap (λ l. l ++ quoted 39 category) (i ∙ ap (λ l. l ++ codes " under: ") (h ∙ ap (λ l. l ++ selector) (g ∙ ap (λ l. l ++ codes " organization classify: #") (f ∙ ap (λ l. l ++ side) e)))) in
+    whole ∙ assoc_five name side (codes " organization classify: #") selector (codes " under: ") (quoted 39 category)
+  where
+    assoc_five : (a b c d e f : List ℕ) → ((((a ++ b) ++ c) ++ d) ++ e) ++ f ≡ a ++ (b ++ (c ++ (d ++ (e ++ f))))
+    assoc_five a b c d e f = simp append_assoc

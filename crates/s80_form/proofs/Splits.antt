@@ -1,7 +1,8 @@
 -- Names that are joined by spaces, and split again.
 use Rattle.std.proofs.Common.{◌≡◌, ℕ, List, [], ◌∷◌, ◌++◌, Bool, true, false, cond, not, ◌&&◌, refl, ap, ◌∙◌, rules, tests}
 use Rattle.std.specs.Char.{is_ascii_alphabetic, is_ascii_alphanumeric}
-use Rattle.std.specs.List.{list_all, filter}
+use Rattle.std.specs.List.{list_all, filter, slice_split}
+use Rattle.std.specs.List as slice
 use Rattle.std.proofs.lemmas.Bool.{and_parts, false≢true}
 use Rattle.std.proofs.lemmas.List.{append-nil}
 use Rattle.std.proofs.lemmas.List.Elements.{All-head, All-tail}
@@ -9,26 +10,8 @@ use Rattle.s80_base.specs.Byte.{is_separator}
 use Rattle.s80_syntax.specs.Word.{is_reserved}
 use Rattle.s80_lex.specs.Selector.{is_name as is_identifier}
 use Rattle.s80_form.specs.Name.{IsName, AreNames}
+use Rattle.s80_form.proofs.lemmas.Identifiers.{identifier_of, identifier_passes, no_separator}
 use Rattle.s80_form.specs.Definition.{pieces, onto_first, is_empty, split_names, joined}
-
-alphabetic_passes : (b : ℕ) → is_ascii_alphabetic b ≡ true → is_ascii_alphanumeric b ≡ true
-alphabetic_passes b e = search (rules, tests)
-
-pub no_separator : (b : ℕ) → is_ascii_alphanumeric b ≡ true → is_separator b ≡ false
-no_separator b e = search (rules, tests)
-
-pub identifier_of : (w : List ℕ) → IsName w → is_identifier w ≡ true
-identifier_of w h = (and_parts (is_identifier w) (not (is_reserved w)) h).0
-
-and_both : (a b : Bool) → a ≡ true → b ≡ true → a && b ≡ true
-and_both a b e f = ap (λ t. t && b) e ∙ f
-
--- an identifier is of letters and digits
-pub identifier_passes : (w : List ℕ) → is_identifier w ≡ true → list_all is_ascii_alphanumeric w ≡ true
-identifier_passes [] e = absurd (false≢true e)
-identifier_passes (b ∷ w) e =
-    let parts = and_parts (is_ascii_alphabetic b) (list_all is_ascii_alphanumeric w) e in
-    and_both (is_ascii_alphanumeric b) (list_all is_ascii_alphanumeric w) (alphabetic_passes b parts.0) parts.1
 
 -- the first piece ends at the first space
 pieces_byte : (b : ℕ) (bytes : List ℕ) → is_ascii_alphanumeric b ≡ true → pieces (b ∷ bytes) ≡ onto_first b (pieces bytes)
@@ -64,3 +47,16 @@ joined_split (n ∷ []) h = ap split_names (append-nil n) ∙ split_last n (iden
 joined_split (n ∷ m ∷ more) h =
     split_word n (joined (m ∷ more)) (identifier_of n (All-head IsName n (m ∷ more) h))
     ∙ ap (λ names. n ∷ names) (joined_split (m ∷ more) (All-tail IsName n (m ∷ more) h))
+
+-- the pieces of a string, in the words of std
+onto_same : (b : ℕ) (parts : List (List ℕ)) → slice.onto_first b parts ≡ onto_first b parts
+onto_same b [] = refl
+onto_same b (p ∷ parts) = refl
+
+either_same : (t : Bool) (b : ℕ) (ps qs : List (List ℕ)) → ps ≡ qs → cond t ([] ∷ ps) (slice.onto_first b ps) ≡ cond t ([] ∷ qs) (onto_first b qs)
+either_same true b ps qs e = ap (λ l. [] ∷ l) e
+either_same false b ps qs e = ap (slice.onto_first b) e ∙ onto_same b qs
+
+pub pieces_are : (text : List ℕ) → slice_split is_separator text ≡ pieces text
+pieces_are [] = refl
+pieces_are (b ∷ text) = either_same (is_separator b) b (slice_split is_separator text) (pieces text) (pieces_are text)

@@ -1,5 +1,5 @@
 -- Trees with one statement, their messages, and literals.
-use Rattle.std.proofs.Common.{◌≡◌, ℕ, List, [], ◌∷◌, false, ◌≤◌, length, Some, IsTrue, nat_eq, codes, refl, ap, sym, ◌∙◌, arith}
+use Rattle.std.proofs.Common.{◌≡◌, ℕ, List, [], ◌∷◌, false, ◌≤◌, length, Some, IsTrue, nat_eq, refl, ap, sym, ◌∙◌, arith}
 use Rattle.std.specs.List.{slice_get}
 use Rattle.std.proofs.lemmas.Bool.Decides.{nat_tests}
 use Rattle.s80_base.specs.Literal.{LiteralTree, literal_of}
@@ -11,8 +11,8 @@ use Rattle.s80_tree.specs.declared.expr.Primary.TheVariants as primary
 use Rattle.s80_tree.specs.declared.expr.Primary.TheOpen as layer
 use Rattle.s80_tree.specs.declared.name.NameAt.{NameAt}
 use Rattle.s80_tree.specs.declared.method.DoItTree.{DoItTree}
-use Rattle.s80_base.specs.declared.names.Side.TheVariants.{Class}
-use Rattle.s80_form.specs.TreeParts.{argument, alone, all_sent, class_message, to_side}
+use Rattle.s80_base.specs.declared.names.Side.TheVariants.{Instance, Class}
+use Rattle.s80_form.specs.TreeParts.{argument, alone, all_sent, class_message, organization_message, to_side, to_organization}
 use Rattle.s80_tree.specs.declared.expr.Expr.{Expr, out-Expr, fold_out-Expr}
 use Rattle.s80_tree.specs.declared.expr.Message.{Message, out-Message, fold_out-Message}
 use Rattle.s80_tree.specs.declared.expr.Stmt.{Stmt, out-Stmt, fold_out-Stmt}
@@ -84,14 +84,20 @@ body_one no_stmts s n e = absurd (omega arith)
 body_one (stmts r x no_stmts) s n e = let same : (r, x) ≡ s = cc in ap (λ (y : StmtTree). stmts y.0 y.1 no_stmts) same
 body_one (stmts r x (stmts q y b)) s n e = absurd (omega arith)
 
-exprs_none : (es : ExprTrees) → length (exprs_list es) ≡ 0 → es ≡ no_exprs
+pub exprs_none : (es : ExprTrees) → length (exprs_list es) ≡ 0 → es ≡ no_exprs
 exprs_none no_exprs n = refl
 exprs_none (exprs e es) n = absurd (omega arith)
 
-exprs_one : (es : ExprTrees) (e : ExprTree) → length (exprs_list es) ≡ 1 → slice_get (exprs_list es) 0 ≡ Some e → es ≡ exprs e no_exprs
+pub exprs_one : (es : ExprTrees) (e : ExprTree) → length (exprs_list es) ≡ 1 → slice_get (exprs_list es) 0 ≡ Some e → es ≡ exprs e no_exprs
 exprs_one no_exprs e n i = absurd (omega arith)
 exprs_one (exprs x no_exprs) e n i = let same : x ≡ e = cc in ap (λ y. exprs y no_exprs) same
 exprs_one (exprs x (exprs y es)) e n i = absurd (omega arith)
+
+pub exprs_two : (es : ExprTrees) (a b v w : ExprTree) → length (exprs_list es) ≡ 2 → slice_get (exprs_list es) 0 ≡ Some a → slice_get (exprs_list es) 1 ≡ Some b → a ≡ v → b ≡ w → es ≡ exprs v (exprs w no_exprs)
+exprs_two no_exprs a b v w n f g i j = absurd (omega arith)
+exprs_two (exprs _ no_exprs) a b v w n f g i j = absurd (omega arith)
+exprs_two (exprs q (exprs r no_exprs)) a b v w n f g i j = cc
+exprs_two (exprs _ (exprs _ (exprs _ es))) a b v w n f g i j = absurd (omega arith)
 
 pub exprs_five : (es : ExprTrees) (a b c d e v w x y z : ExprTree) → length (exprs_list es) ≡ 5
     → slice_get (exprs_list es) 0 ≡ Some a → slice_get (exprs_list es) 1 ≡ Some b → slice_get (exprs_list es) 2 ≡ Some c → slice_get (exprs_list es) 3 ≡ Some d → slice_get (exprs_list es) 4 ≡ Some e
@@ -127,24 +133,34 @@ not_sent e y apart is =
     let p : primary_of (out-Expr e).receiver ≡ name y.0 = cc in
     no_name (out-Expr e).receiver y.0 apart p
 
--- a message that asks for the class, and messages to a side
-pub is_class : (m : Message) (n : ℕ) → (out-Message m).selector ≡ codes "class" → n ≡ length (exprs_list (exprs_of (out-Message m).arguments))
-    → (IsTrue (nat_eq n 0) → message_of m ≡ class_message) × (message_of m ≡ class_message → IsTrue (nat_eq n 0))
-is_class m n selector count = (to, back)
+-- a message without arguments, and messages to a side and to its organization
+pub is_unary : (m : Message) (selector : List ℕ) (n : ℕ) → (out-Message m).selector ≡ selector → n ≡ length (exprs_list (exprs_of (out-Message m).arguments))
+    → (IsTrue (nat_eq n 0) → message_of m ≡ (selector, no_exprs)) × (message_of m ≡ (selector, no_exprs) → IsTrue (nat_eq n 0))
+is_unary m selector n is count = (to, back)
   where
-    to : IsTrue (nat_eq n 0) → message_of m ≡ class_message
+    to : IsTrue (nat_eq n 0) → message_of m ≡ (selector, no_exprs)
     to t =
         let z : n ≡ 0 = grind (arith, nat_tests) in
-        message_open m ∙ ap (λ (s : List ℕ). (s, exprs_of (out-Message m).arguments)) selector ∙ ap (λ (es : ExprTrees). (codes "class", es)) (exprs_none (exprs_of (out-Message m).arguments) (omega (arith, z, count)))
+        message_open m ∙ ap (λ (s : List ℕ). (s, exprs_of (out-Message m).arguments)) is ∙ ap (λ (es : ExprTrees). (selector, es)) (exprs_none (exprs_of (out-Message m).arguments) (omega (arith, z, count)))
 
-    back : message_of m ≡ class_message → IsTrue (nat_eq n 0)
+    back : message_of m ≡ (selector, no_exprs) → IsTrue (nat_eq n 0)
     back i =
         let none : exprs_of (out-Message m).arguments ≡ no_exprs = ap (λ (x : MessageTree). x.1) (sym (message_open m) ∙ i) in
         let z : n ≡ 0 = count ∙ ap (λ es. length (exprs_list es)) none in
         ap (λ k. nat_eq k 0) z
 
 pub behind_class : (ms : MessageTrees) (c m : MessageTree) → length (messages_list ms) ≡ 2 → slice_get (messages_list ms) 0 ≡ Some c → slice_get (messages_list ms) 1 ≡ Some m → c ≡ class_message → ms ≡ to_side (Class, m)
-behind_class ms c m n at next e = messages_two ms c m n at next ∙ ap (λ (x : MessageTree). messages x.0 x.1 (messages m.0 m.1 no_messages)) e
+behind_class ms c m n at then_at e = messages_two ms c m n at then_at ∙ ap (λ (x : MessageTree). messages x.0 x.1 (messages m.0 m.1 no_messages)) e
+
+pub behind_organization : (ms : MessageTrees) (o m : MessageTree) → length (messages_list ms) ≡ 2 → slice_get (messages_list ms) 0 ≡ Some o → slice_get (messages_list ms) 1 ≡ Some m → o ≡ organization_message → ms ≡ to_organization (Instance, m)
+behind_organization ms o m n at then_at e = messages_two ms o m n at then_at ∙ ap (λ (x : MessageTree). messages x.0 x.1 (messages m.0 m.1 no_messages)) e
+
+pub behind_both : (ms : MessageTrees) (c o m : MessageTree) → length (messages_list ms) ≡ 3 → slice_get (messages_list ms) 0 ≡ Some c → slice_get (messages_list ms) 1 ≡ Some o → slice_get (messages_list ms) 2 ≡ Some m
+    → c ≡ class_message → o ≡ organization_message → ms ≡ to_organization (Class, m)
+behind_both no_messages c o m n f g h i j = absurd (omega arith)
+behind_both (messages s es ms) c o m n f g h i j =
+    let same : (s, es) ≡ c = cc in
+    ap (λ (x : MessageTree). messages x.0 x.1 ms) (same ∙ i) ∙ ap (messages class_message.0 class_message.1) (behind_organization ms o m (omega arith) g h j)
 
 -- the argument of a message
 pub one_argument : (m : Message) (e : ExprTree) (selector : List ℕ) → (out-Message m).selector ≡ selector → length (exprs_list (exprs_of (out-Message m).arguments)) ≡ 1 → slice_get (exprs_list (exprs_of (out-Message m).arguments)) 0 ≡ Some e

@@ -6,7 +6,6 @@ use Rattle.s80_base.specs.declared.names.Side.TheVariants.{Instance}
 use Rattle.s80_base.specs.Byte.{is_separator}
 use Rattle.s80_lex.specs.Spelling.{quoted}
 use Rattle.s80_tree.specs.Tree.{ExprTrees, DoItParts, exprs_from}
-use Rattle.s80_syntax.specs.Text.{IsDoItOf}
 use Rattle.s80_form.specs.declared.definition.Kind.{Kind}
 use Rattle.s80_form.specs.declared.definition.Kind.TheVariants.{Plain, Pointers, Bytes, Words}
 use Rattle.s80_form.specs.declared.definition.Definition.{Definition}
@@ -71,14 +70,13 @@ pub record IsBriefDefinition (d : Definition) : Type 0 where
   pub pools : AreBrief d.pools
   pub category : IsBrief d.category
 
--- its names are identifiers that aren't reserved, and it is brief
-pub record IsLawfulDefinition (d : Definition) : Type 0 where
+-- its names are identifiers that aren't reserved
+pub record HasDefinitionNames (d : Definition) : Type 0 where
   pub superclass : IsName d.superclass
   pub class_name : IsName d.class_name
   pub inst_vars : AreNames d.inst_vars
   pub class_vars : AreNames d.class_vars
   pub pools : AreNames d.pools
-  pub brief : IsBriefDefinition d
 
 -- ---- the tree
 
@@ -89,9 +87,8 @@ defining_selector kind = defining_word kind ++ codes "instanceVariableNames:clas
 abbrev pub are_arguments : List ℕ × List ℕ × List ℕ × List ℕ × List ℕ → ExprTrees
 are_arguments t = exprs_from (map argument (symbol t.0 ∷ str t.1 ∷ str t.2 ∷ str t.3 ∷ str t.4 ∷ []))
 
--- The tree is the form of this definition: its superclass is sent the message that defines a class, with a symbol and four strings, and
--- nothing else. A text that is read has fewer than 2^32 bytes, and so has each part of its tree.
-pub record IsFormOf (tree : DoItParts) (d : Definition) : Type 0 where
+-- The tree defines a class so: the superclass is sent the message that defines a class, with a symbol and four strings, and nothing else is done.
+pub record IsDefining (tree : DoItParts) (d : Definition) : Type 0 where
   pub at : ℕ
   pub inst_vars : List ℕ
   pub class_vars : List ℕ
@@ -100,25 +97,3 @@ pub record IsFormOf (tree : DoItParts) (d : Definition) : Type 0 where
   pub inst_vars_are : d.inst_vars ≡ split_names inst_vars
   pub class_vars_are : d.class_vars ≡ split_names class_vars
   pub pools_are : d.pools ≡ split_names pools
-  pub brief : IsBriefDefinition d
-
--- the tree is the form of no definition
-abbrev pub IsNoForm : DoItParts → Type 0
-IsNoForm tree = (d : Definition) → IsFormOf tree d → ⊥
-
--- or of one
-abbrev pub IsSomeForm : DoItParts → Type 0
-IsSomeForm tree = (d : Definition) × IsFormOf tree d
-
--- the text is a doIt whose tree is the form of this definition
-pub record IsDefinitionOf (text : List ℕ) (d : Definition) : Type 0 where
-  pub tree : DoItParts
-  pub tree_is : IsDoItOf text tree
-  pub form : IsFormOf tree d
-
--- the text is a doIt whose tree is the form of a definition, or it isn't
-abbrev pub IsSomeDefinition : List ℕ → Type 0
-IsSomeDefinition text = (d : Definition) × IsDefinitionOf text d
-
-abbrev pub IsNoDefinition : List ℕ → Type 0
-IsNoDefinition text = (d : Definition) → IsDefinitionOf text d → ⊥

@@ -3,5 +3,7 @@ pub mod Name
 pub mod TextParts
 pub mod TreeParts
 pub mod Definition
+pub mod Keyword
 pub mod Form
+pub mod Shown
 pub mod Read

@@ -3,7 +3,7 @@ use Rattle.std.specs.Prelude.{◌≡◌, ◌<◌, ◌^◌, ℕ, List, [], ◌∷
 use Rattle.std.specs.Char.{is_ascii_uppercase}
 use Rattle.std.specs.List.{All}
 use Rattle.std.specs.Str.{bytes_eq}
-use Rattle.s80_lex.specs.Selector.{is_name as is_identifier}
+use Rattle.s80_lex.specs.Selector.{IsSelectorOf, is_name as is_identifier}
 use Rattle.s80_syntax.specs.Word.{is_reserved}
 
 -- an identifier that is no reserved word
@@ -23,6 +23,10 @@ IsName word = is_name word ≡ true
 
 abbrev pub AreNames : List (List ℕ) → Type 0
 AreNames words = All IsName words
+
+-- a selector of some number of parameters
+abbrev pub IsSelectorWord : List ℕ → Type 0
+IsSelectorWord word = (n : ℕ) × IsSelectorOf n word
 
 -- a name or a text has fewer than 2^32 bytes
 abbrev pub IsBrief : List ℕ → Type 0

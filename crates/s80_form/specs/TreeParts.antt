@@ -34,11 +34,27 @@ abbrev pub to_side : Side × MessageTree → MessageTrees
 to_side (Instance, m) = messages m.0 m.1 no_messages
 to_side (Class, m) = messages class_message.0 class_message.1 (messages m.0 m.1 no_messages)
 
--- The tree is one statement that sends this message to this side of the class of this name, and does nothing else. The name is no
--- reserved word.
-pub record IsSending (tree : DoItParts) (p : NameAt × Side × MessageTree) : Type 0 where
-  pub tree_is : tree ≡ alone (all_sent (p.0, to_side (p.1, p.2)))
+-- the message that asks for the organization of a side: its selectors by their categories
+abbrev pub organization_message : MessageTree
+organization_message = (codes "organization", no_exprs)
+
+-- a message to the organization of one side of a class
+abbrev pub to_organization : Side × MessageTree → MessageTrees
+to_organization (Instance, m) = messages organization_message.0 organization_message.1 (messages m.0 m.1 no_messages)
+to_organization (Class, m) = messages class_message.0 class_message.1 (messages organization_message.0 organization_message.1 (messages m.0 m.1 no_messages))
+
+-- The tree is one statement that sends these messages to this name, and does nothing else. The name is no reserved word.
+pub record IsSentToName (tree : DoItParts) (p : NameAt × MessageTrees) : Type 0 where
+  pub tree_is : tree ≡ alone (all_sent p)
   pub receiver : is_reserved p.0.name ≡ false
+
+-- it sends this message to this side of the class of this name
+abbrev pub IsSending : DoItParts → NameAt × Side × MessageTree → Type 0
+IsSending tree p = IsSentToName tree (p.0, to_side (p.1, p.2))
+
+-- it sends it to the organization of that side
+abbrev pub IsOrganizing : DoItParts → NameAt × Side × MessageTree → Type 0
+IsOrganizing tree p = IsSentToName tree (p.0, to_organization (p.1, p.2))
 
 -- what a doIt sends, without memory
 abbrev pub sending_of : Sending → NameAt × Side × MessageTree

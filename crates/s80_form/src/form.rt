@@ -1,139 +1,66 @@
-// Trees that are definitions.
-ghost use Rattle.std.specs.Prelude.{◌≡◌, List, ℕ, IfOk};
-ghost use Rattle.s80_tree.specs.Tree.{doit_of, exprs_of, DoItParts};
-ghost use Rattle.s80_form.specs.declared.definition.Definition.{Definition};
-ghost use Rattle.s80_form.specs.Definition.{definition_text, defining_word, defining_selector, are_arguments, split_names, joined, IsLawfulDefinition, IsFormOf, IsDefinitionOf};
+// The forms by which doIts change classes.
+ghost use Rattle.std.specs.Prelude.{◌≡◌, ◌↔◌, List, ℕ, IsTrue};
+ghost use Rattle.s80_tree.specs.Tree.{DoItParts};
+ghost use Rattle.s80_form.specs.Definition.{split_names, joined};
+ghost use Rattle.s80_form.specs.declared.form.Form.{Form as FormOfDoIt};
+ghost use Rattle.s80_form.specs.Form.{IsBriefForm, IsFormOf, IsFormText, IsLawfulForm, form_text};
 ghost use Rattle.s80_form.specs.Name.{AreNames};
-ghost use Rattle.s80_form.specs.Form.{IsRecognised, Recognises, texts_of, ShowsForm};
-ghost use Rattle.s80_form.specs.TreeParts.{Finds};
 
-use crate::definition::{Definition, Kind, is_brief_definition};
-use crate::names::split_names;
-use crate::tree_parts::{only_sending, string, symbol};
-use s80_base::{OutOfMemory, Side, Text};
-use s80_syntax::{DoItTree, Exprs, NameAt};
-use std::alloc::Global;
+use crate::definition::{Definition, is_brief_definition};
+use crate::name::{are_brief, is_brief};
+use s80_base::{Names, Side, Text};
 
-/// What a tree shows of its definition.
-#[derive(Clone, Copy)]
-struct Form<'t> {
-    receiver: &'t NameAt,
-    kind: Kind,
-    arguments: Arguments<'t>,
-}
-
-/// The arguments of the message that defines a class.
-#[derive(Clone, Copy)]
-struct Arguments<'t> {
-    class_name: &'t Text,
-    inst_vars: &'t Text,
-    class_vars: &'t Text,
-    pools: &'t Text,
-    category: &'t Text,
+/// What a doIt changes by its form (Goldberg, "Smalltalk-80: The Interactive Programming Environment"). Classes and selectors are named as
+/// they were written: it may be refused for them.
+#[derive(Debug, Drop)]
+pub enum Form {
+    /// A class is made, or made anew: `S subclass: #N instanceVariableNames: 'a' classVariableNames: 'C' poolDictionaries: 'P' category: 'c'`.
+    Define(Definition),
+    /// A class gets class-side variables in place of its own: `N class instanceVariableNames: 'a b'`.
+    ClassVars {
+        class_name: Text,
+        names: Names,
+    },
+    /// A class gets a comment in place of its own: `N comment: 't'`.
+    Comment {
+        class_name: Text,
+        text: Text,
+    },
+    /// A method is removed: `N removeSelector: #s`, `N class removeSelector: #s`.
+    RemoveMethod {
+        class_name: Text,
+        side: Side,
+        selector: Text,
+    },
+    /// A method gets a category in place of its own: `N organization classify: #s under: 'c'`, `N class organization classify: #s under: 'c'`.
+    Classify {
+        class_name: Text,
+        side: Side,
+        selector: Text,
+        category: Text,
+    },
+    /// A class is removed with its methods: `Smalltalk removeClassNamed: #N`, `N removeFromSystem`.
+    RemoveClass {
+        class_name: Text,
+    },
+    /// The set of changes begins anew: `Smalltalk noChanges`.
+    NoChanges,
 }
 
 /// What a doIt is by its tree.
 #[derive(Debug, Drop)]
 pub enum Recognised {
-    /// The form of the definition of a class.
-    Define(Definition),
-    /// No form: it is evaluated.
+    /// It changes classes so.
+    Form(Form),
+    /// It asks for a snapshot: `Smalltalk snapshot`.
+    Snapshot,
+    /// It has no form: it is evaluated.
     Evaluate,
 }
 
-/// What a doIt is by its tree alone: a definition where the tree is the form of one.
-pub fn recognise(alloc: Global, tree: &DoItTree) -> Result<Recognised, OutOfMemory>
-    ensures { IfOk result (Recognises (doit_of tree.now)) }
-{
-    Ok(match recognise_definition(alloc, tree)? {
-        Some(definition) => Recognised::Define(definition),
-        None => Recognised::Evaluate,
-    })
-}
-
-/// The definition whose form a tree is, if it is one.
-fn recognise_definition(alloc: Global, tree: &DoItTree) -> Result<Option<Definition>, OutOfMemory>
-    ensures { IfOk result (IsRecognised (doit_of tree.now)) }
-{
-    let Some(form) = only_form(tree) else {
-        return Ok(None);
-    };
-    let arguments = form.arguments;
-    let definition = Definition {
-        class_name: arguments.class_name.copy(alloc)?,
-        superclass: form.receiver.name.copy(alloc)?,
-        kind: form.kind,
-        inst_vars: split_names(alloc, arguments.inst_vars.bytes())?,
-        class_vars: split_names(alloc, arguments.class_vars.bytes())?,
-        pools: split_names(alloc, arguments.pools.bytes())?,
-        category: arguments.category.copy(alloc)?,
-    };
-    // A text that was read is brief, and so is each part of its tree.
-    if !is_brief_definition(&definition) {
-        return Ok(None);
-    }
-    Ok(Some(definition))
-}
-
-fn only_form(tree: &DoItTree) -> Option<Form<'_>>
-    ensures { ShowsForm (doit_of tree.now) result }
-{
-    let sending = only_sending(tree)?;
-    if sending.side == Side::Class {
-        return None;
-    }
-    Some(Form {
-        receiver: sending.receiver,
-        kind: kind_of(sending.message.selector.bytes())?,
-        arguments: five_arguments(&sending.message.arguments)?,
-    })
-}
-
-/// The kind that the selector of a definition tells.
-fn kind_of(selector: &[u8]) -> Option<Kind>
-    ensures { Finds (λ kind. kind) (λ kind. selector.now ≡ defining_selector kind) result }
-{
-    let keywords =
-        b"instanceVariableNames:classVariableNames:poolDictionaries:category:".as_slice();
-    kind_named(selector.strip_suffix(keywords)?)
-}
-
-/// The kind that the first keyword of a definition tells.
-pub(crate) fn kind_named(word: &[u8]) -> Option<Kind>
-    ensures { Finds (λ kind. kind) (λ kind. word.now ≡ defining_word kind) result }
-{
-    if word == b"subclass:".as_slice() {
-        Some(Kind::Plain)
-    } else if word == b"variableSubclass:".as_slice() {
-        Some(Kind::Pointers)
-    } else if word == b"variableByteSubclass:".as_slice() {
-        Some(Kind::Bytes)
-    } else if word == b"variableWordSubclass:".as_slice() {
-        Some(Kind::Words)
-    } else {
-        None
-    }
-}
-
-/// The texts of a symbol and of four strings that are the arguments.
-fn five_arguments(exprs: &Exprs) -> Option<Arguments<'_>>
-    ensures { Finds texts_of (λ texts. exprs_of exprs.now ≡ are_arguments texts) result }
-{
-    if exprs.count() != 5 {
-        return None;
-    }
-    Some(Arguments {
-        class_name: symbol(exprs.at(0))?,
-        inst_vars: string(exprs.at(1))?,
-        class_vars: string(exprs.at(2))?,
-        pools: string(exprs.at(3))?,
-        category: string(exprs.at(4))?,
-    })
-}
-
-/// A tree is the form of at most one definition.
+/// A tree has at most one form.
 pub fn one_form()
-    ensures { (tree : DoItParts) (one other : Definition) → IsFormOf tree one → IsFormOf tree other → one ≡ other }
+    ensures { (tree : DoItParts) (one other : Form) → IsFormOf tree one → IsFormOf tree other → one ≡ other }
 {}
 
 /// Names that are joined by spaces are split again.
@@ -141,13 +68,36 @@ pub fn joined_names_are_split()
     ensures { (names : List (List ℕ)) → AreNames names → split_names (joined names) ≡ names }
 {}
 
-/// The text of a lawful definition is a doIt whose tree is its form.
-pub fn a_definition_is_a_form()
-    ensures { (d : Definition) → IsLawfulDefinition d → IsDefinitionOf (definition_text d) d }
+/// The text of a lawful form is a doIt whose tree has that form.
+pub fn a_form_has_its_text()
+    ensures { (form : Form) → IsLawfulForm form → IsFormText (form_text form) form }
 {}
 
-/// So a text is that of at most one lawful definition.
-pub fn one_definition()
-    ensures { (one other : Definition) → IsLawfulDefinition one → IsLawfulDefinition other
-        → definition_text one ≡ definition_text other → one ≡ other }
+/// So a text is that of at most one lawful form.
+pub fn one_form_text()
+    ensures { (one other : Form) → IsLawfulForm one → IsLawfulForm other → form_text one ≡ form_text other → one ≡ other }
 {}
+
+/// Whether each name and text of a form is brief.
+pub(crate) fn is_brief_form(form: &Form) -> bool
+    ensures { IsTrue result ↔ IsBriefForm form.now }
+{
+    match form {
+        Form::Define(definition) => is_brief_definition(definition),
+        Form::ClassVars { class_name, names } => is_brief(class_name) && are_brief(names),
+        Form::Comment { class_name, text } => is_brief(class_name) && is_brief(text),
+        Form::RemoveMethod {
+            class_name,
+            selector,
+            ..
+        } => is_brief(class_name) && is_brief(selector),
+        Form::Classify {
+            class_name,
+            selector,
+            category,
+            ..
+        } => is_brief(class_name) && is_brief(selector) && is_brief(category),
+        Form::RemoveClass { class_name } => is_brief(class_name),
+        Form::NoChanges => true,
+    }
+}

@@ -2,7 +2,7 @@
 ghost use Rattle.std.specs.Prelude.{◌≡◌, ◌↔◌, IsTrue};
 ghost use Rattle.s80_base.specs.Literal.{literal_of, symbol, str};
 ghost use Rattle.s80_tree.specs.Tree.{doit_of, expr_of, message_of, messages_of, no_exprs, exprs};
-ghost use Rattle.s80_form.specs.TreeParts.{Finds, IsSending, all_sent, alone, argument, class_message, sending_of, to_side};
+ghost use Rattle.s80_form.specs.TreeParts.{Finds, IsOrganizing, IsSending, IsSentToName, all_sent, alone, argument, sending_of, to_organization, to_side};
 
 use s80_base::{Literal, Side, Text};
 use s80_syntax::{DoItTree, Expr, Message, Messages, NameAt, Primary, is_reserved};
@@ -20,16 +20,38 @@ pub struct Sending<'t> {
 pub fn only_sending(tree: &DoItTree) -> Option<Sending<'_>>
     ensures { Finds sending_of (IsSending (doit_of tree.now)) result }
 {
-    let (receiver, messages) = only_messages(only_expression(tree)?)?;
+    let (receiver, messages) = sent_to_name(tree)?;
     let (side, message) = side_and_message(messages)?;
-    if is_reserved(receiver.name.bytes()) {
-        return None;
-    }
     Some(Sending {
         receiver,
         side,
         message,
     })
+}
+
+/// What a doIt sends to an organization, where it is `N organization message` or, to that of the class side,
+/// `N class organization message`, and nothing else.
+pub fn only_organizing(tree: &DoItTree) -> Option<Sending<'_>>
+    ensures { Finds sending_of (IsOrganizing (doit_of tree.now)) result }
+{
+    let (receiver, messages) = sent_to_name(tree)?;
+    let (side, message) = organized_side(messages)?;
+    Some(Sending {
+        receiver,
+        side,
+        message,
+    })
+}
+
+/// The messages that a doIt sends to a name that is no reserved word, where it does nothing else.
+fn sent_to_name(tree: &DoItTree) -> Option<(&NameAt, &Messages)>
+    ensures { Finds (λ p. (p.0.now, messages_of p.1.now)) (IsSentToName (doit_of tree.now)) result }
+{
+    let (receiver, messages) = only_messages(only_expression(tree)?)?;
+    if is_reserved(receiver.name.bytes()) {
+        return None;
+    }
+    Some((receiver, messages))
 }
 
 /// The expression of a doIt that has no temporaries, and no other statement, and returns nothing.
@@ -69,17 +91,39 @@ fn side_and_message(messages: &Messages) -> Option<(Side, &Message)>
     if messages.count() != 2 {
         return None;
     }
-    if !is_to_class(messages.at(0)) {
+    if !is_unary(messages.at(0), b"class") {
         return None;
     }
     Some((Side::Class, messages.at(1)))
 }
 
-/// Whether a message asks for the class of a class.
-fn is_to_class(message: &Message) -> bool
-    ensures { IsTrue result ↔ (message_of message.now ≡ class_message) }
+/// The side to whose organization messages go, and the one message to it.
+fn organized_side(messages: &Messages) -> Option<(Side, &Message)>
+    ensures { Finds (λ p. (p.0, message_of p.1.now)) (λ p. messages_of messages.now ≡ to_organization p) result }
 {
-    message.selector.bytes() == b"class".as_slice() && message.arguments.count() == 0
+    if messages.count() == 2 {
+        if !is_unary(messages.at(0), b"organization") {
+            return None;
+        }
+        return Some((Side::Instance, messages.at(1)));
+    }
+    if messages.count() != 3 {
+        return None;
+    }
+    if !is_unary(messages.at(0), b"class") {
+        return None;
+    }
+    if !is_unary(messages.at(1), b"organization") {
+        return None;
+    }
+    Some((Side::Class, messages.at(2)))
+}
+
+/// Whether a message has this selector and no arguments.
+fn is_unary(message: &Message, selector: &[u8]) -> bool
+    ensures { IsTrue result ↔ (message_of message.now ≡ (selector.now, no_exprs)) }
+{
+    message.selector.bytes() == selector && message.arguments.count() == 0
 }
 
 /// The argument of a message with this selector, where it has one argument.

@@ -2,6 +2,7 @@ pub mod lemmas
 mod Counting
 mod Accepted
 mod Keeping
+mod Histories
 mod Readings
 pub mod OneList
 mod Replayed
@@ -13,3 +14,5 @@ mod Preparing
 pub mod Spells
 pub mod Pieces
 mod StandingSource
+mod ChangesPlaced
+mod ChangesRead

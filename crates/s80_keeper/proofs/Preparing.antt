@@ -1,5 +1,5 @@
 -- What preparing a change answers, as the state below says it.
-use Rattle.std.proofs.Common.{◌≡◌, ℕ, ◌+◌, ◌<◌, ◌≤◌, length, Some, Ok, Err, refl}
+use Rattle.std.proofs.Common.{ℕ, ◌+◌, ◌<◌, ◌≤◌, length, Ok, Err, refl}
 use Rattle.s80_change.specs.declared.change.Change.{Change}
 use Rattle.s80_form.specs.declared.refusal.Refused.{Refused}
 use Rattle.s80_form.specs.declared.refusal.Refused.TheVariants as refused

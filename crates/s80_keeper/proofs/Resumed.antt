@@ -14,6 +14,7 @@ use Rattle.s80_mark.specs.Found.{IsAnswer}
 use Rattle.s80_apply.specs.System.{SystemState, HasPlaces, IsSystemOf}
 use Rattle.s80_apply.specs.Placed.{placed_of}
 use Rattle.s80_apply.specs.List.{IsBuilt, state_of}
+use Rattle.s80_history.specs.History.{HistoryState, IsHistoryOf}
 use Rattle.s80_log.specs.Log.{LogEnd, held_in}
 use Rattle.s80_log.specs.Standing.{marked_part, StandsFor as StandsByMark}
 use Rattle.s80_keeper.specs.declared.start.Damage.TheVariants.{NoMark, BadMark, LogShort, BadBlock, Replay, CountDiffers}
@@ -23,6 +24,7 @@ use Rattle.s80_keeper.specs.Keeper.{KeeperState, Keeps}
 use Rattle.s80_keeper.specs.Standing.{NamesNoImage, ReadsFor}
 use Rattle.s80_keeper.specs.Start.{HasMark, IsStart, Started, log_length, fault_of_mark}
 use Rattle.s80_keeper.specs.Reading.{IsFound, IsCountChecked, AreReplayed}
+use Rattle.s80_keeper.proofs.Keeping.{all_kept, holds_all}
 use Rattle.s80_keeper.proofs.OneList.{one_mark, one_standing, some_log}
 use Rattle.s80_keeper.proofs.lemmas.Damages.{no_list}
 use Rattle.s80_keeper.proofs.Replayed.{held_length}
@@ -42,8 +44,8 @@ module _ (files : Image) (mark : MarkState) (has : HasMark files mark) (no_image
   log_of = record { number = mark.log; end = mark.log_length }
 
   -- all changes are accepted, and the mark counts them
-  pub replayed_start : (found : SystemState × ℕ) (keeper : KeeperState) → keeper.log ≡ log_of → keeper.system ≡ found.0 → keeper.count ≡ found.1 → (mark.format ≡ format_two → mark.count ≡ found.1) → AreReplayed (marked_part mark files) (Ok found) → IsStart files (Ok keeper)
-  replayed_start found keeper same_log same_system same counted is = (
+  pub replayed_start : (found : SystemState × HistoryState × ℕ) (keeper : KeeperState) → keeper.log ≡ log_of → keeper.system ≡ found.0 → keeper.history ≡ found.1 → keeper.count ≡ found.2 → (mark.format ≡ format_two → mark.count ≡ found.2) → AreReplayed (marked_part mark files) (Ok found) → IsStart files (Ok keeper)
+  replayed_start found keeper same_log same_system same_history same counted is = (
     is.0,
     inr (
       mark,
@@ -60,14 +62,16 @@ module _ (files : Image) (mark : MarkState) (has : HasMark files mark) (no_image
     ),
     record {
       log = ap (held_in files) same_log ∙ is.3;
+      lawful = is.1.lawful;
       system = subst (λ system. IsSystemOf system (state_of is.0)) (sym same_system) is.4;
       places = subst (λ system. HasPlaces system (placed_of is.0)) (sym same_system) is.6;
+      history = subst (λ history. IsHistoryOf history is.0) (sym same_history) is.7;
       count = same ∙ is.5;
     },
   )
 
   -- or it counts other than so many
-  pub miscounted_start : (found : SystemState × ℕ) (fault : StartFault) → IsCountChecked {T = Unit {0}} mark found.1 (Err fault) → AreReplayed (marked_part mark files) (Ok found) → IsStart files (Err fault)
+  pub miscounted_start : (found : SystemState × HistoryState × ℕ) (fault : StartFault) → IsCountChecked {T = Unit {0}} mark found.2 (Err fault) → AreReplayed (marked_part mark files) (Ok found) → IsStart files (Err fault)
   miscounted_start found faults.Memory checked is = absurd checked
   miscounted_start found (faults.Disk failed) checked is = absurd checked
   miscounted_start found (faults.Damaged (NoMark count)) checked is = absurd checked
@@ -149,6 +153,7 @@ module _ (tells : Bool) (reads : Image) (before now : Image → Type 0) (mark : 
     log = record { number = mark.log; end = mark.log_length };
     mark = mark;
     system = keeper.system;
+    history = keeper.history;
     count = keeper.count;
     fault = None;
   }) → Started result tells reads now changes
@@ -156,16 +161,16 @@ module _ (tells : Bool) (reads : Image) (before now : Image → Type 0) (mark : 
   started_mark (Err (faults.Disk failed)) is keeper_is = tt
   started_mark (Err (faults.Damaged damage)) is keeper_is = no_list reads damage changes is (inr (mark, stands_by.0.files, stands_by.1, stands_by.2))
   started_mark (Ok keeper) is keeper_is =
-      let P : KeeperState → Type 0 = λ k. Keeps tells reads now k changes in
+      let P : KeeperState → Type 0 = λ k. Keeps tells reads now k changes changes in
       let same = one_standing reads is.0 changes is.1 (inr (mark, stands_by.0.files, stands_by.1, stands_by.2)) in
       subst P (sym keeper_is) record {
-        stands = stands_by.0;
+        holds = holds_all tells reads now (record { number = mark.log; end = mark.log_length }) mark changes stands_by.0 refl refl;
+        front = all_kept changes;
         no_image = stands_by.1;
-        named = refl;
-        end = refl;
         built = stands_by.2;
         system = subst (λ list. IsSystemOf keeper.system (state_of list)) same is.2.system;
         places = subst (λ list. HasPlaces keeper.system (placed_of list)) same is.2.places;
+        history = subst (λ list. IsHistoryOf keeper.history list) same is.2.history;
         count = is.2.count ∙ ap length same;
         faultless = refl;
       }

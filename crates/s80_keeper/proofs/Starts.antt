@@ -14,11 +14,13 @@ use Rattle.s80_mark.specs.Init.{SyncsFirst}
 use Rattle.s80_apply.specs.State.{kernel_state}
 use Rattle.s80_apply.specs.Placed.{placed_kernel_state}
 use Rattle.s80_apply.specs.System.{SystemState, HasPlaces, IsSystemOf}
+use Rattle.s80_history.specs.History.{HistoryState, IsHistoryOf}
 use Rattle.s80_log.specs.Log.{LogEnd, held_in}
 use Rattle.s80_log.specs.Standing.{StandsFor as StandsByMark}
 use Rattle.s80_keeper.specs.Keeper.{KeeperState, Keeps}
 use Rattle.s80_keeper.specs.Standing.{ReadsFor, StandsFor, LeavesFor}
 use Rattle.s80_keeper.specs.Start.{IsStart, StartLeaves}
+use Rattle.s80_keeper.proofs.Keeping.{all_kept, holds_all}
 use Rattle.s80_keeper.proofs.OneList.{empty_list}
 use Rattle.s80_keeper.proofs.lemmas.Standing.{stands_leaves, reads_so}
 
@@ -52,34 +54,36 @@ module _ (tells : Bool) (reads : Image) (may_leave : Image → Type 0) (changes 
       let P : List Change → Type 0 = StandsFor tells reads may_leave in
       subst P (sym none) record { told = told; stands = inr (first_mark, stands_none (valid ∙ ap Some first), refl, tt) }
 
-  keeps_none : (system : SystemState) → IsSystemOf system kernel_state → HasPlaces system placed_kernel_state → valid_mark (reads Mark) ≡ Some first_mark → Keeps tells reads may_leave (record { log = record { number = 0; end = 0 }; mark = first_mark; system = system; count = 0; fault = None }) []
-  keeps_none system kernel places valid = record {
-    stands = stands_none valid;
+  keeps_none : (system : SystemState) (history : HistoryState) → IsSystemOf system kernel_state → HasPlaces system placed_kernel_state → IsHistoryOf history [] → valid_mark (reads Mark) ≡ Some first_mark → Keeps tells reads may_leave (record { log = record { number = 0; end = 0 }; mark = first_mark; system = system; history = history; count = 0; fault = None }) [] []
+  keeps_none system history kernel places noted valid = record {
+    holds = holds_all tells reads may_leave (record { number = 0; end = 0 }) first_mark [] (stands_none valid) refl refl;
+    front = all_kept [];
     no_image = refl;
-    named = refl;
-    end = refl;
     built = tt;
     system = kernel;
     places = places;
+    history = noted;
     count = refl;
     faultless = refl;
   }
 
-  pub first_keeps : (log : LogEnd) (mark : MarkState) (system : SystemState) (keeper : KeeperState) → log ≡ record { number = 0; end = 0 } → mark ≡ first_mark → IsSystemOf system kernel_state → HasPlaces system placed_kernel_state → valid_mark (reads Mark) ≡ Some mark → keeper ≡ record { log = log; mark = mark; system = system; count = 0; fault = None } → Keeps tells reads may_leave keeper changes
-  first_keeps log mark system keeper log_is first kernel places valid is =
-      let P : List Change → KeeperState → Type 0 = λ l k. Keeps tells reads may_leave k l in
-      let made : keeper ≡ record { log = record { number = 0; end = 0 }; mark = first_mark; system = system; count = 0; fault = None } = is ∙ (λ i. record { log = log_is i; mark = first i; system = system; count = 0; fault = None }) in
-      subst (λ l. P l keeper) (sym none) (subst (P []) (sym made) (keeps_none system kernel places (valid ∙ ap Some first)))
+  pub first_keeps : (log : LogEnd) (mark : MarkState) (system : SystemState) (history : HistoryState) (keeper : KeeperState) → log ≡ record { number = 0; end = 0 } → mark ≡ first_mark → IsSystemOf system kernel_state → HasPlaces system placed_kernel_state → IsHistoryOf history [] → valid_mark (reads Mark) ≡ Some mark → keeper ≡ record { log = log; mark = mark; system = system; history = history; count = 0; fault = None } → Keeps tells reads may_leave keeper changes changes
+  first_keeps log mark system history keeper log_is first kernel places noted valid is =
+      let P : List Change → KeeperState → Type 0 = λ l k. Keeps tells reads may_leave k l l in
+      let made : keeper ≡ record { log = record { number = 0; end = 0 }; mark = first_mark; system = system; history = history; count = 0; fault = None } = is ∙ (λ i. record { log = log_is i; mark = first i; system = system; history = history; count = 0; fault = None }) in
+      subst (λ l. P l keeper) (sym none) (subst (P []) (sym made) (keeps_none system history kernel places noted (valid ∙ ap Some first)))
 
 -- empty logs are those of no change
-pub first_start : (reads : Image) (log : LogEnd) (mark : MarkState) (system : SystemState) (keeper : KeeperState) → AreLogsEmpty reads → log ≡ record { number = 0; end = 0 } → IsSystemOf system kernel_state → HasPlaces system placed_kernel_state → keeper ≡ record { log = log; mark = mark; system = system; count = 0; fault = None } → IsStart reads (Ok keeper)
-first_start reads log mark system keeper empty first kernel places is = (
+pub first_start : (reads : Image) (log : LogEnd) (mark : MarkState) (system : SystemState) (history : HistoryState) (keeper : KeeperState) → AreLogsEmpty reads → log ≡ record { number = 0; end = 0 } → IsSystemOf system kernel_state → HasPlaces system placed_kernel_state → IsHistoryOf history [] → keeper ≡ record { log = log; mark = mark; system = system; history = history; count = 0; fault = None } → IsStart reads (Ok keeper)
+first_start reads log mark system history keeper empty first kernel places noted is = (
   [],
   inl (empty, refl),
   record {
     log = ap (λ (k : KeeperState). held_in reads k.log) is ∙ ap (held_in reads) first;
+    lawful = All-nil IsLawful;
     system = subst (λ s. IsSystemOf s kernel_state) (sym (ap (λ (k : KeeperState). k.system) is)) kernel;
     places = subst (λ s. HasPlaces s placed_kernel_state) (sym (ap (λ (k : KeeperState). k.system) is)) places;
+    history = subst (λ h. IsHistoryOf h []) (sym (ap (λ (k : KeeperState). k.history) is)) noted;
     count = ap (λ (k : KeeperState). k.count) is;
   },
 )

@@ -11,6 +11,7 @@ use Rattle.s80_apply.specs.State.{State}
 use Rattle.s80_apply.specs.Placed.{PlacedState}
 use Rattle.s80_apply.specs.List.{refusal_to}
 use Rattle.s80_apply.specs.System.{SystemState, IsReady, IsInstalled, Makes, MakesPlaces}
+use Rattle.s80_history.specs.History.{IsReadyFor}
 use Rattle.s80_log.specs.Log.{LogEnd}
 use Rattle.s80_log.specs.Commit.{next_mark}
 use Rattle.s80_keeper.specs.declared.keep.KeepFault.{KeepFault}
@@ -22,6 +23,11 @@ use Rattle.s80_keeper.specs.Standing.{FilesStandFor}
 pub record PreparedChange : Type 0 where
   pub change : Change
   pub step : Step
+
+-- the keeper has all memory that keeping it takes, and its step fits the classes and methods
+pub record CanKeep (keeper : KeeperState) (prepared : PreparedChange) : Type 0 where
+  pub step : IsReady keeper.system prepared.step
+  pub noted : IsReadyFor keeper.history prepared.change
 
 -- it was prepared in this state: the step makes of the system what accepting the change makes of the state
 pub record IsFor (state : State) (system : SystemState) (prepared : PreparedChange) : Type 0 where
@@ -38,6 +44,11 @@ Prepares state end change now (Ok prepared) = (prepared.change ≡ change) × Is
 Prepares state end change now (Err refused.Memory) = ⊤
 Prepares state end change now (Err (refused.Refusal refusal)) = refusal_to state end change ≡ Some refusal
 
+-- a change that was prepared, by its block and its step
+abbrev pub prepared_of : Change → Result (List ℕ × Step) Refused → Result PreparedChange Refused
+prepared_of change (Ok p) = Ok (record { change = change; step = p.1 })
+prepared_of change (Err refused) = Err refused
+
 abbrev pub longer : LogEnd → ℕ → LogEnd
 longer log size = record log { end = log.end + size }
 
@@ -51,6 +62,7 @@ AfterKeeping (Ok place) prepared before now = IsInstalled before.system prepared
   log = longer before.log (length (block prepared.change));
   mark = next_mark before.mark (longer before.log (length (block prepared.change))) (one_more before.count);
   system = now.system;
+  history = now.history;
   count = one_more before.count;
 })
 AfterKeeping (Err (faults.Disk failed)) prepared before now = now ≡ record before { fault = Some failed }
@@ -62,10 +74,10 @@ AfterKeeping (Err (faults.Damaged damage)) prepared before now = ⊥
 -- After a change was to be kept behind a list: it is kept; or its log is full, and the list is kept as before; or the disk failed, and a
 -- crash now leaves the one list or the other.
 abbrev pub Kept : Result ℕ KeepFault → Bool → Image → (Image → Type 0) → KeeperState → List Change → Change → Type 0
-Kept (Ok place) tells reads may_leave keeper changes change = Keeps tells reads may_leave keeper (changes ++ change ∷ [])
+Kept (Ok place) tells reads may_leave keeper changes change = Keeps tells reads may_leave keeper (changes ++ change ∷ []) (changes ++ change ∷ [])
 Kept (Err (faults.Disk failed)) tells reads may_leave keeper changes change = (c : Image) → may_leave c → FilesStandFor c changes ⊎ FilesStandFor c (changes ++ change ∷ [])
 Kept (Err (faults.Closed failed)) tells reads may_leave keeper changes change = ⊥
-Kept (Err (faults.Full count)) tells reads may_leave keeper changes change = Keeps tells reads may_leave keeper changes
+Kept (Err (faults.Full count)) tells reads may_leave keeper changes change = Keeps tells reads may_leave keeper changes changes
 Kept (Err faults.Memory) tells reads may_leave keeper changes change = ⊥
 Kept (Err (faults.Damaged damage)) tells reads may_leave keeper changes change = ⊥
 

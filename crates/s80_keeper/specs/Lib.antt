@@ -6,3 +6,4 @@ pub mod Answers
 pub mod Source
 pub mod Unspelled
 pub mod SourceAt
+pub mod ChangesAt

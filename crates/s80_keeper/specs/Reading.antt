@@ -14,6 +14,7 @@ use Rattle.s80_apply.specs.State.{State}
 use Rattle.s80_apply.specs.System.{SystemState, HasPlaces, IsSystemOf}
 use Rattle.s80_apply.specs.Placed.{placed_of}
 use Rattle.s80_apply.specs.List.{IsBuilt, state_of, state_after, refusal_to, add}
+use Rattle.s80_history.specs.History.{HistoryState, IsHistoryOf}
 use Rattle.s80_log.specs.Log.{LogEnd, log_file}
 use Rattle.s80_change.specs.Blocks.{BeginsWithNone}
 use Rattle.s80_keeper.specs.declared.start.Damage.TheVariants.{LogShort, BadBlock, Replay, CountDiffers}
@@ -45,11 +46,12 @@ IsCountChecked mark count (Err (faults.Damaged _)) = ⊥
 IsCountChecked mark count (Err faults.Memory) = ⊥
 IsCountChecked mark count (Err (faults.Disk failed)) = ⊥
 
--- the list whose blocks bytes are, by its length and the state that it makes, with the places of its sources; or what is wrong with them
-abbrev pub AreReplayed : List ℕ → Result (SystemState × ℕ) StartFault → Type 0
+-- the list whose blocks bytes are, by the state that it makes, with the places of its sources, its change set and versions, and its length; or
+-- what is wrong with them
+abbrev pub AreReplayed : List ℕ → Result (SystemState × HistoryState × ℕ) StartFault → Type 0
 AreReplayed bytes (Ok found) =
-    (changes : List Change) × IsList changes × IsBuilt changes × (bytes ≡ blocks changes) × IsSystemOf found.0 (state_of changes) × (found.1 ≡ length changes)
-    × HasPlaces found.0 (placed_of changes)
+    (changes : List Change) × IsList changes × IsBuilt changes × (bytes ≡ blocks changes) × IsSystemOf found.0 (state_of changes) × (found.2 ≡ length changes)
+    × HasPlaces found.0 (placed_of changes) × IsHistoryOf found.1 changes
 AreReplayed bytes (Err (faults.Damaged (BadBlock place))) =
     (changes : List Change) × (rest : List ℕ) × IsList changes × IsBuilt changes × (bytes ≡ blocks changes ++ rest) × (place ≡ length (blocks changes)) × (place ≢ length bytes) × BeginsWithNone rest
 AreReplayed bytes (Err (faults.Damaged (Replay place number))) =

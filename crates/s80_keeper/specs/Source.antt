@@ -8,18 +8,17 @@ use Rattle.s80_log.specs.declared.read.BlockFault.TheVariants as block_faults
 use Rattle.s80_keeper.specs.SourceAt.{IsRead}
 use Rattle.s80_keeper.specs.declared.keep.KeepFault.{KeepFault}
 use Rattle.s80_keeper.specs.declared.keep.KeepFault.TheVariants as faults
-use Rattle.s80_keeper.specs.declared.start.Damage.{Damage}
 use Rattle.s80_keeper.specs.declared.start.Damage.TheVariants.{BadBlock}
 use Rattle.s80_keeper.specs.Keeper.{KeeperState}
 
--- it is this source, if there is one; or it isn't known
-abbrev pub IsThis : Option (List ℕ) → Result (Option (List ℕ)) KeepFault → Type 0
-IsThis source (Ok found) = found ≡ source
-IsThis source (Err faults.Memory) = ⊤
-IsThis source (Err (faults.Disk failed)) = ⊤
-IsThis source (Err (faults.Closed failed)) = ⊤
-IsThis source (Err (faults.Full count)) = ⊥
-IsThis source (Err (faults.Damaged damage)) = ⊥
+-- it is this; or it isn't known
+abbrev pub IsThis : {T : Type 0} → T → Result T KeepFault → Type 0
+IsThis wanted (Ok found) = found ≡ wanted
+IsThis wanted (Err faults.Memory) = ⊤
+IsThis wanted (Err (faults.Disk failed)) = ⊤
+IsThis wanted (Err (faults.Closed failed)) = ⊤
+IsThis wanted (Err (faults.Full count)) = ⊥
+IsThis wanted (Err (faults.Damaged damage)) = ⊥
 
 -- it is read where the method's entry says, if there is one; or a text has no source there
 abbrev pub IsReadBy : Image → KeeperState → Option Entry → Result (Option (List ℕ)) KeepFault → Type 0
@@ -40,7 +39,7 @@ IsPlaced entry (Err (faults.Damaged damage)) = (own : Entry) × (entry ≡ Some 
 IsPlaced entry (Err (faults.Full count)) = ⊥
 IsPlaced entry _ = ⊤
 
--- the keeper after a source was to be read
-abbrev pub after_reading : Result (Option (List ℕ)) KeepFault → KeeperState → KeeperState
+-- the keeper after something was to be read
+abbrev pub after_reading : {T : Type 0} → Result T KeepFault → KeeperState → KeeperState
 after_reading (Err (faults.Disk failed)) keeper = record keeper { fault = Some failed }
 after_reading _ keeper = keeper

@@ -66,7 +66,7 @@ IsStart files (Err (faults.Disk failed)) = ⊤
 
 -- after a start on a disk that reads for this list
 abbrev pub Started : Result KeeperState StartFault → Bool → Image → (Image → Type 0) → List Change → Type 0
-Started (Ok keeper) tells reads may_leave changes = Keeps tells reads may_leave keeper changes
+Started (Ok keeper) tells reads may_leave changes = Keeps tells reads may_leave keeper changes changes
 Started (Err faults.Memory) tells reads may_leave changes = StandsFor tells reads may_leave changes
 Started (Err (faults.Disk failed)) tells reads may_leave changes = ⊤
 Started (Err (faults.Damaged damage)) tells reads may_leave changes = ⊥

@@ -1,24 +1,28 @@
 // The keeping of a change.
-ghost use Rattle.std.specs.Prelude.{◌≡◌, ◌≢◌, ◌⊎◌, ◌↔◌, ◌<◌, ◌≤◌, ◌+◌, ◌∷◌, [], ◌++◌, List, ℕ, length, Some, None, Err, IfOk};
+ghost use Rattle.std.specs.Prelude.{All, ◌≡◌, ◌≢◌, ◌⊎◌, ◌↔◌, ◌<◌, ◌≤◌, ◌+◌, ◌^◌, ◌∷◌, [], ◌++◌, List, ℕ, length, Some, None, Err, IfOk, ⊤};
 ghost use Rattle.s80_base.specs.Causes.{Rose};
 ghost use Rattle.s80_base.specs.declared.outside.Call.TheVariants.{Read, Write, Sync};
 ghost use Rattle.s80_change.specs.declared.change.Change.{Change};
-ghost use Rattle.s80_change.specs.Block.{block, log_limit, IsLawful};
+ghost use Rattle.s80_change.specs.Block.{block, blocks, log_limit, IsLawful};
 ghost use Rattle.s80_disk.specs.declared.disk.FileId.{FileId};
 ghost use Rattle.s80_disk.specs.declared.disk.FileId.TheVariants.{Mark};
 ghost use Rattle.s80_disk.specs.Moments.{Beside, LeavesOnly};
 ghost use Rattle.s80_apply.specs.List.{state_of};
+ghost use Rattle.s80_apply.specs.System.{IsInstalled, IsReady};
+ghost use Rattle.s80_history.specs.History.{IsHistoryOf, IsReadyFor};
 ghost use Rattle.s80_apply.specs.Placed.{placed_of};
-ghost use Rattle.s80_apply.specs.System.{IsReady};
+ghost use Rattle.s80_log.specs.Commit.{LeavesBeside};
 ghost use Rattle.s80_log.specs.Log.{log_file};
 ghost use Rattle.s80_keeper.specs.Keeper.{Keeps};
 ghost use Rattle.s80_keeper.specs.Standing.{LeavesEither};
-ghost use Rattle.s80_keeper.specs.Answers.{AfterKeeping, IsFor, Kept, IfKeepDisk, PlacesFor, UnlessKeepDisk};
+ghost use Rattle.s80_keeper.specs.Answers.{AfterKeeping, CanKeep, IsFor, Kept, IfKeepDisk, PlacesFor, UnlessKeepDisk};
 
 use crate::keeper::{Keeper, Prepared};
 use crate::start::Damage;
-use s80_base::Failed;
+use s80_apply::System;
+use s80_base::{Failed, OutOfMemory};
 use s80_disk::Disk;
+use s80_history::History;
 use s80_log::LogFault;
 use thiserror::Error;
 
@@ -39,23 +43,33 @@ pub enum KeepFault {
     Damaged(Damage),
 }
 
+impl From<OutOfMemory> for KeepFault {
+    ghost use Rattle.s80_keeper.specs.declared.keep.KeepFault.TheVariants.{Memory};
+
+    ghost from_gives = { λ _ fault. fault ≡ Memory };
+
+    fn from(_: OutOfMemory) -> Self {
+        KeepFault::Memory
+    }
+}
+
 impl Keeper {
     /// Keeps a change: writes its block behind the log, and commits. Answers where the block begins.
     /// Takes no memory.
     pub fn keep<D: Disk>(&mut self, disk: &mut D, prepared: Prepared) -> Result<u64, KeepFault>
-        requires { IsReady self.old.system prepared.step }
+        requires { CanKeep self.old prepared }
         ensures after { AfterKeeping result prepared self.old self.new }
         ensures place { IfOk result (λ at. at ≡ self.old.log.end) }
 
         // From a disk that stands for a list, a crash at any moment, inside a write too, leaves files that stand for it or for the list with
         // the change; after Ok the disk stands for that.
         ensures any_moment { (changes : List Change)
-            → Keeps (D.tells disk.old) (D.reads disk.old) (D.may_leave disk.old) self.old changes → IsLawful prepared.change → IsFor (state_of changes) self.old.system prepared
+            → Keeps (D.tells disk.old) (D.reads disk.old) (D.may_leave disk.old) self.old changes changes → IsLawful prepared.change → IsFor (state_of changes) self.old.system prepared
             → PlacesFor (placed_of changes) self.old.system prepared
             → LeavesOnly D.moment D.left_since disk.old disk.new
             (LeavesEither (D.beside disk.old).told changes (changes ++ prepared.change ∷ [])) }
         ensures kept { (changes : List Change)
-            → Keeps (D.tells disk.old) (D.reads disk.old) (D.may_leave disk.old) self.old changes → IsLawful prepared.change → IsFor (state_of changes) self.old.system prepared
+            → Keeps (D.tells disk.old) (D.reads disk.old) (D.may_leave disk.old) self.old changes changes → IsLawful prepared.change → IsFor (state_of changes) self.old.system prepared
             → PlacesFor (placed_of changes) self.old.system prepared
             → Kept result (D.tells disk.new) (D.reads disk.new) (D.may_leave disk.new) self.new changes prepared.change }
 
@@ -66,6 +80,10 @@ impl Keeper {
             ↔ ((self.old.fault ≡ None) × (n ≡ self.old.log.end) × (log_limit < self.old.log.end + length (block prepared.change))) }
         ensures unfit { log_limit < self.old.log.end + length (block prepared.change) → disk.new ≡ disk.old }
 
+        // Whatever the disk stands for, but for the mark and the log a crash at any moment leaves the files of an image that one might have left
+        // before.
+        ensures elsewhere { LeavesOnly D.moment D.left_since disk.old disk.new
+            (LeavesBeside (D.may_leave disk.old) (D.beside disk.old).told (log_file self.old.log.number) (λ c. ⊤)) }
         ensures others { (other : FileId) → other ≢ Mark → other ≢ log_file self.old.log.number
             → D.reads disk.new other ≡ D.reads disk.old other }
         ensures tells { D.tells disk.new ≡ D.tells disk.old }
@@ -75,25 +93,44 @@ impl Keeper {
         ensures faults_stay { UnlessKeepDisk result (D.disk_faults disk.new ≡ D.disk_faults disk.old) }
         ensures named { IfKeepDisk result (λ failed. (failed.call ≡ Read) ⊎ (failed.call ≡ Write) ⊎ (failed.call ≡ Sync)) }
     {
-        let (block, step) = prepared.parts();
+        // What was prepared is let go by calls: at the end of a scope each of its forms would be a case of the proof.
         if let Some(failed) = self.fault {
+            drop(prepared);
             return Err(KeepFault::Closed(failed));
         }
         let count = self.count.saturating_add(1);
         match self
             .log
-            .append_and_commit(disk, &mut self.mark, &block, count)
+            .append_and_commit(disk, &mut self.mark, prepared.block(), count)
         {
             Ok(at) => {
-                self.system.install(step, at);
+                take_in(&mut self.system, &mut self.history, prepared, at);
                 self.count = count;
                 Ok(at)
             }
             Err(LogFault::Disk(failed)) => {
+                drop(prepared);
                 self.fault = Some(failed);
                 Err(KeepFault::Disk(failed))
             }
-            Err(LogFault::Full(length)) => Err(KeepFault::Full(length)),
+            Err(LogFault::Full(length)) => {
+                drop(prepared);
+                Err(KeepFault::Full(length))
+            }
         }
     }
+}
+
+/// Installs and notes a prepared change, whose block begins at this place. Takes no memory.
+fn take_in(system: &mut System, history: &mut History, prepared: Prepared, at: u64)
+    requires step { IsReady system.old prepared.step }
+    requires noted { IsReadyFor history.old prepared.change }
+    requires place { at + length (block prepared.change) < 2 ^ 64 }
+    ensures system { IsInstalled system.old prepared.step at system.new }
+    ensures history { (changes : List Change) → All IsLawful (changes ++ prepared.change ∷ []) → at ≡ length (blocks changes)
+        → IsHistoryOf history.old changes → IsHistoryOf history.new (changes ++ prepared.change ∷ []) }
+{
+    let (change, step) = prepared.parts();
+    system.install(step, at);
+    history.note(&change, at);
 }

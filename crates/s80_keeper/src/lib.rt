@@ -1,6 +1,7 @@
 //! The keeper of one list of changes on a disk: it finds the list at the start, keeps each change so that no crash loses it, and reads sources again.
 #![tactic(auto)]
 
+mod changes_at;
 mod keep;
 mod keeper;
 mod laws;

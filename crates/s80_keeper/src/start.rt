@@ -1,9 +1,9 @@
 // The start: the list for which the files stand, or what is wrong with them.
-ghost use Rattle.std.specs.Prelude.{◌≡◌, ◌≢◌, ◌⊎◌, ◌<◌, ◌≤◌, ◌+◌, ◌++◌, List, ℕ, length, None, IsTrue, IfOk};
+ghost use Rattle.std.specs.Prelude.{◌≡◌, ◌≢◌, ◌⊎◌, ◌<◌, ◌≤◌, ◌+◌, ◌++◌, ◌∷◌, [], All, List, ℕ, length, None, IsTrue, IfOk};
 ghost use Rattle.s80_base.specs.Causes.{Rose};
 ghost use Rattle.s80_base.specs.declared.outside.Call.TheVariants.{Length, Read, Write, Sync};
 ghost use Rattle.s80_change.specs.declared.change.Change.{Change};
-ghost use Rattle.s80_change.specs.Block.{block};
+ghost use Rattle.s80_change.specs.Block.{block, blocks, IsLawful};
 ghost use Rattle.s80_form.specs.Refusal.{refusal_number};
 ghost use Rattle.s80_disk.specs.declared.disk.FileId.{FileId};
 ghost use Rattle.s80_disk.specs.declared.disk.FileId.TheVariants.{Mark};
@@ -13,7 +13,8 @@ ghost use Rattle.s80_disk.specs.Untouched.{IsUntouched};
 ghost use Rattle.s80_mark.specs.Found.{IsLawfulFound, longer_log};
 ghost use Rattle.s80_apply.specs.State.{State};
 ghost use Rattle.s80_apply.specs.Placed.{PlacedState, placed_after};
-ghost use Rattle.s80_apply.specs.System.{HasPlaces, IsChecked, IsSystemOf};
+ghost use Rattle.s80_apply.specs.System.{HasPlaces, IsSystemOf};
+ghost use Rattle.s80_history.specs.History.{IsHistoryOf};
 ghost use Rattle.s80_log.specs.Log.{log_file, held_in};
 ghost use Rattle.s80_keeper.specs.Standing.{NamesNoImage, ReadsFor, StandsFor, LeavesFor};
 ghost use Rattle.s80_keeper.specs.Start.{HasMark, IsStart, Started, StartLeaves, IfStartDisk, UnlessStartDisk};
@@ -25,6 +26,7 @@ use s80_base::{Failed, OutOfMemory};
 use s80_change::Change;
 use s80_disk::{Disk, FileId};
 use s80_form::{Refusal, Refused};
+use s80_history::History;
 use s80_log::{BlockFault, LOG_LIMIT, Log};
 use s80_mark::{FORMAT_TWO, Found, MarkFault, MarkState, NO_IMAGE, init_mark, read_mark};
 use std::alloc::Global;
@@ -142,20 +144,27 @@ impl Keeper {
         match find_mark(disk)? {
             Found::Fresh => {
                 let mark = init_mark(disk)?;
-                Ok(Keeper::at(Log::resume(0, 0), mark, boot(alloc)?, 0))
+                Ok(Keeper::at(
+                    Log::resume(0, 0),
+                    mark,
+                    boot(alloc)?,
+                    History::empty(alloc),
+                    0,
+                ))
             }
             Found::Mark(mark) => Keeper::resume(alloc, disk, mark),
         }
     }
 
-    /// A keeper of so many changes in this log, with this mark and the state that they make.
-    fn at(log: Log, mark: MarkState, system: System, count: u64) -> Keeper
-        ensures { result ≡ record { log = log; mark = mark; system = system; count = count; fault = None } }
+    /// A keeper of so many changes in this log, with this mark, the state that they make, and their change set and versions.
+    fn at(log: Log, mark: MarkState, system: System, history: History, count: u64) -> Keeper
+        ensures { result ≡ record { log = log; mark = mark; system = system; history = history; count = count; fault = None } }
     {
         Keeper {
             log,
             mark,
             system,
+            history,
             count,
             fault: None,
         }
@@ -169,6 +178,7 @@ impl Keeper {
           log = record { number = mark.log; end = mark.log_length };
           mark = mark;
           system = keeper.system;
+          history = keeper.history;
           count = keeper.count;
           fault = None;
         }) }
@@ -183,9 +193,9 @@ impl Keeper {
         }
         let log = Log::resume(mark.log, mark.log_length);
         check_length(disk, &log)?;
-        let (system, count) = replay(alloc, disk, &log)?;
+        let (system, history, count) = replay(alloc, disk, &log)?;
         check_count(&mark, count)?;
-        Ok(Keeper::at(log, mark, system, count))
+        Ok(Keeper::at(log, mark, system, history, count))
     }
 }
 
@@ -228,8 +238,12 @@ fn check_count(mark: &MarkState, found: u64) -> Result<(), StartFault>
     Ok(())
 }
 
-/// The state that the changes of a log make, and how many changes it keeps, by its blocks.
-fn replay<D: Disk>(alloc: Global, disk: &mut D, log: &Log) -> Result<(System, u64), StartFault>
+/// The state that the changes of a log make, their change set and versions, and how many there are, by its blocks.
+fn replay<D: Disk>(
+    alloc: Global,
+    disk: &mut D,
+    log: &Log,
+) -> Result<(System, History, u64), StartFault>
     ensures answer { IsTrue (D.tells disk.old) → log.now.end ≤ length (D.reads disk.old (log_file log.now.number))
         → AreReplayed (held_in (D.reads disk.old) log.now) result }
     ensures untouched { IsUntouched D.tells D.reads D.may_leave D.moment D.left_since D.beside D.disk_faults disk.old disk.new }
@@ -238,54 +252,61 @@ fn replay<D: Disk>(alloc: Global, disk: &mut D, log: &Log) -> Result<(System, u6
     ensures named { IfStartDisk result (λ failed. failed.call ≡ Read) }
 {
     let mut system = boot(alloc)?;
+    let mut history = History::empty(alloc);
     let mut count = 0;
     let mut at = 0;
     while at < log.length() {
         let (change, next) = log.read_block(alloc, disk, at)?;
-        accept_owned(alloc, &mut system, change, at, next)?;
+        accept_owned(alloc, &mut system, &mut history, change, at, next)?;
         count += 1;
         at = next;
     }
-    Ok((system, count))
+    Ok((system, history, count))
 }
 
 /// Has the change of a block accepted, which begins and ends at these places, and lets it go.
 fn accept_owned(
     alloc: Global,
     system: &mut System,
+    history: &mut History,
     change: Change,
     at: u64,
     next: u64,
 ) -> Result<(), StartFault>
     requires next { next ≡ at + length (block change) }
-    requires checked { IsChecked change }
     ensures answer { (state : State) → IsSystemOf system.old state → Accepts state system.new at change result }
     ensures places { (placed : PlacedState) → HasPlaces system.old placed → IfOk result (λ _. HasPlaces system.new (placed_after change at placed)) }
+    ensures history { (changes : List Change) → All IsLawful (changes ++ change ∷ []) → at ≡ length (blocks changes) → IsHistoryOf history.old changes
+        → IfOk result (λ _. IsHistoryOf history.new (changes ++ change ∷ [])) }
     ensures offline { IfStartDisk result (λ failed. ⊥) }
 {
-    accept(alloc, system, &change, at, next)
+    accept(alloc, system, history, &change, at, next)
 }
 
 /// Has the change of a block accepted, which begins and ends at these places.
 fn accept(
     alloc: Global,
     system: &mut System,
+    history: &mut History,
     change: &Change,
     at: u64,
     next: u64,
 ) -> Result<(), StartFault>
     requires next { next ≡ at + length (block change.now) }
-    requires checked { IsChecked change.now }
     ensures answer { (state : State) → IsSystemOf system.old state → Accepts state system.new at change.now result }
     ensures places { (placed : PlacedState) → HasPlaces system.old placed → IfOk result (λ _. HasPlaces system.new (placed_after change.now at placed)) }
+    ensures history { (changes : List Change) → All IsLawful (changes ++ change.now ∷ []) → at ≡ length (blocks changes) → IsHistoryOf history.old changes
+        → IfOk result (λ _. IsHistoryOf history.new (changes ++ change.now ∷ [])) }
     ensures offline { IfStartDisk result (λ failed. ⊥) }
 {
+    history.reserve(alloc, change)?;
     match system.prepare(alloc, change) {
         Err(Refused::Memory) => Err(StartFault::Memory),
         Err(Refused::Refusal(refusal)) => Err(refused(at, &refusal)),
         Ok(_) if next > LOG_LIMIT => Err(refused(at, &Refusal::LogFull(at))),
         Ok(step) => {
             system.install(step, at);
+            history.note(change, at);
             Ok(())
         }
     }

@@ -1,8 +1,11 @@
 -- An append and a commit after it, as one.
-use Rattle.std.proofs.Common.{◌≡◌, inl, ℕ, Bool, List, take, sym, ap, ◌∙◌, arith}
+use Rattle.std.proofs.Common.{◌≡◌, ◌≢◌, inl, ℕ, Bool, List, take, sym, ap, ◌∙◌, arith}
+use Rattle.std.specs.Prelude.{⊤}
 use Rattle.s80_change.specs.declared.change.Change.{Change}
 use Rattle.s80_disk.specs.declared.disk.FileId.{FileId}
+use Rattle.s80_disk.specs.declared.disk.FileId.TheVariants.{Mark}
 use Rattle.s80_disk.specs.Image.{Image, Follows}
+use Rattle.s80_disk.specs.Moments.{ComesFrom}
 use Rattle.s80_mark.specs.declared.mark.MarkState.{MarkState}
 use Rattle.s80_log.specs.Log.{LogEnd, log_file}
 use Rattle.s80_log.specs.Standing.{FilesStandFor, StandsFor}
@@ -35,3 +38,8 @@ beside_on P file change before mid told_before told_mid same follows told c leav
       was = from.1;
       others = λ other no_mark no_log. leaves.others other no_mark no_log ∙ from.2.others other no_log;
     }
+
+-- what comes from an image of before by a change of the mark or of the log
+pub elsewhere : (before : Image → Type 0) (told_before : ℕ) (log file : FileId) (change : List ℕ → List ℕ → Type 0) → ((other : FileId) → other ≢ Mark → other ≢ log → other ≢ file) → (told : ℕ) (c : Image) → ComesFrom before told_before file change told c → LeavesBeside before told_before log (λ d. ⊤) told c
+elsewhere before told_before log file change apart told c from =
+    record { told_is = from.told_is; here = tt; image = from.image; was = from.was; others = λ other no_mark no_log. from.step.others other (apart other no_mark no_log) }

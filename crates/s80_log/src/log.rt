@@ -1,5 +1,5 @@
 // The log at work: blocks are appended, and a commit makes them count.
-ghost use Rattle.std.specs.Prelude.{◌≡◌, ◌≢◌, ◌⊎◌, ◌↔◌, ◌+◌, ◌-◌, ◌<◌, ◌≤◌, nat_le, ◌++◌, ◌∷◌, [], ℕ, List, IsTrue, Some, Err, length, IfOk, OnOk, IfErr, OnErr, MatchResult};
+ghost use Rattle.std.specs.Prelude.{◌≡◌, ◌≢◌, ◌⊎◌, ◌↔◌, ◌+◌, ◌-◌, ◌<◌, ◌≤◌, nat_le, ◌++◌, ◌∷◌, [], ℕ, List, IsTrue, Some, Err, length, IfOk, OnOk, IfErr, OnErr, MatchResult, ⊤};
 ghost use Rattle.s80_base.specs.Causes.{HasCause, Rose};
 ghost use Rattle.s80_base.specs.declared.outside.Call.TheVariants.{Read, Write, Sync};
 ghost use Rattle.s80_change.specs.declared.change.Change.{Change};
@@ -256,6 +256,11 @@ impl Log {
             → D.may_leave disk.new c
             → StandForEither mark.old changes (next_mark mark.old (record self.old { end = self.old.end + length block.now }) count)
             (changes ++ change ∷ []) c }
+
+        // Whatever the disk stands for, but for the mark and this log a crash at any moment leaves the files of an image that one might have
+        // left before.
+        ensures elsewhere { LeavesOnly D.moment D.left_since disk.old disk.new
+            (LeavesBeside (D.may_leave disk.old) (D.beside disk.old).told (log_file self.old.number) (λ c. ⊤)) }
 
         ensures place { IfOk result (λ at. at ≡ self.old.end) }
         ensures end { MatchResult result (λ _. self.new ≡ record self.old { end = self.old.end + length block.now })

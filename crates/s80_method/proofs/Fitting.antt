@@ -1,5 +1,5 @@
 -- A source that fits has a tree that fits, and code of that tree is its code.
-use Rattle.std.proofs.Common.{◌≡◌, ◌<◌, ◌-◌, ◌^◌, ◌∙◌, ℕ, Bool, cond, true, false, nat_lt, refl, sym, ap, subst, List, None, arith}
+use Rattle.std.proofs.Common.{◌≡◌, ◌<◌, ◌-◌, ◌^◌, ◌∙◌, ℕ, Bool, cond, true, false, nat_lt, refl, sym, ap, subst, List, None, Ok, arith}
 use Rattle.std.proofs.lemmas.Bool.Decides.{nat_tests}
 use Rattle.s80_base.specs.declared.names.Side.{Side}
 use Rattle.s80_tree.specs.Tree.{MethodParts}
@@ -16,8 +16,7 @@ use Rattle.s80_scope.specs.declared.shape.Shape.{Shape}
 use Rattle.s80_code.specs.declared.code.Code.{Code}
 use Rattle.s80_compile.specs.Compiles.{Compiles}
 use Rattle.s80_class.specs.Classes.{Name, Classes}
-use Rattle.s80_change.specs.declared.source_check.SourceCheck.TheVariants.{Fits}
-use Rattle.s80_change.specs.Check.{IsCheckOf, too_large}
+use Rattle.s80_change.specs.Check.{IsCheckOf, too_large, size_refusal}
 use Rattle.s80_method.specs.Shape.{shape_of}
 use Rattle.s80_method.specs.Code.{IsMethodCode}
 
@@ -50,18 +49,23 @@ not_refused (fits.TooMuch k n) h = absurd (cc h)
 
 -- ---- the tree
 
-pub tree_fits : (source selector : List ℕ) (m : MethodParts) → IsMethodOf source m → IsCheckOf source (Fits selector) → fit (measures m) ≡ fits.Fits
-tree_fits source selector m is (n, also, none, same) =
-    subst (λ (x : MethodParts). fit (measures x) ≡ fits.Fits) (one_method_of source n m also is) (uncut (measures n) (not_refused (fit (cut_measures (measures n))) none))
+pub size_fits : (m : MethodParts) → size_refusal m ≡ None → fit (measures m) ≡ fits.Fits
+size_fits m none = uncut (measures m) (not_refused (fit (cut_measures (measures m))) none)
 
-selector_is : (source selector : List ℕ) (m : MethodParts) → IsMethodOf source m → IsCheckOf source (Fits selector) → m.selector ≡ selector
+pub no_refusal : (source selector : List ℕ) (m : MethodParts) → IsMethodOf source m → IsCheckOf source (Ok selector) → size_refusal m ≡ None
+no_refusal source selector m is (n, also, none, same) = subst (λ (x : MethodParts). size_refusal x ≡ None) (one_method_of source n m also is) none
+
+pub tree_fits : (source selector : List ℕ) (m : MethodParts) → IsMethodOf source m → IsCheckOf source (Ok selector) → fit (measures m) ≡ fits.Fits
+tree_fits source selector m is check = size_fits m (no_refusal source selector m is check)
+
+pub selector_is : (source selector : List ℕ) (m : MethodParts) → IsMethodOf source m → IsCheckOf source (Ok selector) → m.selector ≡ selector
 selector_is source selector m is (n, also, none, same) = sym (same ∙ ap (λ (x : MethodParts). x.selector) (one_method_of source n m also is))
 
-pub is_code : (classes : Classes) (name owner : Name) (side : Side) (selector source : List ℕ) (m : MethodParts) (shape : Shape) (code : Code) → IsMethodOf source m → IsCheckOf source (Fits selector)
-    → shape ≡ shape_of classes name side → owner ≡ name → Compiles m shape owner side code → IsMethodCode classes name side selector source code
-is_code classes name owner side selector source m shape code is check sees own compiled = record {
+pub is_code : (classes : Classes) (name owner : Name) (side : Side) (source : List ℕ) (m : MethodParts) (shape : Shape) (code : Code) → IsMethodOf source m
+    → shape ≡ shape_of classes name side → owner ≡ name → Compiles m shape owner side code → IsMethodCode classes name side m.selector source code
+is_code classes name owner side source m shape code is sees own compiled = record {
   tree = m;
   tree_is = is;
-  selector_is = selector_is source selector m is check;
+  selector_is = refl;
   compiles = subst (λ (s : Shape). Compiles m s name side code) sees (subst (λ (n : Name). Compiles m shape n side code) own compiled);
 }

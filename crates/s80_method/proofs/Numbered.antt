@@ -62,7 +62,7 @@ ended table line rest all none is = sym (ap (told table line) none ∙ append-ni
 abbrev pub had : {A : Type 0} → (Class → List A) → Option Class → List A
 had f o = unwrap_or (option_map f o) []
 
-map_reverse : {A B : Type 0} (f : A → B) (xs : List A) → list_map f (reverse xs) ≡ reverse (list_map f xs)
+pub map_reverse : {A B : Type 0} (f : A → B) (xs : List A) → list_map f (reverse xs) ≡ reverse (list_map f xs)
 map_reverse f [] = refl
 map_reverse f (x ∷ xs) =
     ap (list_map f) (reverse_onto xs x []) ∙ map-append f (reverse xs) (x ∷ []) ∙ ap (λ l. l ++ f x ∷ []) (map_reverse f xs) ∙ sym (reverse_onto (list_map f xs) (f x) [])

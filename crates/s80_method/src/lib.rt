@@ -5,6 +5,6 @@ mod code;
 mod laws;
 mod shape;
 
-pub use code::compile_source;
+pub use code::{compile_source, compile_tree};
 pub use laws::shapes_have_as_many_variables;
 pub use shape::shape_of;

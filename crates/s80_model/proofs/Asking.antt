@@ -6,9 +6,7 @@ use Rattle.s80_syntax.specs.Faults.{IsDoItText}
 use Rattle.s80_syntax.specs.Text.{IsDoItOf}
 use Rattle.s80_syntax.proofs.lemmas.OneReading.{one_doit_of, doit_only_memory}
 use Rattle.s80_change.specs.declared.change.Change.{Change}
-use Rattle.s80_change.specs.declared.change.Change.TheVariants.{Define, Method, DoIt}
-use Rattle.s80_change.specs.declared.source_check.SourceCheck.{SourceCheck}
-use Rattle.s80_change.proofs.lemmas.TextOf.{one_definition_of}
+use Rattle.s80_change.specs.declared.change.Change.TheVariants.{Form, Method, DoIt}
 use Rattle.s80_form.specs.declared.refusal.Refusal.{Refusal}
 use Rattle.s80_form.specs.declared.refusal.Refusal.TheVariants as refusals
 use Rattle.s80_change.specs.declared.head.SectionHead.{SectionHead}
@@ -21,11 +19,14 @@ use Rattle.s80_form.specs.declared.refusal.SyntaxKind.{SyntaxKind}
 use Rattle.s80_form.specs.declared.refusal.SyntaxKind.TheVariants as kinds
 use Rattle.s80_model.specs.declared.item.SessionItem.{SessionItem}
 use Rattle.s80_model.specs.declared.item.SessionItem.TheVariants.{Chunk, Unended, Query}
-use Rattle.s80_form.specs.Definition.{IsDefinitionOf, IsNoDefinition}
+use Rattle.s80_form.specs.declared.form.Form.{Form as FormOfDoIt}
+use Rattle.s80_form.specs.declared.form.Recognised.TheVariants as recognised
+use Rattle.s80_form.specs.Form.{IsFormText, IsNoFormText, IsSnapshot, IsSnapshotText}
+use Rattle.s80_form.proofs.lemmas.OneForm.{form_of_text_same, has_same}
 use Rattle.s80_apply.specs.List.{add, state_of}
 use Rattle.s80_doit.specs.Answer.{EvaluatesTo}
 use Rattle.s80_doit.specs.DoIt.{Fits}
-use Rattle.s80_model.specs.Asked.{Ask, refuses, adds, evaluates, opens, refuses_head, adds_source, refuses_source, closes, tells, IsRefusedText, AsksPlain, IsRefusedHead, AsksHead, AsksMethod, IsDefinitionIn}
+use Rattle.s80_model.specs.Asked.{Ask, refuses, adds, evaluates, opens, refuses_head, adds_source, refuses_source, closes, tells, IsRefusedText, AsksPlain, IsRefusedHead, AsksHead, AsksMethod, IsKeptAs}
 use Rattle.s80_model.specs.Replies.{AllAsk, AsksIn, IsEvaluated, IsSo, Work, work_after}
 use Rattle.s80_model.specs.Settings.{Settings}
 
@@ -74,33 +75,28 @@ fits_only text refusal (tree, is, size) (inr (again, also, other_size)) =
     let same = sym size ∙ ap (λ t. size_refusal (as_method t)) (one_doit_of text tree again is also) ∙ other_size in
     cc same
 
--- the text is that of a definition, or else of a doIt
-abbrev IsChangeIn : List ℕ → Change → Type 0
-IsChangeIn text (Define d) = IsDefinitionOf text d
-IsChangeIn text (Method m) = ⊥
-IsChangeIn text (DoIt own) = (own ≡ text) × IsNoDefinition text
+-- a text that asks for a snapshot has none of the forms that are kept
+no_form : (text : List ℕ) (form : FormOfDoIt) → IsSnapshotText text → IsFormText text form → ⊥
+no_form text form is also =
+    let asks : IsSnapshot also.tree = subst IsSnapshot (one_doit_of text is.tree also.tree is.tree_is also.tree_is) is.snapshot in
+    let same : recognised.Snapshot ≡ recognised.Form form = has_same also.tree recognised.Snapshot (recognised.Form form) asks also.form_is.0 in
+    cc same
 
--- a text is one change
-one_change : (text : List ℕ) (one other : Change) → IsChangeIn text one → IsChangeIn text other → one ≡ other
-one_change text (Define d) (Define other) h k = ap Define (one_definition_of text d other h k)
-one_change text (Define d) (DoIt own) h k = absurd (k.1 d h)
-one_change text (DoIt own) (Define d) h k = absurd (h.1 d k)
-one_change text (DoIt own) (DoIt other) h k = ap DoIt (h.0 ∙ sym k.0)
+-- a text is kept as one change
+one_change : (text : List ℕ) (one other : Change) → IsKeptAs text one → IsKeptAs text other → one ≡ other
+one_change text (Form form) (Form other) h k = ap Form (form_of_text_same text form other h k)
+one_change text (Form form) (DoIt own) h k = absurd (no_form text form k.0 h)
+one_change text (DoIt own) (Form form) h k = absurd (no_form text form h.0 k)
+one_change text (DoIt own) (DoIt other) h k = ap DoIt (h.1 ∙ sym k.1)
 one_change text (Method m) other h k = absurd h
-one_change text (Define d) (Method m) h k = absurd k
+one_change text (Form form) (Method m) h k = absurd k
 one_change text (DoIt own) (Method m) h k = absurd k
 
--- what is added as a definition is a change
-as_change : (text : List ℕ) (change : Change) → IsDefinitionIn text change → IsChangeIn text change
-as_change text (Define d) h = h
-as_change text (Method m) h = absurd h
-as_change text (DoIt own) h = absurd h
-
--- a text that is told something is no definition
-no_doit : (text own : List ℕ) (change : Change) → IsDefinitionIn text change → (own ≡ text) × IsNoDefinition text → {X : Type 0} → X
-no_doit text own (Define d) h k = absurd (k.1 d h)
-no_doit text own (Method m) h k = absurd h
-no_doit text own (DoIt other) h k = absurd h
+-- a text that is told something is kept as none
+no_doit : (text : List ℕ) (change : Change) → IsKeptAs text change → IsNoFormText text → {X : Type 0} → X
+no_doit text (Form form) h k = absurd (k.form form h)
+no_doit text (Method m) h k = absurd h
+no_doit text (DoIt own) h k = absurd (k.snapshot h.0)
 
 -- what is told of a doIt is one thing, whether it is added or refused
 told_so : OneTold → (r : Result (List Change) Refusal) (text : List ℕ) (settings : Settings) (told other : List ℕ) (stopped also : Bool) → IsEvaluated r text settings told stopped → IsEvaluated r text settings other also → (other ≡ told) × (also ≡ stopped)
@@ -120,32 +116,32 @@ one_plain one work text (refuses refusal) (refuses again) h so k also = ap refus
 one_plain one work text (refuses refusal) (adds change) h so k also = absurd (fits_only text refusal k.0 h)
 one_plain one work text (refuses refusal) (evaluates own told stopped) h so k also = absurd (fits_only text refusal k.0 h)
 one_plain one work text (adds change) (refuses refusal) h so k also = absurd (fits_only text refusal h.0 k)
-one_plain one work text (adds change) (adds again) h so k also = ap adds (one_change text again change (as_change text again k.1) (as_change text change h.1))
-one_plain one work text (adds change) (evaluates own told stopped) h so k also = no_doit text own change h.1 (k.1, k.2)
+one_plain one work text (adds change) (adds again) h so k also = ap adds (one_change text again change k.1 h.1)
+one_plain one work text (adds change) (evaluates own told stopped) h so k also = no_doit text change h.1 k.2
 one_plain one work text (evaluates own told stopped) (refuses refusal) h so k also = absurd (fits_only text refusal h.0 k)
-one_plain one work text (evaluates own told stopped) (adds change) h so k also = no_doit text own change k.1 (h.1, h.2)
+one_plain one work text (evaluates own told stopped) (adds change) h so k also = no_doit text change k.1 h.2
 one_plain one work text (evaluates own told stopped) (evaluates again more too) h so k also = evaluates_so one work text own again told more stopped too h.1 k.1 so also
 one_plain one work text (opens head) other h so k also = absurd h
 one_plain one work text (refuses_head refusal) other h so k also = absurd h
-one_plain one work text (adds_source source check) other h so k also = absurd h
+one_plain one work text (adds_source source) other h so k also = absurd h
 one_plain one work text (refuses_source refusal) other h so k also = absurd h
 one_plain one work text closes other h so k also = absurd h
 one_plain one work text (tells query) other h so k also = absurd h
 one_plain one work text (refuses reason) (opens head) h so k also = absurd k
 one_plain one work text (refuses reason) (refuses_head refusal) h so k also = absurd k
-one_plain one work text (refuses reason) (adds_source source check) h so k also = absurd k
+one_plain one work text (refuses reason) (adds_source source) h so k also = absurd k
 one_plain one work text (refuses reason) (refuses_source refusal) h so k also = absurd k
 one_plain one work text (refuses reason) closes h so k also = absurd k
 one_plain one work text (refuses reason) (tells query) h so k also = absurd k
 one_plain one work text (adds change) (opens head) h so k also = absurd k
 one_plain one work text (adds change) (refuses_head refusal) h so k also = absurd k
-one_plain one work text (adds change) (adds_source source check) h so k also = absurd k
+one_plain one work text (adds change) (adds_source source) h so k also = absurd k
 one_plain one work text (adds change) (refuses_source refusal) h so k also = absurd k
 one_plain one work text (adds change) closes h so k also = absurd k
 one_plain one work text (adds change) (tells query) h so k also = absurd k
 one_plain one work text (evaluates own told stopped) (opens head) h so k also = absurd k
 one_plain one work text (evaluates own told stopped) (refuses_head refusal) h so k also = absurd k
-one_plain one work text (evaluates own told stopped) (adds_source source check) h so k also = absurd k
+one_plain one work text (evaluates own told stopped) (adds_source source) h so k also = absurd k
 one_plain one work text (evaluates own told stopped) (refuses_source refusal) h so k also = absurd k
 one_plain one work text (evaluates own told stopped) closes h so k also = absurd k
 one_plain one work text (evaluates own told stopped) (tells query) h so k also = absurd k
@@ -189,21 +185,21 @@ one_opening text (refuses_head refusal) (refuses_head other) h k = ap refuses_he
 one_opening text (opens head) (refuses refusal) h k = absurd k
 one_opening text (opens head) (adds change) h k = absurd k
 one_opening text (opens head) (evaluates own told stopped) h k = absurd k
-one_opening text (opens head) (adds_source source check) h k = absurd k
+one_opening text (opens head) (adds_source source) h k = absurd k
 one_opening text (opens head) (refuses_source other) h k = absurd k
 one_opening text (opens head) closes h k = absurd k
 one_opening text (opens head) (tells query) h k = absurd k
 one_opening text (refuses_head refusal) (refuses other) h k = absurd k
 one_opening text (refuses_head refusal) (adds change) h k = absurd k
 one_opening text (refuses_head refusal) (evaluates own told stopped) h k = absurd k
-one_opening text (refuses_head refusal) (adds_source source check) h k = absurd k
+one_opening text (refuses_head refusal) (adds_source source) h k = absurd k
 one_opening text (refuses_head refusal) (refuses_source other) h k = absurd k
 one_opening text (refuses_head refusal) closes h k = absurd k
 one_opening text (refuses_head refusal) (tells query) h k = absurd k
 one_opening text (refuses refusal) other h k = absurd h
 one_opening text (adds change) other h k = absurd h
 one_opening text (evaluates own told stopped) other h k = absurd h
-one_opening text (adds_source source check) other h k = absurd h
+one_opening text (adds_source source) other h k = absurd h
 one_opening text (refuses_source refusal) other h k = absurd h
 one_opening text closes other h k = absurd h
 one_opening text (tells query) other h k = absurd h
@@ -211,8 +207,8 @@ one_opening text (tells query) other h k = absurd h
 -- ---- methods
 
 -- a method asks to add its source
-method_asks : (text : List ℕ) (ask : Ask) → AsksMethod text ask → (check : SourceCheck) × (ask ≡ adds_source text check) × IsCheckOf text check
-method_asks text (adds_source source check) h = (check, ap (λ t. adds_source t check) h.0, h.1)
+method_asks : (text : List ℕ) (ask : Ask) → AsksMethod text ask → (selector : Result (List ℕ) Refusal) × (ask ≡ adds_source (record { text = text; selector = selector })) × IsCheckOf text selector
+method_asks text (adds_source source) h = (source.selector, ap (λ t. adds_source (record { text = t; selector = source.selector })) h.0, h.1)
 method_asks text (refuses refusal) h = absurd h
 method_asks text (adds change) h = absurd h
 method_asks text (evaluates own told stopped) h = absurd h
@@ -226,7 +222,7 @@ one_source : (text : List ℕ) (one other : Ask) → AsksMethod text one → Ask
 one_source text one other h k =
     let a = method_asks text one h in
     let b = method_asks text other k in
-    a.1 ∙ ap (adds_source text) (check_same text a.0 b.0 a.2 b.2) ∙ sym b.1
+    a.1 ∙ ap (λ s. adds_source (record { text = text; selector = s })) (check_same text a.0 b.0 a.2 b.2) ∙ sym b.1
 
 -- ---- items
 

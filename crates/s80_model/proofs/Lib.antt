@@ -3,3 +3,4 @@ mod Opening
 mod Naming
 pub mod Telling
 pub mod Categories
+pub mod Listed

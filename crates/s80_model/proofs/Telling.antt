@@ -20,10 +20,9 @@ use Rattle.s80_base.specs.declared.names.Side.TheVariants.{Instance, Class}
 use Rattle.s80_dict.specs.Dict.{Methods}
 use Rattle.s80_dict.specs.Slots.{DictValue}
 use Rattle.s80_dict.specs.Table.{MethodsValue, dict_at, methods_at}
-use Rattle.s80_apply.specs.State.{MethodRow, State, is_kernel_method}
+use Rattle.s80_apply.specs.State.{MethodRow, State}
 use Rattle.s80_apply.specs.Entries.{AreEntriesOf, Entry, state_row}
-use Rattle.s80_apply.specs.System.{HasNumber, IsSystemOf, SystemState, TellOwn}
-use Rattle.s80_model.specs.Entries.{TellOwnOf, tells_own}
+use Rattle.s80_apply.specs.System.{HasNumber, IsSystemOf, SystemState}
 use Rattle.s80_model.specs.Texts.{browsed, class_text, category_lines, definition_of, is_own, methods_text, own_classes, own_methods, own_methods_in, own_methods_of, recovered_text, string_line}
 
 take_of_length : {A : Type 0} (xs : List A) → take (length xs) xs ≡ xs
@@ -77,21 +76,16 @@ module _ (is_own : List ℕ → Bool) where
 abbrev pub is_own_class : Name → Bool
 is_own_class name = not (is_kernel_class name)
 
--- the methods that aren't the kernel's
-abbrev pub is_own_in : Methods Entry → List ℕ → Bool
-is_own_in entries selector = tells_own (map.get entries selector)
+-- the methods that aren't the kernel's, by their entries
+abbrev pub is_own_in : Name → Side → Methods Entry → List ℕ → Bool
+is_own_in name side entries selector = is_own name side selector (option_map state_row (map.get entries selector))
 
-own_same : (name : Name) (side : Side) (selector : List ℕ) (row : Option MethodRow) (entry : Option Entry) → option_map state_row entry ≡ row
-    → ((e : Entry) → entry ≡ Some e → e.from_kernel ≡ is_kernel_method name side selector (state_row e)) → tells_own entry ≡ is_own name side selector row
-own_same name side selector row None is tells = ap (is_own name side selector) is
-own_same name side selector row (Some entry) is tells = ap not (tells entry refl) ∙ ap (is_own name side selector) is
-
-pub own_in_rows : (name : Name) (side : Side) (entries : Methods Entry) (rows : Methods MethodRow) (names : List (List ℕ)) (count : ℕ) → AreEntriesOf entries rows → TellOwnOf name side entries → names ≡ map.keys entries
-    → IsCounted (is_own_in entries) names (length names) count → count ≡ own_methods_in name side rows
-own_in_rows name side entries rows names count are tell names_is counted =
-    counted.0 ∙ ap (λ l. length (filter (is_own_in entries) l)) (take_of_length names ∙ names_is ∙ are.keys)
-    ∙ ap length (filter_same (is_own_in entries) (λ selector. is_own name side selector (map.get rows selector))
-    (λ selector. own_same name side selector (map.get rows selector) (map.get entries selector) (are.each selector) (λ e there. tell selector e there)) (map.keys rows))
+pub own_in_rows : (name : Name) (side : Side) (entries : Methods Entry) (rows : Methods MethodRow) (names : List (List ℕ)) (count : ℕ) → AreEntriesOf entries rows → names ≡ map.keys entries
+    → IsCounted (is_own_in name side entries) names (length names) count → count ≡ own_methods_in name side rows
+own_in_rows name side entries rows names count are names_is counted =
+    counted.0 ∙ ap (λ l. length (filter (is_own_in name side entries) l)) (take_of_length names ∙ names_is ∙ are.keys)
+    ∙ ap length (filter_same (is_own_in name side entries) (λ selector. is_own name side selector (map.get rows selector))
+    (λ selector. ap (is_own name side selector) (are.each selector)) (map.keys rows))
 
 -- ---- the methods of all classes
 
@@ -131,12 +125,6 @@ pub dictionary_is : (state : State) (system : SystemState) (number : ℕ) (name 
 dictionary_is state system number name side methods dict of_state has methods_is dict_is =
     subst (λ d. AreEntriesOf d (state.methods name side)) (sym (ap (λ d. d.methods) dict_is ∙ ap (λ m. methods_at m number side) methods_is))
     (of_state.methods number name side has.named)
-
--- and they tell which of these are the kernel's own
-pub dictionary_tells : (system : SystemState) (number : ℕ) (name : Name) (side : Side) (methods : MethodsValue Entry) (dict : DictValue Entry)
-    → TellOwn system.table system.methods → HasNumber system name number → methods ≡ system.methods → dict ≡ dict_at methods number side → TellOwnOf name side dict.methods
-dictionary_tells system number name side methods dict own has methods_is dict_is = λ selector entry there.
-    own number side selector entry (sym (ap (λ d. map.get d.methods selector) dict_is ∙ ap (λ m. map.get (methods_at m number side) selector) methods_is) ∙ there) name has.named
 
 pub number_within : (system : SystemState) (number : ℕ) (name : Name) (methods : MethodsValue Entry) → methods ≡ system.methods → HasNumber system name number → number < length methods.sides
 number_within system number name methods methods_is has =

@@ -1,5 +1,5 @@
 -- What an item asks, whatever the list and the section in which it stands.
-use Rattle.std.specs.Prelude.{◌≡◌, ◌⊎◌, ℕ, Bool, List, Some}
+use Rattle.std.specs.Prelude.{◌≡◌, ◌⊎◌, ◌++◌, ◌∷◌, [], ℕ, Bool, List, Some, codes}
 use Rattle.s80_chunk.specs.declared.item.Role.{Role}
 use Rattle.s80_chunk.specs.declared.item.Role.TheVariants as roles
 use Rattle.s80_chunk.specs.declared.item.Item.TheVariants as items
@@ -7,9 +7,9 @@ use Rattle.s80_tree.specs.Tree.{DoItParts}
 use Rattle.s80_syntax.specs.Faults.{IsDoItText}
 use Rattle.s80_syntax.specs.Text.{IsDoItOf}
 use Rattle.s80_change.specs.declared.change.Change.{Change}
-use Rattle.s80_change.specs.declared.change.Change.TheVariants.{Define, Method, DoIt}
-use Rattle.s80_change.specs.declared.source_check.SourceCheck.{SourceCheck}
-use Rattle.s80_form.specs.Definition.{IsDefinitionOf, IsNoDefinition}
+use Rattle.s80_change.specs.declared.change.Change.TheVariants.{Form, Method, DoIt}
+use Rattle.s80_change.specs.Source.{SourceParts}
+use Rattle.s80_form.specs.Form.{IsFormText, IsNoFormText, IsSnapshotText}
 use Rattle.s80_form.specs.declared.refusal.FitWord.TheVariants as fits
 use Rattle.s80_form.specs.declared.refusal.Refusal.{Refusal}
 use Rattle.s80_form.specs.declared.refusal.Refusal.TheVariants as refusals
@@ -18,13 +18,14 @@ use Rattle.s80_change.specs.Check.{IsCheckOf, IsSyntaxRefusal, as_method, size_r
 use Rattle.s80_change.specs.Head.{IsHeadOf}
 use Rattle.s80_doit.specs.DoIt.{Fits}
 use Rattle.s80_model.specs.declared.item.Query.{Query as SessionQuery}
+use Rattle.s80_model.specs.declared.item.Query.TheVariants as queries
 use Rattle.s80_model.specs.declared.item.SessionItem.{SessionItem}
 use Rattle.s80_model.specs.declared.item.SessionItem.TheVariants.{Chunk, Unended, Query}
 
 pub data Ask : Type 0 where
   -- it is refused whatever the list
   refuses : Refusal → Ask
-  -- a definition is added
+  -- a change by its form, or the note of a snapshot, is added
   adds : Change → Ask
   -- a doIt of this text is added and evaluated; what it comes to is told so, and it is stopped or not
   evaluates : List ℕ → List ℕ → Bool → Ask
@@ -33,7 +34,7 @@ pub data Ask : Type 0 where
   -- a section begins whose head is refused so
   refuses_head : Refusal → Ask
   -- a method of this source is added to the class of the section; or in a section it is refused so
-  adds_source : List ℕ → SourceCheck → Ask
+  adds_source : SourceParts → Ask
   refuses_source : Refusal → Ask
   -- a section ends
   closes : Ask
@@ -46,17 +47,22 @@ pub data Ask : Type 0 where
 abbrev pub IsRefusedText : List ℕ → Refusal → Type 0
 IsRefusedText text refusal = IsSyntaxRefusal IsDoItText text refusal ⊎ ((tree : DoItParts) × IsDoItOf text tree × (size_refusal (as_method tree) ≡ Some refusal))
 
--- the text is that of a definition
-abbrev pub IsDefinitionIn : List ℕ → Change → Type 0
-IsDefinitionIn text (Define d) = IsDefinitionOf text d
-IsDefinitionIn text (Method m) = ⊥
-IsDefinitionIn text (DoIt own) = ⊥
+-- the doIt that the list keeps of a snapshot
+abbrev pub snapshot_note : List ℕ
+snapshot_note = 34 ∷ (codes "----SNAPSHOT----" ++ 34 ∷ [])
 
--- A plain text is refused, or it fits and is added: as the definition whose form its tree is, or else as a doIt, which is evaluated.
+-- a text is kept as the change whose form it has; and as the note where it asks for a snapshot
+abbrev pub IsKeptAs : List ℕ → Change → Type 0
+IsKeptAs text (Form form) = IsFormText text form
+IsKeptAs text (Method m) = ⊥
+IsKeptAs text (DoIt own) = IsSnapshotText text × (own ≡ snapshot_note)
+
+-- A plain text is refused, or it fits and is added: as the change whose form its tree has, as the note of a snapshot, or else as a doIt, which
+-- is evaluated.
 abbrev pub AsksPlain : List ℕ → Ask → Type 0
 AsksPlain text (refuses refusal) = IsRefusedText text refusal
-AsksPlain text (adds change) = Fits text × IsDefinitionIn text change
-AsksPlain text (evaluates own told stopped) = Fits text × (own ≡ text) × IsNoDefinition text
+AsksPlain text (adds change) = Fits text × IsKeptAs text change
+AsksPlain text (evaluates own told stopped) = Fits text × (own ≡ text) × IsNoFormText text
 AsksPlain text _ = ⊥
 
 -- ---- heads
@@ -74,7 +80,7 @@ AsksHead text _ = ⊥
 -- ---- methods
 
 abbrev pub AsksMethod : List ℕ → Ask → Type 0
-AsksMethod text (adds_source source check) = (source ≡ text) × IsCheckOf text check
+AsksMethod text (adds_source source) = (source.text ≡ text) × IsCheckOf text source.selector
 AsksMethod text _ = ⊥
 
 -- ---- items
@@ -85,6 +91,16 @@ ask_of_too_long roles.Plain n = refuses (refusals.TooLarge fits.Chunk n)
 ask_of_too_long roles.Head n = refuses_head (refusals.TooLarge fits.Chunk n)
 ask_of_too_long roles.Method n = refuses_source (refusals.TooLarge fits.Chunk n)
 
+-- what a query asks: a snapshot adds its note, and the others are told something
+abbrev pub ask_of_query : SessionQuery → Ask
+ask_of_query queries.Recover = tells queries.Recover
+ask_of_query queries.Classes = tells queries.Classes
+ask_of_query (queries.Browse name) = tells (queries.Browse name)
+ask_of_query (queries.Source spec selector) = tells (queries.Source spec selector)
+ask_of_query (queries.Versions spec selector) = tells (queries.Versions spec selector)
+ask_of_query queries.Changes = tells queries.Changes
+ask_of_query queries.Snapshot = adds (DoIt snapshot_note)
+
 abbrev pub Asks : SessionItem → Ask → Type 0
 Asks (Chunk (items.Plain text)) ask = AsksPlain text ask
 Asks (Chunk (items.Head text)) ask = AsksHead text ask
@@ -92,4 +108,4 @@ Asks (Chunk (items.Method text)) ask = AsksMethod text ask
 Asks (Chunk items.SectionEnd) ask = ask ≡ closes
 Asks (Chunk (items.TooLong role n)) ask = ask ≡ ask_of_too_long role n
 Asks Unended ask = ask ≡ refuses refusals.Unended
-Asks (Query query) ask = ask ≡ tells query
+Asks (Query query) ask = ask ≡ ask_of_query query

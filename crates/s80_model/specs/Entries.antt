@@ -1,23 +1,12 @@
 -- What the entries of a dictionary say, and the lines of their categories.
-use Rattle.std.specs.Prelude.{◌≡◌, ℕ, Bool, false, not, List, [], ◌∷◌, Option, Some, None, Vec, map as list_map, option_map, unwrap_or, cond, is_some}
+use Rattle.std.specs.Prelude.{◌≡◌, ℕ, List, [], ◌∷◌, Vec, map as list_map, option_map, unwrap_or, cond, is_some}
 use Rattle.std.specs.FinMap as map
 use Rattle.std.specs.Ordering.{nat_cmp}
 use Rattle.std.specs.Cmp.Lexicographic.{slice_cmp}
 use Rattle.s80_dict.specs.Dict.{Bytes, Methods}
-use Rattle.s80_base.specs.declared.names.Side.{Side}
-use Rattle.s80_class.specs.Classes.{Name}
-use Rattle.s80_apply.specs.State.{MethodRow, is_kernel_method}
-use Rattle.s80_apply.specs.Entries.{Entry, state_row}
+use Rattle.s80_apply.specs.State.{MethodRow}
+use Rattle.s80_apply.specs.Entries.{Entry}
 use Rattle.s80_model.specs.Texts.{categories, selectors_of}
-
--- whether an entry tells that its method isn't the kernel's
-abbrev pub tells_own : Option Entry → Bool
-tells_own None = false
-tells_own (Some entry) = not entry.from_kernel
-
--- the entries on one side of a class tell so of the methods that aren't the kernel's in category and source, and of no others
-abbrev pub TellOwnOf : Name → Side → Methods Entry → Type 0
-TellOwnOf name side entries = (selector : List ℕ) (entry : Entry) → map.get entries selector ≡ Some entry → entry.from_kernel ≡ is_kernel_method name side selector (state_row entry)
 
 abbrev pub category_in : Methods Entry → Bytes → Bytes
 category_in entries selector = unwrap_or (option_map (λ entry. entry.category) (map.get entries selector)) []

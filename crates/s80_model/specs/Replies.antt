@@ -1,8 +1,8 @@
 -- The model keeper: what each thing asked changes, and what it is answered.
-use Rattle.std.specs.Prelude.{◌≡◌, ℕ, Bool, true, false, ◌||◌, List, [], ◌∷◌, ◌++◌, length, codes, Option, Some, None, Result, Ok, Err}
+use Rattle.std.specs.Prelude.{◌≡◌, ℕ, Bool, true, false, ◌||◌, List, [], ◌∷◌, ◌++◌, codes, Option, Some, None, Result, Ok, Err}
 use Rattle.s80_change.specs.declared.change.Change.{Change}
 use Rattle.s80_change.specs.declared.change.Change.TheVariants as changes
-use Rattle.s80_change.specs.declared.source_check.SourceCheck.{SourceCheck}
+use Rattle.s80_change.specs.Source.{SourceParts}
 use Rattle.s80_form.specs.declared.refusal.Refusal.{Refusal}
 use Rattle.s80_change.specs.declared.head.SectionHead.{SectionHead}
 use Rattle.s80_print.specs.Refusal.{refusal_text}
@@ -65,19 +65,19 @@ section_of head None = sections.Open head
 section_of head (Some refusal) = sections.Refused
 
 -- a method of a section
-abbrev pub method_in : SectionHead → List ℕ → SourceCheck → Change
-method_in head source check = changes.Method (record { class_name = head.class_name; side = head.side; category = head.category; source = source; check = check })
+abbrev pub method_in : SectionHead → SourceParts → Change
+method_in head source = changes.Method (record { class_name = head.class_name; side = head.side; category = head.category; source = source })
 
 -- what a source is answered, and the list after it: outside an open section nothing is answered
-abbrev pub reply_to_source : List Change → Section → List ℕ → SourceCheck → Reply
-reply_to_source changes sections.Top source check = Silent
-reply_to_source changes (sections.Open head) source check = reply_to_adding (add changes (method_in head source check))
-reply_to_source changes sections.Refused source check = Silent
+abbrev pub reply_to_source : List Change → Section → SourceParts → Reply
+reply_to_source changes sections.Top source = Silent
+reply_to_source changes (sections.Open head) source = reply_to_adding (add changes (method_in head source))
+reply_to_source changes sections.Refused source = Silent
 
-abbrev pub list_after_source : List Change → Section → List ℕ → SourceCheck → List Change
-list_after_source changes sections.Top source check = changes
-list_after_source changes (sections.Open head) source check = list_or (add changes (method_in head source check)) changes
-list_after_source changes sections.Refused source check = changes
+abbrev pub list_after_source : List Change → Section → SourceParts → List Change
+list_after_source changes sections.Top source = changes
+list_after_source changes (sections.Open head) source = list_or (add changes (method_in head source)) changes
+list_after_source changes sections.Refused source = changes
 
 abbrev pub reply_in_section : Section → Refusal → Reply
 reply_in_section sections.Top refusal = Silent
@@ -93,10 +93,10 @@ reply_to work (adds change) = reply_to_adding (add work.changes change)
 reply_to work (evaluates text told stopped) = reply_to_evaluating (add work.changes (changes.DoIt text)) told stopped
 reply_to work (opens head) = reply_to_head (refusal_of_head work.changes head)
 reply_to work (refuses_head refusal) = Refused refusal
-reply_to work (adds_source source check) = reply_to_source work.changes work.section source check
+reply_to work (adds_source source) = reply_to_source work.changes work.section source
 reply_to work (refuses_source refusal) = reply_in_section work.section refusal
 reply_to work closes = Silent
-reply_to work (tells query) = told (state_of work.changes) (length work.changes) query
+reply_to work (tells query) = told work.changes query
 
 -- the work that goes on afterwards
 abbrev pub work_after : Work → Ask → Work
@@ -105,7 +105,7 @@ work_after work (adds change) = record work { changes = list_or (add work.change
 work_after work (evaluates text told stopped) = record work { changes = list_or (add work.changes (changes.DoIt text)) work.changes }
 work_after work (opens head) = record work { section = section_of head (refusal_of_head work.changes head) }
 work_after work (refuses_head refusal) = record work { section = sections.Refused }
-work_after work (adds_source source check) = record work { changes = list_after_source work.changes work.section source check }
+work_after work (adds_source source) = record work { changes = list_after_source work.changes work.section source }
 work_after work (refuses_source refusal) = work
 work_after work closes = record work { section = sections.Top }
 work_after work (tells query) = work

@@ -1,5 +1,5 @@
 -- What is told of the classes and methods of a state.
-use Rattle.std.specs.Prelude.{ℕ, ◌+◌, Bool, false, not, List, [], ◌∷◌, ◌++◌, Option, Some, None, length, codes, decimal, filter, map as list_map, option_map, unwrap_or}
+use Rattle.std.specs.Prelude.{ℕ, ◌+◌, Bool, false, not, List, [], ◌∷◌, ◌++◌, Option, Some, None, Result, Ok, Err, length, codes, decimal, filter, map as list_map, option_map, unwrap_or}
 use Rattle.std.specs.List.{flat_map}
 use Rattle.std.specs.FinMap as map
 use Rattle.std.specs.Str.{bytes_eq}
@@ -12,6 +12,11 @@ use Rattle.s80_lex.specs.Spelling.{quoted}
 use Rattle.s80_kernel.specs.Rows.{is_kernel_class}
 use Rattle.s80_form.specs.declared.definition.Definition.{Definition}
 use Rattle.s80_form.specs.Definition.{definition_text, joined}
+use Rattle.s80_form.specs.Form.{side_text}
+use Rattle.s80_form.specs.declared.form.Form.TheVariants as forms
+use Rattle.s80_form.specs.declared.refusal.Refusal.{Refusal}
+use Rattle.s80_change.specs.declared.change.Change.{Change}
+use Rattle.s80_change.specs.declared.change.Change.TheVariants as changes
 use Rattle.s80_class.specs.Classes.{Name, ClassRow, Classes}
 use Rattle.s80_apply.specs.State.{MethodRow, State, is_kernel_method}
 
@@ -90,3 +95,45 @@ methods_text state name = category_lines [] (state.methods name Instance) ++ cat
 -- what is told of the class of this name, where there is one
 abbrev pub browsed : State → Name → Option (List ℕ)
 browsed state name = option_map (λ row. class_text name row ++ methods_text state name) (map.get state.classes name)
+
+-- ---- changes
+
+-- the selector of a source that is a method
+abbrev pub selector_in : Result (List ℕ) Refusal → List ℕ
+selector_in (Ok selector) = selector
+selector_in (Err refusal) = []
+
+-- a word, and a method by its class, its side and its selector
+abbrev pub method_line : List ℕ → Name → Side → List ℕ → List ℕ
+method_line word name side selector = word ++ (name ++ (side_text side ++ (32 ∷ selector)))
+
+-- what a change of the set is, without its texts
+abbrev pub change_line : Change → List ℕ
+change_line (changes.Form (forms.Define d)) = codes "define " ++ d.class_name
+change_line (changes.Form (forms.ClassVars name names)) = codes "class-variables " ++ name
+change_line (changes.Form (forms.Comment name text)) = codes "comment " ++ name
+change_line (changes.Form (forms.RemoveMethod name side selector)) = method_line (codes "remove ") name side selector
+change_line (changes.Form (forms.Classify name side selector category)) = method_line (codes "classify ") name side selector
+change_line (changes.Form (forms.RemoveClass name)) = codes "remove-class " ++ name
+change_line (changes.Form forms.NoChanges) = []
+change_line (changes.Method m) = method_line (codes "method ") m.class_name m.side (selector_in m.source.selector)
+change_line (changes.DoIt text) = []
+
+-- each in its line
+abbrev pub changes_text : List Change → List ℕ
+changes_text all = flat_map (λ change. change_line change ++ 10 ∷ []) all
+
+-- the line of a version: its number, and its category
+abbrev pub version_line : ℕ → List ℕ → List ℕ
+version_line number category = (codes "version " ++ decimal number) ++ (32 ∷ quoted 39 category ++ 10 ∷ [])
+
+-- and behind it its source
+abbrev pub version_text : ℕ → Change → List ℕ
+version_text number (changes.Method m) = version_line number m.category ++ (m.source.text ++ 10 ∷ [])
+version_text number (changes.Form form) = []
+version_text number (changes.DoIt text) = []
+
+-- the versions of a method from the newest to the oldest, which is number 1
+abbrev pub versions_text : List Change → List ℕ
+versions_text [] = []
+versions_text (change ∷ older) = version_text (length (change ∷ older)) change ++ versions_text older

@@ -1,5 +1,5 @@
 -- What queries are told of the state and the list.
-use Rattle.std.specs.Prelude.{ℕ, ◌-◌, Bool, ◌&&◌, List, [], ◌∷◌, ◌++◌, Option, Some, None, length, codes, take, option_map, if◌then◌else◌}
+use Rattle.std.specs.Prelude.{ℕ, ◌-◌, Bool, true, false, ◌&&◌, List, [], ◌∷◌, ◌++◌, Option, Some, None, length, codes, take, map as list_map, option_map, if◌then◌else◌}
 use Rattle.std.specs.FinMap as map
 use Rattle.std.specs.Str.{bytes_eq}
 use Rattle.s80_base.specs.declared.names.Side.{Side}
@@ -8,11 +8,14 @@ use Rattle.s80_form.specs.declared.refusal.Refusal.TheVariants.{UnknownClass, Ba
 use Rattle.s80_form.specs.Name.{is_name}
 use Rattle.s80_class.specs.Classes.{Name, ClassRow}
 use Rattle.s80_apply.specs.State.{State}
-use Rattle.s80_model.specs.Texts.{recovered_text, classes_text, browsed}
+use Rattle.s80_apply.specs.List.{state_of}
+use Rattle.s80_change.specs.declared.change.Change.{Change}
+use Rattle.s80_history.specs.Lists.{set_of, versions_of}
+use Rattle.s80_model.specs.Texts.{recovered_text, classes_text, browsed, changes_text, versions_text}
 use Rattle.s80_model.specs.declared.item.Query.{Query}
-use Rattle.s80_model.specs.declared.item.Query.TheVariants.{Recover, Classes as AllClasses, Browse, Source}
+use Rattle.s80_model.specs.declared.item.Query.TheVariants.{Recover, Classes as AllClasses, Browse, Source, Versions, Changes, Snapshot}
 use Rattle.s80_model.specs.declared.reply.Reply.{Reply}
-use Rattle.s80_model.specs.declared.reply.Reply.TheVariants.{Refused, Told}
+use Rattle.s80_model.specs.declared.reply.Reply.TheVariants.{Refused, Silent, Told}
 
 -- ---- the lines of a class
 
@@ -52,11 +55,32 @@ abbrev pub source_reply : State → List ℕ → List ℕ → Option (Name × Si
 source_reply state spec selector None = Refused (BadName spec)
 source_reply state spec selector (Some named) = source_of_class state named.0 named.1 selector (map.get state.classes named.0)
 
+-- ---- the versions of a method
+
+-- where there is neither a method now nor a version, there is no selector
+abbrev pub versions_told : Name → Side → List ℕ → Bool → List Change → Reply
+versions_told name side selector false [] = Refused (NoSelector name side selector)
+versions_told name side selector false (change ∷ older) = Told (versions_text (change ∷ older))
+versions_told name side selector true versions = Told (versions_text versions)
+
+abbrev pub versions_of_class : List Change → Name → Side → List ℕ → Option ClassRow → Reply
+versions_of_class changes name side selector None = Refused (UnknownClass name)
+versions_of_class changes name side selector (Some row) =
+    versions_told name side selector (map.contains_key ((state_of changes).methods name side) selector)
+    (list_map (λ p. p.1) (versions_of changes (record { class_name = name; side = side; selector = selector })))
+
+abbrev pub versions_reply : List Change → List ℕ → List ℕ → Option (Name × Side) → Reply
+versions_reply changes spec selector None = Refused (BadName spec)
+versions_reply changes spec selector (Some named) = versions_of_class changes named.0 named.1 selector (map.get (state_of changes).classes named.0)
+
 -- ---- queries
 
--- what a query is answered in this state, with so many changes kept
-abbrev pub told : State → ℕ → Query → Reply
-told state count Recover = Told (recovered_text count state)
-told state count AllClasses = Told (classes_text state.classes)
-told state count (Browse name) = if is_name name then browse_reply name (browsed state name) else Refused (BadName name)
-told state count (Source spec selector) = source_reply state spec selector (side_named spec)
+-- what a query is told of a list; a snapshot asks for nothing
+abbrev pub told : List Change → Query → Reply
+told changes Recover = Told (recovered_text (length changes) (state_of changes))
+told changes AllClasses = Told (classes_text (state_of changes).classes)
+told changes (Browse name) = if is_name name then browse_reply name (browsed (state_of changes) name) else Refused (BadName name)
+told changes (Source spec selector) = source_reply (state_of changes) spec selector (side_named spec)
+told changes (Versions spec selector) = versions_reply changes spec selector (side_named spec)
+told changes Changes = Told (changes_text (list_map (λ p. p.1) (set_of changes)))
+told changes Snapshot = Silent

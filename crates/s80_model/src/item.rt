@@ -2,7 +2,7 @@
 use s80_base::Text;
 use s80_chunk::Item;
 
-/// What may be asked of a folder.
+/// A command beside an input of items: what may be asked of a folder.
 #[derive(Debug, Drop)]
 pub enum Query {
     /// How much there is in the folder.
@@ -13,6 +13,12 @@ pub enum Query {
     Browse(Text),
     /// The source of a method: its class, with ` class` behind the name for the class side, and its selector.
     Source(Text, Text),
+    /// All versions of a method, the newest first, named as for its source.
+    Versions(Text, Text),
+    /// The change set.
+    Changes,
+    /// Not a question: a snapshot is asked for, and its note is kept.
+    Snapshot,
 }
 
 /// An item of the input, the rest of an input that ends within an item, or a query.

@@ -2,6 +2,7 @@
 #![tactic(auto)]
 
 mod browse;
+mod changes;
 mod item;
 mod laws;
 mod reply;
@@ -10,6 +11,7 @@ mod side;
 mod told;
 
 pub use browse::browse_text;
+pub use changes::{changes_text, snapshot_note, versions_text};
 pub use item::{Query, SessionItem};
 pub use laws::one_ask;
 pub use reply::{Answer, Reply};

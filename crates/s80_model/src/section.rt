@@ -8,7 +8,7 @@ ghost use Rattle.s80_model.specs.Replies.{IsAnswer, Work, method_in};
 use crate::reply::{Answer, Reply};
 use s80_apply::System;
 use s80_base::{OutOfMemory, Text};
-use s80_change::{HeadFault, Method, SectionHead, SourceCheck, head_of, syntax_refusal};
+use s80_change::{HeadFault, Method, SectionHead, Source, head_of, syntax_refusal};
 use s80_chunk::{LONGEST, Role};
 use s80_form::{FitWord, Refusal};
 use std::alloc::Global;
@@ -84,19 +84,13 @@ pub fn too_long_answer(section: &Section, role: Role, length: u64) -> Answer
 }
 
 /// The method of a source in the class of a section.
-pub fn method_of(
-    alloc: Global,
-    head: &SectionHead,
-    source: Text,
-    check: SourceCheck,
-) -> Result<Method, OutOfMemory>
-    ensures { IfOk result (λ method. Change.Method method ≡ method_in head.now source check) }
+pub fn method_of(alloc: Global, head: &SectionHead, source: Source) -> Result<Method, OutOfMemory>
+    ensures { IfOk result (λ method. Change.Method method ≡ method_in head.now source) }
 {
     Ok(Method {
         class_name: head.class_name.copy(alloc)?,
         side: head.side,
         category: head.category.copy(alloc)?,
         source,
-        check,
     })
 }

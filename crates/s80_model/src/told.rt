@@ -1,16 +1,14 @@
 // What is told of all classes.
-ghost use Rattle.std.specs.Prelude.{◌≡◌, ◌+◌, ◌++◌, IfOk};
+ghost use Rattle.std.specs.Prelude.{◌≡◌, ◌+◌, ◌++◌, IfOk, option_map};
 ghost use Rattle.s80_base.specs.declared.names.Side.{Side};
 ghost use Rattle.std.specs.FinMap as map;
 ghost use Rattle.s80_base.specs.declared.names.Side.TheVariants.{Instance, Class};
 ghost use Rattle.s80_apply.specs.State.{State};
-ghost use Rattle.s80_apply.specs.Entries.{AreEntriesOf};
+ghost use Rattle.s80_apply.specs.Entries.{AreEntriesOf, state_row};
 ghost use Rattle.s80_apply.specs.System.{IsSystemOf};
-ghost use Rattle.s80_class.specs.Classes.{Name};
-ghost use Rattle.s80_model.specs.Entries.{TellOwnOf, tells_own};
-ghost use Rattle.s80_model.specs.Texts.{classes_text, own_classes, own_methods, own_methods_in, recovered_text};
+ghost use Rattle.s80_model.specs.Texts.{classes_text, own_classes, is_own, own_methods, own_methods_in, recovered_text};
 
-use s80_apply::System;
+use s80_apply::{System, is_kernel_method};
 use s80_base::{OutOfMemory, Side, Text};
 use s80_class::ClassTable;
 use s80_dict::MethodDict;
@@ -51,32 +49,41 @@ fn own_methods_of(alloc: Global, system: &System, name: &Text) -> Result<usize, 
         return Ok(0);
     };
     let methods = system.methods();
-    let count = own_methods_in(alloc, methods.dict(number, Side::Instance))?;
-    let more = own_methods_in(alloc, methods.dict(number, Side::Class))?;
+    let count = own_methods_in(
+        alloc,
+        name,
+        Side::Instance,
+        methods.dict(number, Side::Instance),
+    )?;
+    let more = own_methods_in(alloc, name, Side::Class, methods.dict(number, Side::Class))?;
     Ok(count.checked_add(more).ok_or(OutOfMemory)?)
 }
 
-/// How many methods of a dictionary aren't the kernel's, where its entries tell it.
-fn own_methods_in(alloc: Global, methods: &MethodDict<Verified>) -> Result<usize, OutOfMemory>
-    ensures { (name : Name) (side : Side) (rows : _) → AreEntriesOf methods.now.methods rows → TellOwnOf name side methods.now.methods
-        → IfOk result (λ count. count ≡ own_methods_in name side rows) }
+/// How many methods of one side of the class of this name aren't the kernel's.
+fn own_methods_in(
+    alloc: Global,
+    name: &Text,
+    side: Side,
+    methods: &MethodDict<Verified>,
+) -> Result<usize, OutOfMemory>
+    ensures { (rows : _) → AreEntriesOf methods.now.methods rows → IfOk result (λ count. count ≡ own_methods_in name.now side rows) }
 {
     let selectors = methods.selectors_sorted(alloc)?;
     let mut count = 0;
     for i in 0..selectors.count() {
-        if is_own(methods, selectors.at(i)) {
+        if is_own(name, side, methods, selectors.at(i)) {
             count += 1;
         }
     }
     Ok(count)
 }
 
-/// Whether the entry of a selector tells that its method isn't the kernel's.
-fn is_own(methods: &MethodDict<Verified>, selector: &Text) -> bool
-    ensures { result ≡ tells_own (map.get methods.now.methods selector.now) }
+/// Whether the method of a selector isn't the kernel's.
+fn is_own(name: &Text, side: Side, methods: &MethodDict<Verified>, selector: &Text) -> bool
+    ensures { result ≡ is_own name.now side selector.now (option_map state_row (map.get methods.now.methods selector.now)) }
 {
     match methods.get(selector) {
-        Some(entry) => !entry.from_kernel,
+        Some(entry) => !is_kernel_method(name, side, selector, entry),
         None => false,
     }
 }

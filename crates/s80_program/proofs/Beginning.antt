@@ -9,7 +9,6 @@ use Rattle.s80_disk.specs.Moments.{LeavesOnly}
 use Rattle.s80_disk.proofs.lemmas.Run.{joined, weaker}
 use Rattle.s80_disk.specs.Shown.{Shown}
 use Rattle.s80_keeper.specs.declared.start.Damage.{Damage}
-use Rattle.s80_change.specs.Block.{blocks}
 use Rattle.s80_disk.specs.declared.disk.FileId.{FileId}
 use Rattle.s80_disk.specs.declared.disk.FileId.TheVariants.{Mark, Log0, Log1}
 use Rattle.s80_log.specs.Log.{log_file}
@@ -156,7 +155,9 @@ no_mark number = log_or_log (number == 0)
 pub knows_on : (files now : Image) (keeper : KeeperState) (changes : List Change) → ((other : FileId) → other ≢ Mark → now other ≡ files other) → Knows files keeper changes → Knows now keeper changes
 knows_on files now keeper changes same h = record {
   log = ap (take keeper.log.end) (same (log_file keeper.log.number) (no_mark keeper.log.number)) ∙ h.log;
+  lawful = h.lawful;
   system = h.system;
   places = h.places;
+  history = h.history;
   count = h.count;
 }

@@ -1,5 +1,5 @@
 -- The status of work that ended so.
-use Rattle.std.proofs.Common.{◌≡◌, ◌≢◌, inl, inr, ℕ, List, [], ◌∷◌, ◌++◌, refl, sym, ap, subst, ◌∙◌, Result, Ok, Err, Option, None, Some, Bool, true, false}
+use Rattle.std.proofs.Common.{◌≡◌, ◌≢◌, inl, inr, ℕ, List, ◌++◌, sym, ap, subst, ◌∙◌, Result, Ok, Err, Option, None, Some, Bool, true, false}
 use Rattle.std.proofs.lemmas.List.{append-nil}
 use Rattle.std.specs.Prelude.{◌||◌}
 use Rattle.s80_change.specs.declared.change.Change.{Change}
@@ -107,6 +107,9 @@ item_counts T (Query (queries.Source spec selector)) r before now h = h
 item_counts T (Query queries.Recover) r before now h = run_counts T r before now h
 item_counts T (Query queries.Classes) r before now h = run_counts T r before now h
 item_counts T (Query (queries.Browse name)) r before now h = run_counts T r before now h
+item_counts T (Query (queries.Versions spec selector)) r before now h = h
+item_counts T (Query queries.Changes) r before now h = h
+item_counts T (Query queries.Snapshot) r before now h = run_counts T r before now h
 item_counts T (Chunk item) r before now h = run_counts T r before now h
 item_counts T Unended r before now h = run_counts T r before now h
 

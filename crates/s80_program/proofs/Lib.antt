@@ -1,4 +1,5 @@
 mod Asked
+mod Asking
 mod Separators
 mod Again
 mod Fronts

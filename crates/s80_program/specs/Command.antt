@@ -5,12 +5,13 @@ use Rattle.s80_base.specs.Byte.{is_separator}
 use Rattle.s80_chunk.specs.Chunks.{item_of}
 use Rattle.s80_chunk.specs.declared.item.Role.TheVariants.{Plain}
 use Rattle.s80_model.specs.declared.item.Query.{Query as SessionQuery}
-use Rattle.s80_model.specs.declared.item.Query.TheVariants.{Recover, Classes, Browse, Source}
+use Rattle.s80_model.specs.declared.item.Query.TheVariants.{Recover, Classes, Browse, Source, Versions, Changes, Snapshot}
 use Rattle.s80_model.specs.declared.item.SessionItem.{SessionItem}
 use Rattle.s80_model.specs.declared.item.SessionItem.TheVariants.{Chunk, Query}
 use Rattle.s80_model.specs.Settings.{Settings}
+use Rattle.s80_session.specs.Files.{IsQuestion}
 
--- to work the items of the input, or one item: the chunk of a text, or a query
+-- to work the items of the input, or one item: the chunk of a text, or what stands beside an input
 pub data Command : Type 0 where
   Run : Command
   Do : List ℕ → Command
@@ -24,6 +25,9 @@ command_word (Tell Recover) = codes "recover"
 command_word (Tell Classes) = codes "classes"
 command_word (Tell (Browse name)) = codes "browse"
 command_word (Tell (Source spec selector)) = codes "source"
+command_word (Tell (Versions spec selector)) = codes "versions"
+command_word (Tell Changes) = codes "changes"
+command_word (Tell Snapshot) = codes "snapshot"
 
 abbrev pub arguments_of : Command → List (List ℕ)
 arguments_of Run = []
@@ -32,6 +36,9 @@ arguments_of (Tell Recover) = []
 arguments_of (Tell Classes) = []
 arguments_of (Tell (Browse name)) = name ∷ []
 arguments_of (Tell (Source spec selector)) = spec ∷ selector ∷ []
+arguments_of (Tell (Versions spec selector)) = spec ∷ selector ∷ []
+arguments_of (Tell Changes) = []
+arguments_of (Tell Snapshot) = []
 
 -- what stands behind the separators at a text's beginning
 abbrev pub behind_separators : List ℕ → List ℕ
@@ -56,3 +63,9 @@ default_budget = 1000000
 -- what a run is given that is told nothing else
 abbrev pub default_settings : Settings
 default_settings = record { budget = default_budget; kept_versions = 1; moment = None }
+
+-- it asks for something to be told, and no more
+abbrev pub IsAskingCommand : Command → Type 0
+IsAskingCommand Run = ⊥
+IsAskingCommand (Do text) = ⊥
+IsAskingCommand (Tell query) = IsQuestion query

@@ -1,5 +1,5 @@
 -- The command that a task is.
-use Rattle.s80_model.specs.declared.item.Query.TheVariants.{Recover, Classes, Browse, Source}
+use Rattle.s80_model.specs.declared.item.Query.TheVariants.{Recover, Classes, Browse, Source, Versions, Changes, Snapshot}
 use Rattle.s80_program.specs.declared.words.Task.{Task}
 use Rattle.s80_program.specs.declared.words.Task.TheVariants as tasks
 use Rattle.s80_program.specs.Command.{Command, Run, Do, Tell}
@@ -11,3 +11,6 @@ command_of tasks.Recover = Tell Recover
 command_of tasks.Classes = Tell Classes
 command_of (tasks.Browse name) = Tell (Browse name.now)
 command_of (tasks.Source spec selector) = Tell (Source spec.now selector.now)
+command_of (tasks.Versions spec selector) = Tell (Versions spec.now selector.now)
+command_of tasks.Changes = Tell Changes
+command_of tasks.Snapshot = Tell Snapshot

@@ -1,8 +1,11 @@
 // What the program does with its words.
-ghost use Rattle.std.specs.Prelude.{◌≡◌, ◌≢◌, ◌++◌, ℕ, List, [], length, IsTrue, false, None, Some, IfOk, IfErr, IfSome};
+ghost use Rattle.std.specs.Prelude.{◌≡◌, ◌≢◌, ◌<◌, ◌++◌, ℕ, List, [], length, IsTrue, false, None, Some, IfOk, IfErr, IfSome};
 ghost use Rattle.s80_change.specs.declared.change.Change.{Change};
 ghost use Rattle.s80_chunk.specs.Chunks.{item_of};
 ghost use Rattle.s80_disk.specs.declared.disk.FileId.{FileId};
+ghost use Rattle.s80_disk.specs.declared.disk.FileId.TheVariants.{Mark};
+ghost use Rattle.s80_mark.specs.Found.{longer_log};
+ghost use Rattle.s80_session.specs.Files.{IsAsking};
 ghost use Rattle.s80_disk.specs.Moments.{LeavesOnly};
 ghost use Rattle.s80_keeper.specs.declared.start.Damage.{Damage};
 ghost use Rattle.s80_keeper.specs.Start.{IsDamage};
@@ -15,7 +18,7 @@ ghost use Rattle.s80_session.specs.Session.{keeper_of, last_run_of, troubled_of,
 ghost use Rattle.s80_session.specs.Working.{IsAt, IsReadable, StepLeaves};
 ghost use Rattle.s80_program.specs.Ending.{IsDiskEnd, NoFault, StatusHasReason, status_after, IsWhole};
 ghost use Rattle.s80_program.specs.Leaves.{StartsWith, Leaves, RunLeaves, ItemLeaves, CommandKeeps, AllAsks, IsWithin, PutsFront, TellsDamage, beginning};
-ghost use Rattle.s80_program.specs.Command.{Command, IsUseful, behind_separators, item_for};
+ghost use Rattle.s80_program.specs.Command.{Command, IsAskingCommand, IsUseful, behind_separators, item_for};
 ghost use Rattle.s80_program.specs.Words.{Asks};
 ghost use Rattle.s80_program.specs.Task.{command_of};
 
@@ -32,10 +35,10 @@ use std::alloc::Global;
 /// How many ticks a doIt may take.
 const DEFAULT_BUDGET: u64 = 1_000_000;
 
-/// Does what the words ask for: the program's name, a folder and a command. `run` keeps each chunk of the input that is a definition of a
-/// class, a method or a doIt in the folder, on the disk, and then answers it: a doIt with what it wrote and what it comes to, and else by a
-/// line. `do TEXT` does so with one text; `classes` names all classes, `browse NAME` shows one, `source SPEC SELECTOR` shows a method, and
-/// `recover` says how much there is.
+/// Does what the words ask for: the program's name, a folder and a command. `run` keeps each chunk of the input that is a change of classes, a
+/// method or a doIt in the folder, on the disk, and then answers it: a doIt with what it wrote and what it comes to, and else by a line.
+/// `do TEXT` does so with one text; `classes` names all classes, `browse NAME` shows one, `source SPEC SELECTOR` shows a method and
+/// `versions SPEC SELECTOR` all that it has been, `changes` lists the change set, `recover` says how much there is, and `snapshot` keeps a note.
 pub fn st80<O: Outside>(alloc: Global, words: &[Text], outside: &mut O) -> Status
     // Bad usage is answered exactly where the words ask for nothing, and then the outside isn't called.
     ensures usage { result ≡ Status.Usage
@@ -74,6 +77,13 @@ pub fn st80<O: Outside>(alloc: Global, words: &[Text], outside: &mut O) -> Statu
         → NoFault (O.faults outside.old) (O.faults outside.new)
         → IsWhole result }
 
+    // A command that asks for something changes no file, but that logs which are empty get their first mark.
+    ensures asked { (folder : List ℕ) (command : Command) → Asks words.now folder command → IsAskingCommand command
+        → (file : FileId) → file ≢ Mark → (O.shown outside.new).files file ≡ (O.shown outside.old).files file }
+    ensures marked { (folder : List ℕ) (command : Command) → Asks words.now folder command → IsAskingCommand command
+        → IsTrue (O.shown outside.old).tells → 0 < longer_log (O.shown outside.old).files
+        → (file : FileId) → (O.shown outside.new).files file ≡ (O.shown outside.old).files file }
+
     // Damage is answered only where the files have one. Where they have one nothing that is shown changes, and a crash at any moment leaves
     // what it might have left before.
     ensures found { result ≡ Status.Damaged → IsTrue (O.shown outside.old).tells
@@ -105,6 +115,10 @@ fn work<O: Outside>(
         → StartsWith (O.may_leave outside.old) (O.shown outside.old) changes input before
         → ShownFor (O.may_leave outside.old) (O.shown outside.old) changes
         → LeavesOnly O.moment O.left_since outside.old outside.new (CommandKeeps (command_of task.entry) changes input before) }
+    ensures asked { IsAskingCommand (command_of task.entry)
+        → (file : FileId) → file ≢ Mark → (O.shown outside.new).files file ≡ (O.shown outside.old).files file }
+    ensures marked { IsAskingCommand (command_of task.entry) → IsTrue (O.shown outside.old).tells → 0 < longer_log (O.shown outside.old).files
+        → (file : FileId) → (O.shown outside.new).files file ≡ (O.shown outside.old).files file }
     ensures found { status_after result ≡ Status.Damaged → IsTrue (O.shown outside.old).tells
         → (damage : Damage) × IsDamage (O.shown outside.old).files damage }
     ensures damaged { (damage : Damage) → IsTrue (O.shown outside.old).tells → IsDamage (O.shown outside.old).files damage
@@ -147,6 +161,7 @@ fn do_task<O: Outside>(
     ensures any_moment { (changes : List Change) (input before : List ℕ) → (O.shown outside.old).left ≡ Some input
         → IsAt (O.may_leave outside.old) (O.shown outside.old) session.old (beginning changes) before
         → LeavesOnly O.moment O.left_since outside.old outside.new (CommandKeeps (command_of task.entry) changes input before) }
+    ensures asked { IsAskingCommand (command_of task.entry) → (file : FileId) → (O.shown outside.new).files file ≡ (O.shown outside.old).files file }
     ensures sound { IsTrue (O.shown outside.old).tells → (changes : List Change) → Knows (O.shown outside.old).files (keeper_of session.old) changes → MeetsNoDamage result }
     ensures counts { SourceCounts (O.faults outside.old) (O.faults outside.new) result }
 {
@@ -169,6 +184,9 @@ fn item_for(alloc: Global, task: Task<'_>) -> Result<Option<SessionItem>, OutOfM
         Task::Classes => Query::Classes,
         Task::Browse(name) => Query::Browse(name.copy(alloc)?),
         Task::Source(spec, selector) => Query::Source(spec.copy(alloc)?, selector.copy(alloc)?),
+        Task::Versions(spec, selector) => Query::Versions(spec.copy(alloc)?, selector.copy(alloc)?),
+        Task::Changes => Query::Changes,
+        Task::Snapshot => Query::Snapshot,
     };
     Ok(Some(SessionItem::Query(query)))
 }
@@ -224,6 +242,7 @@ fn answer_item<O: Outside>(
     ensures any_moment { (changes : List Change) (before : List ℕ)
         → IsAt (O.may_leave outside.old) (O.shown outside.old) session.old (beginning changes) before
         → LeavesOnly O.moment O.left_since outside.old outside.new (StepLeaves (beginning changes) before item) }
+    ensures asked { IsAsking item → (file : FileId) → (O.shown outside.new).files file ≡ (O.shown outside.old).files file }
     ensures left { (O.shown outside.new).left ≡ (O.shown outside.old).left }
     ensures sound { IsTrue (O.shown outside.old).tells → (changes : List Change) → Knows (O.shown outside.old).files (keeper_of session.old) changes → MeetsNoDamage result }
     ensures counts { SourceCounts (O.faults outside.old) (O.faults outside.new) result }

@@ -21,6 +21,12 @@ pub(crate) enum Task<'w> {
     Browse(&'w Text),
     /// Shows the source of a method: of the class and side that the first word names, with this selector.
     Source(&'w Text, &'w Text),
+    /// Shows the versions of a method, which is named so too.
+    Versions(&'w Text, &'w Text),
+    /// Lists the change set.
+    Changes,
+    /// Keeps the note of a snapshot.
+    Snapshot,
 }
 
 /// A task, and the folder that it is for.
@@ -70,6 +76,12 @@ fn task_alone(word: &Text) -> Option<Task<'_>>
     if bytes == b"classes".as_slice() {
         return Some(Task::Classes);
     }
+    if bytes == b"changes".as_slice() {
+        return Some(Task::Changes);
+    }
+    if bytes == b"snapshot".as_slice() {
+        return Some(Task::Snapshot);
+    }
     None
 }
 
@@ -104,11 +116,19 @@ fn task_on_both<'w>(word: &Text, spec: &'w Text, selector: &'w Text) -> Option<T
     ensures found { IfSome result (λ task. AreOf (word.now ∷ spec.now ∷ selector.now ∷ []) (command_of task)) }
     ensures none { IfNone result ((command : Command) → AreOf (word.now ∷ spec.now ∷ selector.now ∷ []) command → ⊥) }
 {
-    if word.bytes() == b"source".as_slice() && is_plain(spec) && is_plain(selector) {
-        Some(Task::Source(spec, selector))
-    } else {
-        None
+    if !is_plain(spec) {
+        return None;
     }
+    if !is_plain(selector) {
+        return None;
+    }
+    if word.bytes() == b"source".as_slice() {
+        return Some(Task::Source(spec, selector));
+    }
+    if word.bytes() == b"versions".as_slice() {
+        return Some(Task::Versions(spec, selector));
+    }
+    None
 }
 
 /// The task that the words behind the folder ask for.

@@ -13,8 +13,9 @@ use Rattle.s80_apply.specs.List.{IsAccepted, state_of, refusal_to, added, add}
 use Rattle.s80_apply.specs.State.{State}
 use Rattle.s80_apply.specs.Placed.{placed_of}
 use Rattle.s80_apply.specs.System.{HasPlaces, IsSystemOf}
+use Rattle.s80_history.specs.History.{IsHistoryOf}
 use Rattle.s80_disk.specs.Shown.{Shown}
-use Rattle.s80_keeper.specs.Keeper.{KeeperState, Keeps}
+use Rattle.s80_keeper.specs.Keeper.{Keeps}
 use Rattle.s80_keeper.specs.Answers.{PreparedChange, IsFor}
 use Rattle.s80_keeper.specs.Standing.{FilesStandFor, LeavesEither}
 use Rattle.s80_model.specs.declared.reply.Reply.TheVariants.{Accepted, Refused}
@@ -35,13 +36,13 @@ add_refuses changes change refusal is = ap (λ r. added r (changes ++ change ∷
 
 -- a keeper's log is as long as the blocks of its list
 log_is : (may_leave : Image → Type 0) (o : Shown) (session : Session) (work : Work) (put : List ℕ) → IsAt may_leave o session work put → (keeper_of session).log.end ≡ length (blocks work.changes)
-log_is may_leave o session work put h = sym h.keeps.end ∙ h.keeps.stands.files.whole
+log_is may_leave o session work put h = h.keeps.holds.whole
 
 -- a session before and after its keeper prepared a change
-module _ (may_leave : Image → Type 0) (o : Shown) (before now : Session) (work : Work) (put : List ℕ) (change : Change) (same : keeper_of now ≡ record (keeper_of before) { system = (keeper_of now).system }) (system : IsSystemOf (keeper_of now).system (state_of work.changes)) (places : HasPlaces (keeper_of now).system (placed_of work.changes)) (rest : now ≡ record before { keeper = keeper_of now }) (at : IsAt may_leave o before work put) where
+module _ (may_leave : Image → Type 0) (o : Shown) (before now : Session) (work : Work) (put : List ℕ) (change : Change) (same : keeper_of now ≡ record (keeper_of before) { system = (keeper_of now).system; history = (keeper_of now).history }) (system : IsSystemOf (keeper_of now).system (state_of work.changes)) (places : HasPlaces (keeper_of now).system (placed_of work.changes)) (history : IsHistoryOf (keeper_of now).history work.changes) (rest : now ≡ record before { keeper = keeper_of now }) (at : IsAt may_leave o before work put) where
   pub still_at : IsAt may_leave o now work put
   still_at = record {
-    keeps = keeps_prepared o.tells o.files may_leave (keeper_of before) work.changes (keeper_of now) same system places at.keeps;
+    keeps = keeps_prepared o.tells o.files may_leave (keeper_of before) work.changes (keeper_of now) same system places history at.keeps;
     section = ap section_of rest ∙ at.section;
     brief = at.brief;
     budget = ap budget_of rest ∙ at.budget;
@@ -71,7 +72,7 @@ module _ (may_leave : Image → Type 0) (o : Shown) (before now : Session) (work
         subst P (sym is) (lawful (subst Q (sym accepts.1) tt))
 
 -- what was kept
-pub kept : (was may_leave : Image → Type 0) (o now : Shown) (before session : Session) (work : Work) (put : List ℕ) (change : Change) → add work.changes change ≡ Ok (work.changes ++ change ∷ []) → Keeps now.tells now.files may_leave (keeper_of session) (work.changes ++ change ∷ []) → session ≡ record before { keeper = keeper_of session } → now ≡ record o { files = now.files } → IsAt was o before work put
+pub kept : (was may_leave : Image → Type 0) (o now : Shown) (before session : Session) (work : Work) (put : List ℕ) (change : Change) → add work.changes change ≡ Ok (work.changes ++ change ∷ []) → Keeps now.tells now.files may_leave (keeper_of session) (work.changes ++ change ∷ []) (work.changes ++ change ∷ []) → session ≡ record before { keeper = keeper_of session } → now ≡ record o { files = now.files } → IsAt was o before work put
     → (Accepted ≡ reply_to_adding (add work.changes change)) × IsAt may_leave now session (adding work change) put
 kept was may_leave o now before session work put change takes keeps rest shown at = rw takes (
   refl,

@@ -6,9 +6,11 @@ use Rattle.s80_chunk.specs.declared.item.Role.TheVariants as roles
 use Rattle.s80_form.specs.declared.refusal.Refusal.{Refusal}
 use Rattle.s80_change.specs.Head.{IsBriefHead}
 use Rattle.s80_change.specs.declared.head.SectionHead.{SectionHead}
+use Rattle.s80_model.specs.declared.item.Query.{Query as SessionQuery}
+use Rattle.s80_model.specs.declared.item.Query.TheVariants as queries
 use Rattle.s80_model.specs.declared.item.SessionItem.{SessionItem}
 use Rattle.s80_model.specs.declared.item.SessionItem.TheVariants.{Chunk, Unended, Query}
-use Rattle.s80_model.specs.Asked.{Ask, Asks, refuses, adds, evaluates, opens, refuses_head, adds_source, refuses_source, closes, tells, ask_of_too_long}
+use Rattle.s80_model.specs.Asked.{Ask, Asks, refuses, adds, evaluates, opens, refuses_head, adds_source, refuses_source, closes, tells, ask_of_query, ask_of_too_long}
 use Rattle.s80_model.specs.Replies.{Work, refusal_of_head, section_of, work_after}
 use Rattle.s80_model.specs.Section.{IsBriefSection}
 
@@ -16,6 +18,15 @@ no_opening : (role : Role) (n : ℕ) (head : SectionHead) → opens head ≡ ask
 no_opening roles.Plain n head e = cc
 no_opening roles.Head n head e = cc
 no_opening roles.Method n head e = cc
+
+no_question : (query : SessionQuery) (head : SectionHead) → opens head ≡ ask_of_query query → ⊥
+no_question queries.Recover head e = cc
+no_question queries.Classes head e = cc
+no_question (queries.Browse name) head e = cc
+no_question (queries.Source spec selector) head e = cc
+no_question (queries.Versions spec selector) head e = cc
+no_question queries.Changes head e = cc
+no_question queries.Snapshot head e = cc
 
 -- a head that a text is has the name and the category of its tree
 brief_head : (item : SessionItem) (head : SectionHead) → Asks item (opens head) → IsBriefHead head
@@ -25,7 +36,7 @@ brief_head (Chunk (items.Method text)) head asks = absurd asks
 brief_head (Chunk items.SectionEnd) head asks = absurd (cc)
 brief_head (Chunk (items.TooLong role n)) head asks = absurd (no_opening role n head asks)
 brief_head Unended head asks = absurd (cc)
-brief_head (Query query) head asks = absurd (cc)
+brief_head (Query query) head asks = absurd (no_question query head asks)
 
 opened : (head : SectionHead) (refusal : Option Refusal) → IsBriefHead head → IsBriefSection (section_of head refusal)
 opened head None brief = brief
@@ -38,6 +49,6 @@ brief_after work item closes asks brief = tt
 brief_after work item (refuses refusal) asks brief = brief
 brief_after work item (adds change) asks brief = brief
 brief_after work item (evaluates text told stopped) asks brief = brief
-brief_after work item (adds_source source check) asks brief = brief
+brief_after work item (adds_source source) asks brief = brief
 brief_after work item (refuses_source refusal) asks brief = brief
 brief_after work item (tells query) asks brief = brief

@@ -6,7 +6,7 @@ use Rattle.s80_change.specs.declared.change.Change.{Change}
 use Rattle.s80_change.specs.declared.change.Change.TheVariants.{DoIt}
 use Rattle.s80_change.specs.Block.{blocks}
 use Rattle.s80_form.specs.declared.refusal.Refusal.{Refusal}
-use Rattle.s80_form.specs.Definition.{IsNoDefinition}
+use Rattle.s80_form.specs.Form.{IsNoFormText}
 use Rattle.s80_disk.specs.Image.{Image}
 use Rattle.s80_disk.specs.Moments.{LeavesOnly}
 use Rattle.s80_doit.specs.Answer.{EvaluatesTo}
@@ -42,7 +42,7 @@ told_so changes text settings told stopped h None =
 told_so changes text settings told stopped h (Some refusal) = ([], false, (refl, refl))
 
 -- so an item that is a doIt asks something
-pub asks_doit : (work : Work) (text told : List ℕ) (stopped : Bool) → Fits text → IsNoDefinition text → EvaluatesTo (state_of work.changes) text work.settings.budget told stopped → (t : List ℕ) × (s : Bool) × AsksIn work (Chunk (items.Plain text)) (evaluates text t s)
+pub asks_doit : (work : Work) (text told : List ℕ) (stopped : Bool) → Fits text → IsNoFormText text → EvaluatesTo (state_of work.changes) text work.settings.budget told stopped → (t : List ℕ) × (s : Bool) × AsksIn work (Chunk (items.Plain text)) (evaluates text t s)
 asks_doit work text told stopped fits none h =
     let so = told_so work.changes text work.settings told stopped h (refusal_to (state_of work.changes) (length (blocks work.changes)) (DoIt text)) in
     (so.0, so.1, ((fits, refl, none), so.2))
@@ -77,7 +77,7 @@ run_refused (Ok changes) text settings refusal before now e same = absurd (cc)
 run_refused (Err other) text settings refusal before now e same = same
 
 -- a doIt that isn't kept isn't evaluated
-pub replied_unkept : (may_leave : Image → Type 0) (now : Shown) (session : Session) (was : Was) (work : Work) (put text : List ℕ) (refusal : Refusal) → Fits text → IsNoDefinition text → last_run_of session ≡ was.last_run → Kept (Ok (Some refusal)) may_leave now session work put (DoIt text) → Replied (Ok (Refused refusal)) may_leave now session was work put (Chunk (items.Plain text))
+pub replied_unkept : (may_leave : Image → Type 0) (now : Shown) (session : Session) (was : Was) (work : Work) (put text : List ℕ) (refusal : Refusal) → Fits text → IsNoFormText text → last_run_of session ≡ was.last_run → Kept (Ok (Some refusal)) may_leave now session work put (DoIt text) → Replied (Ok (Refused refusal)) may_leave now session was work put (Chunk (items.Plain text))
 replied_unkept may_leave now session was work put text refusal fits none same h =
     let r : Result (List Change) Refusal = add work.changes (DoIt text) in (
       evaluates text [] false,
@@ -88,10 +88,10 @@ replied_unkept may_leave now session was work put text refusal fits none same h 
     )
 
 -- a doIt that is kept
-module _ (may_leave : Image → Type 0) (now : Shown) (mid session : Session) (work : Work) (put text : List ℕ) (fits : Fits text) (none : IsNoDefinition text) (rest : session ≡ record mid { last_run = last_run_of session }) (h : Kept (Ok None) may_leave now mid work put (DoIt text)) where
+module _ (may_leave : Image → Type 0) (now : Shown) (mid session : Session) (work : Work) (put text : List ℕ) (fits : Fits text) (none : IsNoFormText text) (rest : session ≡ record mid { last_run = last_run_of session }) (h : Kept (Ok None) may_leave now mid work put (DoIt text)) where
   is_at : IsAt may_leave now session (adding work (DoIt text)) put
   is_at = record {
-    keeps = let P : KeeperState → Type 0 = λ k. Keeps now.tells now.files may_leave k (adding work (DoIt text)).changes in subst P (sym (ap keeper_of rest)) h.1.keeps;
+    keeps = let P : KeeperState → Type 0 = λ k. Keeps now.tells now.files may_leave k (adding work (DoIt text)).changes (adding work (DoIt text)).changes in subst P (sym (ap keeper_of rest)) h.1.keeps;
     section = ap section_of rest ∙ h.1.section;
     brief = h.1.brief;
     budget = ap budget_of rest ∙ h.1.budget;

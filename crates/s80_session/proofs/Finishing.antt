@@ -1,5 +1,5 @@
 -- The end of an input.
-use Rattle.std.proofs.Common.{◌≡◌, inl, inr, ℕ, ◌≤◌, List, [], ◌∷◌, ◌++◌, length, refl, sym, subst, Result, Ok, Err, Some}
+use Rattle.std.proofs.Common.{◌≡◌, inl, inr, ℕ, ◌≤◌, List, [], ◌∷◌, ◌++◌, length, refl, subst, Result, Ok, Err, Some}
 use Rattle.std.specs.Prelude.{◌||◌}
 use Rattle.s80_chunk.specs.declared.item.Item.{Item}
 use Rattle.s80_chunk.specs.declared.rest.Rest.{Rest}

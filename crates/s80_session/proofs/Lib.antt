@@ -7,6 +7,7 @@ pub mod Evaluating
 pub mod Finishing
 pub mod Lawful
 pub mod Marking
+pub mod Noting
 pub mod Reading
 pub mod Stepping
 pub mod Taking

@@ -3,7 +3,7 @@ use Rattle.std.proofs.Common.{◌≡◌, ◌⊎◌, inl, inr, ℕ, List, [], Boo
 use Rattle.std.specs.Prelude.{◌||◌}
 use Rattle.std.specs.Io.KnownBytes.{Appends}
 use Rattle.std.proofs.lemmas.List.{append-nil}
-use Rattle.s80_form.specs.Definition.{IsNoDefinition}
+use Rattle.s80_form.specs.Form.{IsNoFormText}
 use Rattle.s80_chunk.specs.declared.item.Item.TheVariants as items
 use Rattle.s80_form.specs.declared.refusal.Refusal.{Refusal}
 use Rattle.s80_doit.specs.DoIt.{AreGiven, Fits, IsRunOf}
@@ -26,11 +26,16 @@ use Rattle.s80_session.proofs.Stepping.{IsStaying}
 -- ---- the last run
 
 -- a doIt that was evaluated
-pub ran_last : (before mid now : Session) (text : List ℕ) (reply : Reply) → Fits text → IsNoDefinition text → Evaluates {E = Unit {0}} (Ok reply) mid now text → now ≡ record mid { last_run = last_run_of now } → RunAfterText (Ok reply) (Chunk (items.Plain text)) before now
+pub ran_last : (before mid now : Session) (text : List ℕ) (reply : Reply) → Fits text → IsNoFormText text → Evaluates {E = Unit {0}} (Ok reply) mid now text → now ≡ record mid { last_run = last_run_of now } → RunAfterText (Ok reply) (Chunk (items.Plain text)) before now
 ran_last before mid now text reply fits none (ran, given, run, evaluated, reply_is, last) rest =
     let P : Session → Type 0 = λ s. AreGiven (keeper_of s).system × IsRunOf (keeper_of s).system text (budget_of s) ran in
     let both = subst P (sym rest) (given, run) in
     inr (subst IsEvaluation (sym reply_is) tt, (fits, none, both.0, ran, both.1, last))
+
+-- nothing was evaluated
+pub run_stays : (result : Result Reply SessionEnd) (item : SessionItem) (before now : Session) → last_run_of now ≡ last_run_of before → RunAfterText result item before now
+run_stays (Ok reply) item before now same = inl same
+run_stays (Err end) item before now same = same
 
 -- a reply is an item's answer
 pub run_answered : (item : SessionItem) (before now : Session) (reply : Reply) (answer : Answer) → IsStaying reply answer → RunAfterText (Ok reply) item before now → RunAfterWork (Ok answer) item before now

@@ -1,13 +1,13 @@
 -- One step of a session.
-use Rattle.std.proofs.Common.{◌≡◌, inl, inr, ℕ, List, ◌++◌, take, refl, sym, ap, subst, ◌∙◌, Result, Ok, Err, Option, Some, Bool, true, false}
+use Rattle.std.proofs.Common.{◌≡◌, inl, inr, ℕ, List, ◌++◌, take, refl, sym, ap, subst, ◌∙◌, Result, Ok, Err, Option, Bool, true, false}
 use Rattle.std.specs.Prelude.{◌||◌, None, length}
 use Rattle.std.proofs.lemmas.List.{append-nil}
 use Rattle.s80_chunk.specs.declared.item.Role.{Role}
 use Rattle.s80_chunk.specs.declared.item.Role.TheVariants as roles
 use Rattle.s80_chunk.specs.declared.item.Item.TheVariants as items
 use Rattle.s80_change.specs.declared.change.Change.{Change}
-use Rattle.s80_change.specs.declared.change.Change.TheVariants.{Define, DoIt}
-use Rattle.s80_form.specs.declared.definition.Definition.{Definition}
+use Rattle.s80_change.specs.declared.change.Change.TheVariants.{DoIt}
+use Rattle.s80_change.specs.Source.{SourceParts}
 use Rattle.s80_form.specs.declared.refusal.Refusal.{Refusal}
 use Rattle.s80_disk.specs.Image.{Image}
 use Rattle.s80_disk.specs.Moments.{LeavesOnly}
@@ -18,19 +18,18 @@ use Rattle.s80_keeper.specs.declared.start.StartFault.TheVariants as faults
 use Rattle.s80_keeper.specs.Keeper.{KeeperState, Keeps}
 use Rattle.s80_keeper.specs.Start.{Started}
 use Rattle.s80_change.specs.declared.head.SectionHead.{SectionHead}
-use Rattle.s80_change.specs.declared.source_check.SourceCheck.{SourceCheck}
-use Rattle.s80_change.specs.Check.{IsCheckOf}
-use Rattle.s80_apply.specs.List.{add, state_of}
+use Rattle.s80_apply.specs.List.{add}
 use Rattle.s80_model.specs.declared.item.Query.{Query as SessionQuery}
+use Rattle.s80_model.specs.declared.item.Query.TheVariants as queries
 use Rattle.s80_model.specs.declared.item.SessionItem.{SessionItem}
-use Rattle.s80_model.specs.declared.item.SessionItem.TheVariants.{Chunk, Unended, Query}
+use Rattle.s80_model.specs.declared.item.SessionItem.TheVariants.{Chunk, Query}
 use Rattle.s80_model.specs.declared.reply.Answer.{Answer}
 use Rattle.s80_model.specs.declared.reply.Reply.{Reply}
 use Rattle.s80_model.specs.declared.reply.Reply.TheVariants.{Silent, Refused}
 use Rattle.s80_model.specs.declared.section.Section.{Section}
 use Rattle.s80_model.specs.declared.section.Section.TheVariants as sections
 use Rattle.s80_machine.specs.Came.{RanValue}
-use Rattle.s80_model.specs.Asked.{Ask, refuses, adds, evaluates, opens, refuses_head, adds_source, refuses_source, closes, tells, ask_of_too_long, AsksPlain, AsksHead, AsksMethod}
+use Rattle.s80_model.specs.Asked.{Ask, refuses, adds, evaluates, opens, refuses_head, adds_source, refuses_source, closes, tells, ask_of_query, ask_of_too_long, snapshot_note, Asks, AsksPlain, AsksHead, AsksMethod}
 use Rattle.s80_model.specs.Replies.{IsAnswer, Work, AsksIn, IsSo, list_or, list_after_source, method_in, reply_to, reply_to_adding, reply_to_evaluating, reply_to_source, reply_text, is_trouble, work_after}
 use Rattle.s80_model.specs.Settings.{Settings}
 use Rattle.s80_model.specs.Section.{section_or, IsBriefSection}
@@ -39,10 +38,11 @@ use Rattle.s80_session.specs.declared.end.SessionEnd.{SessionEnd}
 use Rattle.s80_session.specs.declared.end.SessionEnd.TheVariants as ends
 use Rattle.s80_session.specs.declared.session.Session.{Session}
 use Rattle.s80_session.specs.Ends.{end_of_start, reply_to_keeping}
+use Rattle.s80_session.specs.Files.{IsQuestion}
 use Rattle.s80_session.specs.LastRun.{RunBehind}
 use Rattle.s80_session.specs.Run.{HasKept}
 use Rattle.s80_session.specs.Session.{Was, budget_of, keeper_of, last_run_of, section_of, troubled_of}
-use Rattle.s80_session.specs.Working.{IsAt, Kept, Replied, Worked, Stepped, Unreplied, Unworked, IsPut, AnswerPut, KeepLeaves, WorkLeaves, Starts, adding, staying}
+use Rattle.s80_session.specs.Working.{IsAt, Kept, Noted, Replied, Worked, Stepped, Unreplied, Unworked, IsPut, AnswerPut, KeepLeaves, WorkLeaves, Starts, adding, staying}
 use Rattle.s80_session.proofs.Brief.{brief_after}
 use Rattle.s80_session.proofs.lemmas.Keeping.{keeps_less}
 
@@ -57,35 +57,40 @@ unreplied (ends.Write failed) may_leave now session work put item h = h
 unreplied ends.TooLong may_leave now session work put item h = h
 unreplied (ends.Damaged damage) may_leave now session work put item h = h
 
--- a text that is a definition is worked by keeping it
-pub replied_definition : (may_leave : Image → Type 0) (now : Shown) (session : Session) (was : Was) (work : Work) (put text : List ℕ) (d : Definition) (refusal : Option Refusal) (reply : Reply) → last_run_of session ≡ was.last_run → AsksPlain text (adds (Define d)) → reply ≡ reply_to_keeping refusal → Kept (Ok refusal) may_leave now session work put (Define d) → Replied (Ok reply) may_leave now session was work put (Chunk (items.Plain text))
-replied_definition may_leave now session was work put text d refusal reply same is reply_is h = (adds (Define d), (is, tt), reply_is ∙ h.0, same, h.1)
+-- an item that adds a change is worked by keeping it
+pub replied_change : (may_leave : Image → Type 0) (now : Shown) (session : Session) (was : Was) (work : Work) (put : List ℕ) (item : SessionItem) (change : Change) (refusal : Option Refusal) (reply : Reply) → last_run_of session ≡ was.last_run → Asks item (adds change) → reply ≡ reply_to_keeping refusal → Kept (Ok refusal) may_leave now session work put change → Replied (Ok reply) may_leave now session was work put item
+replied_change may_leave now session was work put item change refusal reply same is reply_is h = (adds change, (is, tt), reply_is ∙ h.0, same, h.1)
 
--- one that is none is refused
+-- the same of the note of a snapshot
+pub replied_note : (result : Result Reply SessionEnd) (may_leave : Image → Type 0) (now : Shown) (session : Session) (was : Was) (work : Work) (put : List ℕ) (item : SessionItem) → last_run_of session ≡ was.last_run → Asks item (adds (DoIt snapshot_note)) → Noted result may_leave now session work put → Replied result may_leave now session was work put item
+replied_note (Ok reply) may_leave now session was work put item same is h = (adds (DoIt snapshot_note), (is, tt), h.0, same, h.1)
+replied_note (Err end) may_leave now session was work put item same is h = unreplied end may_leave now session work put item h
+
+-- a text that is none of them is refused
 pub replied_refusal : (may_leave : Image → Type 0) (now : Shown) (session : Session) (was : Was) (work : Work) (put text : List ℕ) (refusal : Refusal) → last_run_of session ≡ was.last_run → AsksPlain text (refuses refusal) → IsAt may_leave now session work put → Replied (Ok (Refused refusal)) may_leave now session was work put (Chunk (items.Plain text))
 replied_refusal may_leave now session was work put text refusal same is h = (refuses refusal, (is, tt), refl, same, h)
 
 -- a source is worked by keeping its method, in a section that is open
-pub replied_source : (may_leave : Image → Type 0) (now : Shown) (session : Session) (was : Was) (work : Work) (put source : List ℕ) (check : SourceCheck) (head : SectionHead) (change : Change) (refusal : Option Refusal) (reply : Reply) → last_run_of session ≡ was.last_run → change ≡ method_in head source check → work.section ≡ sections.Open head → IsCheckOf source check → reply ≡ reply_to_keeping refusal → Kept (Ok refusal) may_leave now session work put change → Replied (Ok reply) may_leave now session was work put (Chunk (items.Method source))
-replied_source may_leave now session was work put source check head change refusal reply same method section is reply_is h =
-    let P : Section → Type 0 = λ s. (reply ≡ reply_to_source work.changes s source check) × IsAt may_leave now session (record work { changes = list_after_source work.changes s source check }) put in
+pub replied_source : (may_leave : Image → Type 0) (now : Shown) (session : Session) (was : Was) (work : Work) (put text : List ℕ) (source : SourceParts) (head : SectionHead) (change : Change) (refusal : Option Refusal) (reply : Reply) → last_run_of session ≡ was.last_run → change ≡ method_in head source → work.section ≡ sections.Open head → AsksMethod text (adds_source source) → reply ≡ reply_to_keeping refusal → Kept (Ok refusal) may_leave now session work put change → Replied (Ok reply) may_leave now session was work put (Chunk (items.Method text))
+replied_source may_leave now session was work put text source head change refusal reply same method section is reply_is h =
+    let P : Section → Type 0 = λ s. (reply ≡ reply_to_source work.changes s source) × IsAt may_leave now session (record work { changes = list_after_source work.changes s source }) put in
     let Q : Change → Type 0 = λ c. (reply ≡ reply_to_adding (add work.changes c)) × IsAt may_leave now session (adding work c) put in
     let both = subst P (sym section) (subst Q method (reply_is ∙ h.0, h.1)) in
-    (adds_source source check, ((refl, is), tt), both.0, same, both.1)
+    (adds_source source, (is, tt), both.0, same, both.1)
 
 -- in every other section it is passed over
-passes_over : (may_leave : Image → Type 0) (now : Shown) (session : Session) (was : Was) (work : Work) (put source : List ℕ) (check : SourceCheck) (section : Section) → last_run_of session ≡ was.last_run → reply_to_source work.changes section source check ≡ Silent → list_after_source work.changes section source check ≡ work.changes → work.section ≡ section → IsCheckOf source check → IsAt may_leave now session work put → Replied (Ok Silent) may_leave now session was work put (Chunk (items.Method source))
-passes_over may_leave now session was work put source check section same silent stays is checked h =
+passes_over : (may_leave : Image → Type 0) (now : Shown) (session : Session) (was : Was) (work : Work) (put text : List ℕ) (source : SourceParts) (section : Section) → last_run_of session ≡ was.last_run → reply_to_source work.changes section source ≡ Silent → list_after_source work.changes section source ≡ work.changes → work.section ≡ section → AsksMethod text (adds_source source) → IsAt may_leave now session work put → Replied (Ok Silent) may_leave now session was work put (Chunk (items.Method text))
+passes_over may_leave now session was work put text source section same silent stays is asks h =
     let P : List Change → Type 0 = λ l. IsAt may_leave now session (record work { changes = l }) put in
-    let Q : Section → Type 0 = λ s. (Silent ≡ reply_to_source work.changes s source check) × IsAt may_leave now session (record work { changes = list_after_source work.changes s source check }) put in
+    let Q : Section → Type 0 = λ s. (Silent ≡ reply_to_source work.changes s source) × IsAt may_leave now session (record work { changes = list_after_source work.changes s source }) put in
     let both = subst Q (sym is) (sym silent, subst P (sym stays) h) in
-    (adds_source source check, ((refl, checked), tt), both.0, same, both.1)
+    (adds_source source, (asks, tt), both.0, same, both.1)
 
-pub passed_top : (may_leave : Image → Type 0) (now : Shown) (session : Session) (was : Was) (work : Work) (put source : List ℕ) (check : SourceCheck) → last_run_of session ≡ was.last_run → work.section ≡ sections.Top → IsCheckOf source check → IsAt may_leave now session work put → Replied (Ok Silent) may_leave now session was work put (Chunk (items.Method source))
-passed_top may_leave now session was work put source check same is checked h = passes_over may_leave now session was work put source check sections.Top same refl refl is checked h
+pub passed_top : (may_leave : Image → Type 0) (now : Shown) (session : Session) (was : Was) (work : Work) (put text : List ℕ) (source : SourceParts) → last_run_of session ≡ was.last_run → work.section ≡ sections.Top → AsksMethod text (adds_source source) → IsAt may_leave now session work put → Replied (Ok Silent) may_leave now session was work put (Chunk (items.Method text))
+passed_top may_leave now session was work put text source same is asks h = passes_over may_leave now session was work put text source sections.Top same refl refl is asks h
 
-pub passed_refused : (may_leave : Image → Type 0) (now : Shown) (session : Session) (was : Was) (work : Work) (put source : List ℕ) (check : SourceCheck) → last_run_of session ≡ was.last_run → work.section ≡ sections.Refused → IsCheckOf source check → IsAt may_leave now session work put → Replied (Ok Silent) may_leave now session was work put (Chunk (items.Method source))
-passed_refused may_leave now session was work put source check same is checked h = passes_over may_leave now session was work put source check sections.Refused same refl refl is checked h
+pub passed_refused : (may_leave : Image → Type 0) (now : Shown) (session : Session) (was : Was) (work : Work) (put text : List ℕ) (source : SourceParts) → last_run_of session ≡ was.last_run → work.section ≡ sections.Refused → AsksMethod text (adds_source source) → IsAt may_leave now session work put → Replied (Ok Silent) may_leave now session was work put (Chunk (items.Method text))
+passed_refused may_leave now session was work put text source same is asks h = passes_over may_leave now session was work put text source sections.Refused same refl refl is asks h
 
 -- what a crash leaves while a change is kept
 keep_works : (work : Work) (put : List ℕ) (item : SessionItem) (ask : Ask) (change : Change) (told : ℕ) (c : Image) → AsksIn work item ask → (work_after work ask).changes ≡ list_or (add work.changes change) work.changes → KeepLeaves work put change told c → WorkLeaves work put item told c
@@ -96,12 +101,12 @@ module _ {D : Type 0} (moment : D → ℕ) (left_since : D → ℕ → ℕ → I
   pub kept_lasts : (old new : D) (work : Work) (put : List ℕ) (item : SessionItem) (ask : Ask) (change : Change) → AsksIn work item ask → (work_after work ask).changes ≡ list_or (add work.changes change) work.changes → LeavesOnly moment left_since old new (KeepLeaves work put change) → LeavesOnly moment left_since old new (WorkLeaves work put item)
   kept_lasts old new work put item ask change one is run = weaker moment left_since old new (KeepLeaves work put change) (WorkLeaves work put item) run (λ told c h. keep_works work put item ask change told c one is h)
 
-  pub plain_lasts : (old new : D) (work : Work) (put text : List ℕ) (change : Change) → AsksPlain text (adds change) → LeavesOnly moment left_since old new (KeepLeaves work put change) → LeavesOnly moment left_since old new (WorkLeaves work put (Chunk (items.Plain text)))
-  plain_lasts old new work put text change is run = kept_lasts old new work put (Chunk (items.Plain text)) (adds change) change (is, tt) refl run
+  pub change_lasts : (old new : D) (work : Work) (put : List ℕ) (item : SessionItem) (change : Change) → Asks item (adds change) → LeavesOnly moment left_since old new (KeepLeaves work put change) → LeavesOnly moment left_since old new (WorkLeaves work put item)
+  change_lasts old new work put item change is run = kept_lasts old new work put item (adds change) change (is, tt) refl run
 
-  pub source_lasts : (old new : D) (work : Work) (put source : List ℕ) (check : SourceCheck) (head : SectionHead) (change : Change) → change ≡ method_in head source check → work.section ≡ sections.Open head → IsCheckOf source check → LeavesOnly moment left_since old new (KeepLeaves work put change) → LeavesOnly moment left_since old new (WorkLeaves work put (Chunk (items.Method source)))
-  source_lasts old new work put source check head change method section is run =
-      kept_lasts old new work put (Chunk (items.Method source)) (adds_source source check) change ((refl, is), tt) (ap (λ s. list_after_source work.changes s source check) section ∙ ap (λ c. list_or (add work.changes c) work.changes) (sym method)) run
+  pub source_lasts : (old new : D) (work : Work) (put text : List ℕ) (source : SourceParts) (head : SectionHead) (change : Change) → change ≡ method_in head source → work.section ≡ sections.Open head → AsksMethod text (adds_source source) → LeavesOnly moment left_since old new (KeepLeaves work put change) → LeavesOnly moment left_since old new (WorkLeaves work put (Chunk (items.Method text)))
+  source_lasts old new work put text source head change method section is run =
+      kept_lasts old new work put (Chunk (items.Method text)) (adds_source source) change (is, tt) (ap (λ s. list_after_source work.changes s source) section ∙ ap (λ c. list_or (add work.changes c) work.changes) (sym method)) run
 
 -- ---- the answer to an item
 
@@ -117,13 +122,13 @@ plain_stays work text (adds change) h = refl
 plain_stays work text (evaluates own told stopped) h = refl
 plain_stays work text (opens head) h = absurd h
 plain_stays work text (refuses_head refusal) h = absurd h
-plain_stays work text (adds_source source check) h = absurd h
+plain_stays work text (adds_source source) h = absurd h
 plain_stays work text (refuses_source refusal) h = absurd h
 plain_stays work text closes h = absurd h
 plain_stays work text (tells query) h = absurd h
 
 method_stays : (work : Work) (text : List ℕ) (ask : Ask) → AsksMethod text ask → (work_after work ask).section ≡ work.section
-method_stays work text (adds_source source check) h = refl
+method_stays work text (adds_source source) h = refl
 method_stays work text (refuses refusal) h = absurd h
 method_stays work text (adds change) h = absurd h
 method_stays work text (evaluates own told stopped) h = absurd h
@@ -150,10 +155,19 @@ pub worked_method : (may_leave : Image → Type 0) (now : Shown) (session : Sess
 worked_method may_leave now session was work put text reply answer is h =
     stays_there may_leave now session was work put (Chunk (items.Method text)) h.0 answer h.1 (method_stays work text h.0 h.1.0) (ap (λ (a : Answer). a.reply) is ∙ h.2) (ap (λ (a : Answer). section_or a.section work.section) is) h.3 h.4
 
+query_stays : (work : Work) (query : SessionQuery) → (work_after work (ask_of_query query)).section ≡ work.section
+query_stays work queries.Recover = refl
+query_stays work queries.Classes = refl
+query_stays work (queries.Browse name) = refl
+query_stays work (queries.Source spec selector) = refl
+query_stays work (queries.Versions spec selector) = refl
+query_stays work queries.Changes = refl
+query_stays work queries.Snapshot = refl
+
 pub worked_query : (may_leave : Image → Type 0) (now : Shown) (session : Session) (was : Was) (work : Work) (put : List ℕ) (query : SessionQuery) (reply : Reply) (answer : Answer) → IsStaying reply answer → Replied (Ok reply) may_leave now session was work put (Query query) → Worked (Ok answer) may_leave now session was work put (Query query)
 worked_query may_leave now session was work put query reply answer is h =
     let P : Ask → Type 0 = λ a. (work_after work a).section ≡ work.section in
-    stays_there may_leave now session was work put (Query query) h.0 answer h.1 (subst P (sym h.1.0) refl) (ap (λ (a : Answer). a.reply) is ∙ h.2) (ap (λ (a : Answer). section_or a.section work.section) is) h.3 h.4
+    stays_there may_leave now session was work put (Query query) h.0 answer h.1 (subst P (sym h.1.0) (query_stays work query)) (ap (λ (a : Answer). a.reply) is ∙ h.2) (ap (λ (a : Answer). section_or a.section work.section) is) h.3 h.4
 
 head_lists : (work : Work) (text : List ℕ) (ask : Ask) → AsksHead text ask → staying work ask ≡ work
 head_lists work text (opens head) h = refl
@@ -161,7 +175,7 @@ head_lists work text (refuses_head refusal) h = refl
 head_lists work text (refuses refusal) h = absurd h
 head_lists work text (adds change) h = absurd h
 head_lists work text (evaluates own told stopped) h = absurd h
-head_lists work text (adds_source source check) h = absurd h
+head_lists work text (adds_source source) h = absurd h
 head_lists work text (refuses_source refusal) h = absurd h
 head_lists work text closes h = absurd h
 head_lists work text (tells query) h = absurd h
@@ -172,7 +186,7 @@ head_so work text (refuses_head refusal) h = tt
 head_so work text (refuses refusal) h = absurd h
 head_so work text (adds change) h = absurd h
 head_so work text (evaluates own told stopped) h = absurd h
-head_so work text (adds_source source check) h = absurd h
+head_so work text (adds_source source) h = absurd h
 head_so work text (refuses_source refusal) h = absurd h
 head_so work text closes h = absurd h
 head_so work text (tells query) h = absurd h
@@ -184,7 +198,7 @@ head_runs work text (refuses_head refusal) before now h same = same
 head_runs work text (refuses refusal) before now h same = absurd h
 head_runs work text (adds change) before now h same = absurd h
 head_runs work text (evaluates own told stopped) before now h same = absurd h
-head_runs work text (adds_source source check) before now h same = absurd h
+head_runs work text (adds_source source) before now h same = absurd h
 head_runs work text (refuses_source refusal) before now h same = absurd h
 head_runs work text closes before now h same = absurd h
 head_runs work text (tells query) before now h same = absurd h
@@ -212,9 +226,20 @@ pub worked_too_long : (may_leave : Image → Type 0) (now : Shown) (session : Se
 worked_too_long may_leave now session was work put role n answer same is h =
     worked_so may_leave now session was work put (Chunk (items.TooLong role n)) (ask_of_too_long role n) answer (refl, too_long_so work role n) is (too_long_runs work role n was.last_run (last_run_of session) same) (too_long_lists work role n) h
 
+asks_to_be_told : (query : SessionQuery) → IsQuestion query → tells query ≡ ask_of_query query
+asks_to_be_told queries.Recover h = refl
+asks_to_be_told queries.Classes h = refl
+asks_to_be_told (queries.Browse name) h = refl
+asks_to_be_told (queries.Source spec selector) h = refl
+asks_to_be_told (queries.Versions spec selector) h = refl
+asks_to_be_told queries.Changes h = refl
+asks_to_be_told queries.Snapshot h = absurd h
+
 -- what a query is told
-pub replied_told : (may_leave : Image → Type 0) (now : Shown) (session : Session) (was : Was) (work : Work) (put : List ℕ) (query asked : SessionQuery) (count : ℕ) (reply : Reply) → last_run_of session ≡ was.last_run → query ≡ asked → count ≡ length work.changes → reply ≡ told (state_of work.changes) count asked → IsAt may_leave now session work put → Replied (Ok reply) may_leave now session was work put (Query query)
-replied_told may_leave now session was work put query asked count reply same is counted told_is h = (tells query, (refl, tt), told_is ∙ (λ i. told (state_of work.changes) (counted i) (sym is i)), same, h)
+pub replied_told : (may_leave : Image → Type 0) (now : Shown) (session : Session) (was : Was) (work : Work) (put : List ℕ) (query asked : SessionQuery) (reply : Reply) → last_run_of session ≡ was.last_run → query ≡ asked → IsQuestion asked → reply ≡ told work.changes asked → IsAt may_leave now session work put → Replied (Ok reply) may_leave now session was work put (Query query)
+replied_told may_leave now session was work put query asked reply same is question told_is h =
+    let P : SessionQuery → Type 0 = λ q. Replied (Ok reply) may_leave now session was work put (Query q) in
+    subst P (sym is) (tells asked, (asks_to_be_told asked question, tt), told_is, same, h)
 
 -- ---- the section is entered
 
@@ -224,7 +249,7 @@ at_calm may_leave now session work put troubled h = record { keeps = h.keeps; se
 
 pub entered : (may_leave : Image → Type 0) (now : Shown) (mid session : Session) (work : Work) (put : List ℕ) (item : SessionItem) (ask : Ask) (answer : Answer) → AsksIn work item ask → IsAnswer work ask answer → section_of session ≡ section_or answer.section (section_of mid) → session ≡ record mid { section = section_of session } → IsAt may_leave now mid (staying work ask) put → IsAt may_leave now session (work_after work ask) put
 entered may_leave now mid session work put item ask answer asks is section rest h = record {
-  keeps = let P : KeeperState → Type 0 = λ k. Keeps now.tells now.files may_leave k (work_after work ask).changes in subst P (sym (ap keeper_of rest)) h.keeps;
+  keeps = let P : KeeperState → Type 0 = λ k. Keeps now.tells now.files may_leave k (work_after work ask).changes (work_after work ask).changes in subst P (sym (ap keeper_of rest)) h.keeps;
   section = section ∙ ap (section_or answer.section) h.section ∙ is.1;
   brief = brief_after work item ask asks.0 h.brief;
   budget = ap budget_of rest ∙ h.budget;
@@ -253,10 +278,10 @@ evaluating_refused : (r : Result (List Change) Refusal) (changes : List Change) 
 evaluating_refused (Ok list) changes told stopped refusal e = absurd (cc)
 evaluating_refused (Err other) changes told stopped refusal e = refl
 
-source_refused : (changes : List Change) (section : Section) (source : List ℕ) (check : SourceCheck) (refusal : Refusal) → reply_to_source changes section source check ≡ Refused refusal → list_after_source changes section source check ≡ changes
-source_refused changes sections.Top source check refusal e = refl
-source_refused changes (sections.Open head) source check refusal e = adding_refused (add changes (method_in head source check)) changes refusal e
-source_refused changes sections.Refused source check refusal e = refl
+source_refused : (changes : List Change) (section : Section) (source : SourceParts) (refusal : Refusal) → reply_to_source changes section source ≡ Refused refusal → list_after_source changes section source ≡ changes
+source_refused changes sections.Top source refusal e = refl
+source_refused changes (sections.Open head) source refusal e = adding_refused (add changes (method_in head source)) changes refusal e
+source_refused changes sections.Refused source refusal e = refl
 
 -- a refusal leaves all but the section
 refused_stays : (work : Work) (ask : Ask) (refusal : Refusal) → reply_to work ask ≡ Refused refusal → staying work ask ≡ work
@@ -265,7 +290,7 @@ refused_stays work (adds change) refusal e = ap (λ l. record work { changes = l
 refused_stays work (evaluates text told stopped) refusal e = ap (λ l. record work { changes = l }) (evaluating_refused (add work.changes (DoIt text)) work.changes told stopped refusal e)
 refused_stays work (opens head) refusal e = refl
 refused_stays work (refuses_head other) refusal e = refl
-refused_stays work (adds_source source check) refusal e = ap (λ l. record work { changes = l }) (source_refused work.changes work.section source check refusal e)
+refused_stays work (adds_source source) refusal e = ap (λ l. record work { changes = l }) (source_refused work.changes work.section source refusal e)
 refused_stays work (refuses_source other) refusal e = refl
 refused_stays work closes refusal e = refl
 refused_stays work (tells query) refusal e = refl
@@ -279,7 +304,7 @@ refused_is_at may_leave now session work put ask refusal e h =
 -- after a put the disk stands as it did
 at_put : (was may_leave : Image → Type 0) (mid now : Shown) (session : Session) (work : Work) (before put : List ℕ) → IsAt was mid session work before → ((c : Image) → may_leave c → was c) → now ≡ record mid { taken = now.taken; told = now.told } → IsPut now.taken now.told put → IsAt may_leave now session work put
 at_put was may_leave mid now session work before put h less e is_put = record {
-  keeps = let P : Shown → Type 0 = λ o. Keeps o.tells o.files may_leave (keeper_of session) work.changes in subst P (sym e) (keeps_less mid.tells mid.files may_leave (keeper_of session) work.changes was less h.keeps);
+  keeps = let P : Shown → Type 0 = λ o. Keeps o.tells o.files may_leave (keeper_of session) work.changes work.changes in subst P (sym e) (keeps_less mid.tells mid.files may_leave (keeper_of session) work.changes was less h.keeps);
   section = h.section;
   brief = h.brief;
   budget = h.budget;

@@ -1,8 +1,8 @@
 -- Why a run ends, and what its counts of faults say of that.
-use Rattle.std.specs.Prelude.{◌≡◌, ℕ, ◌≤◌, Result, Ok, Err}
+use Rattle.std.specs.Prelude.{◌≡◌, ◌≤◌, Result, Ok, Err}
 use Rattle.s80_base.specs.Causes.{Rose}
 use Rattle.s80_disk.specs.Shown.{Faults}
-use Rattle.s80_model.specs.declared.item.Query.TheVariants.{Source}
+use Rattle.s80_model.specs.declared.item.Query.TheVariants.{Changes, Source, Versions}
 use Rattle.s80_model.specs.declared.item.SessionItem.{SessionItem}
 use Rattle.s80_model.specs.declared.item.SessionItem.TheVariants.{Query}
 use Rattle.s80_session.specs.declared.end.SessionEnd.{SessionEnd}
@@ -46,7 +46,7 @@ IsWorkEnd (ends.Read failed) = ⊥
 IsWorkEnd (ends.Write failed) = ⊥
 IsWorkEnd ends.TooLong = ⊥
 
--- the same where a source is read: it may be damaged
+-- the same where the log is read again: it may be damaged
 abbrev pub EndsForReasonOrDamage : {T : Type 0} → Faults → Faults → Result T SessionEnd → Type 0
 EndsForReasonOrDamage before now (Err (ends.Damaged damage)) = now ≡ before
 EndsForReasonOrDamage before now result = EndsForReason before now result
@@ -58,6 +58,8 @@ pub record SourceCounts {T : Type 0} (before now : Faults) (result : Result T Se
 -- the counts of faults before and after an item
 abbrev pub CountsFor : {T : Type 0} → SessionItem → Faults → Faults → Result T SessionEnd → Type 0
 CountsFor (Query (Source spec selector)) before now result = SourceCounts before now result
+CountsFor (Query (Versions spec selector)) before now result = SourceCounts before now result
+CountsFor (Query Changes) before now result = SourceCounts before now result
 CountsFor item before now result = Counts before now result
 
 -- the same for a start: it meets no fault of the input or the output

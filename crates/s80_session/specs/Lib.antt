@@ -6,3 +6,4 @@ pub mod Run
 pub mod Session
 pub mod LastRun
 pub mod Working
+pub mod Files

@@ -1,14 +1,14 @@
 -- What a session holds.
 use Rattle.std.specs.Prelude.{◌≡◌, ◌⊎◌, ◌||◌, ℕ, Bool, List, Option, None, Some, Result, Ok, Err, take}
 use Rattle.std.specs.Io.KnownBytes.{Appends}
-use Rattle.s80_form.specs.Definition.{IsNoDefinition}
+use Rattle.s80_form.specs.Form.{IsNoFormText}
 use Rattle.s80_chunk.specs.declared.item.Item.TheVariants as items
 use Rattle.s80_apply.specs.System.{SystemState}
 use Rattle.s80_doit.specs.DoIt.{AreGiven, Fits, IsRunOf}
 use Rattle.s80_keeper.specs.Keeper.{KeeperState}
 use Rattle.s80_machine.specs.Came.{RanValue}
 use Rattle.s80_model.specs.declared.item.SessionItem.{SessionItem}
-use Rattle.s80_model.specs.declared.item.SessionItem.TheVariants.{Chunk, Unended, Query}
+use Rattle.s80_model.specs.declared.item.SessionItem.TheVariants.{Chunk}
 use Rattle.s80_model.specs.declared.reply.Answer.{Answer}
 use Rattle.s80_model.specs.declared.reply.Reply.{Reply}
 use Rattle.s80_model.specs.declared.reply.Reply.TheVariants.{Evaluated}
@@ -58,7 +58,7 @@ pub record HasBegun (ticks : ℕ) (session : Session) : Type 0 where
 
 -- this item is a doIt, and its text's run among these classes and methods is this
 abbrev pub IsRunFor : SessionItem → SystemState → ℕ → Option RanValue → Type 0
-IsRunFor (Chunk (items.Plain text)) system budget last = Fits text × IsNoDefinition text × AreGiven system × (ran : RanValue) × IsRunOf system text budget ran × (last ≡ Some ran)
+IsRunFor (Chunk (items.Plain text)) system budget last = Fits text × IsNoFormText text × AreGiven system × (ran : RanValue) × IsRunOf system text budget ran × (last ≡ Some ran)
 IsRunFor _ system budget last = ⊥
 
 -- among those that there are it is the last

@@ -5,6 +5,7 @@ use Rattle.s80_chunk.specs.declared.item.Item.TheVariants as items
 use Rattle.s80_chunk.specs.Chunks.{Reads, IsChunkText, IsSound, longest}
 use Rattle.s80_chunk.specs.Held.{Held, HasRead, HoldsNoMore}
 use Rattle.s80_change.specs.declared.change.Change.{Change}
+use Rattle.s80_change.specs.declared.change.Change.TheVariants as changes
 use Rattle.s80_change.specs.Block.{IsLawful}
 use Rattle.s80_apply.specs.Accept.{accept}
 use Rattle.s80_apply.specs.List.{IsAccepted, state_of, add}
@@ -24,7 +25,7 @@ use Rattle.s80_doit.specs.Answer.{EvaluatesTo}
 use Rattle.s80_doit.specs.DoIt.{AreGiven, IsRunOf, is_stopped}
 use Rattle.s80_machine.specs.Came.{RanValue}
 use Rattle.s80_print.specs.Outcome.{outcome_text}
-use Rattle.s80_model.specs.Asked.{Ask, evaluates}
+use Rattle.s80_model.specs.Asked.{Ask, evaluates, snapshot_note}
 use Rattle.s80_model.specs.Replies.{IsAnswer, Work, AsksIn, AllAsk, begun, kept, list_or, reply_to_adding, reply_to, reply_text, is_trouble, work_after, work_after_all, list_after_all, replies, any_trouble}
 use Rattle.s80_model.specs.Section.{IsBriefSection}
 use Rattle.s80_model.specs.Settings.{Settings}
@@ -39,7 +40,7 @@ use Rattle.s80_session.specs.Run.{ShownFor, HasKept, chunks, input_limit, Ends}
 
 -- the session is at work on a disk that stands for this list, in this section, whose head is brief, and these bytes were put
 pub record IsAt (may_leave : Image → Type 0) (o : Shown) (session : Session) (work : Work) (put : List ℕ) : Type 0 where
-  pub keeps : Keeps o.tells o.files may_leave (keeper_of session) work.changes
+  pub keeps : Keeps o.tells o.files may_leave (keeper_of session) work.changes work.changes
   pub section : section_of session ≡ work.section
   pub brief : IsBriefSection work.section
   pub budget : budget_of session ≡ work.settings.budget
@@ -85,6 +86,12 @@ abbrev pub Kept : Result (Option Refusal) SessionEnd → (Image → Type 0) → 
 Kept (Ok refusal) may_leave now session work put change =
     (reply_to_keeping refusal ≡ reply_to_adding (add work.changes change)) × IsAt may_leave now session (adding work change) put
 Kept (Err end) may_leave now session work put change = Unworked end may_leave now session work put
+
+-- after the note of a snapshot was to be kept
+abbrev pub Noted : Result Reply SessionEnd → (Image → Type 0) → Shown → Session → Work → List ℕ → Type 0
+Noted (Ok reply) may_leave now session work put =
+    (reply ≡ reply_to_adding (add work.changes (changes.DoIt snapshot_note))) × IsAt may_leave now session (adding work (changes.DoIt snapshot_note)) put
+Noted (Err end) may_leave now session work put = Unworked end may_leave now session work put
 
 -- after the code of this text was to be evaluated among the classes and methods that the session's keeper has
 abbrev pub Evaluates : {E : Type 0} → Result Reply E → Session → Session → List ℕ → Type 0

@@ -1,5 +1,5 @@
 // The calls on the outside that a run makes, each with all that it leaves.
-ghost use Rattle.std.specs.Prelude.{◌≡◌, ◌≢◌, ◌↔◌, ◌≤◌, ◌<◌, ◌+◌, ◌∷◌, [], ◌++◌, ℕ, List, length, option_map, Some, None, Err, IsTrue, IfOk, OnOk};
+ghost use Rattle.std.specs.Prelude.{◌≡◌, ◌≢◌, ◌↔◌, ◌≤◌, ◌<◌, ◌+◌, ◌∷◌, [], ◌++◌, ℕ, List, length, map as list_map, option_map, Some, None, Err, IsTrue, IfOk, OnOk, ⊤};
 ghost use Rattle.std.specs.FinMap as map;
 ghost use Rattle.std.specs.Io.{ReadsAtMost};
 ghost use Rattle.std.specs.Io.KnownBytes.{ReadConsumes};
@@ -16,15 +16,18 @@ ghost use Rattle.s80_mark.specs.Found.{longer_log};
 ghost use Rattle.s80_keeper.specs.Keeper.{Keeps, Knows};
 ghost use Rattle.s80_keeper.specs.Standing.{ReadsFor, LeavesEither};
 ghost use Rattle.s80_keeper.specs.Start.{IsStart, Started, StartLeaves, IfStartDisk, UnlessStartDisk};
-ghost use Rattle.s80_keeper.specs.Answers.{AfterKeeping, IsFor, Kept, IfKeepDisk, PlacesFor, UnlessKeepDisk};
+ghost use Rattle.s80_keeper.specs.Answers.{AfterKeeping, CanKeep, IsFor, Kept, IfKeepDisk, PlacesFor, UnlessKeepDisk};
 ghost use Rattle.s80_keeper.specs.Source.{IsThis, after_reading};
 ghost use Rattle.s80_apply.specs.List.{state_of};
 ghost use Rattle.s80_apply.specs.Placed.{placed_of};
-ghost use Rattle.s80_apply.specs.System.{IsReady};
+ghost use Rattle.s80_history.specs.Lists.{set_of, versions_of};
+ghost use Rattle.s80_log.specs.Commit.{LeavesBeside};
+ghost use Rattle.s80_log.specs.Log.{log_file};
 ghost use Rattle.s80_session.specs.Putting.{IsAsBefore, PutsFront};
 ghost use Rattle.s80_session.specs.Run.{HasKept, ShownFor};
 
 use s80_base::{Failed, Side, Text};
+use s80_change::Changes;
 use s80_disk::{Outside, put_output, take_input};
 use s80_keeper::{KeepFault, Keeper, Prepared, StartFault};
 use std::alloc::Global;
@@ -57,17 +60,21 @@ pub(crate) fn keep_change<O: Outside>(
     outside: &mut O,
     prepared: Prepared,
 ) -> Result<u64, KeepFault>
-    requires { IsReady keeper.old.system prepared.step }
+    requires { CanKeep keeper.old prepared }
     ensures after { AfterKeeping result prepared keeper.old keeper.new }
     ensures kept { (changes : List Change)
-        → Keeps (O.shown outside.old).tells (O.shown outside.old).files (O.may_leave outside.old) keeper.old changes → IsLawful prepared.change → IsFor (state_of changes) keeper.old.system prepared
+        → Keeps (O.shown outside.old).tells (O.shown outside.old).files (O.may_leave outside.old) keeper.old changes changes → IsLawful prepared.change → IsFor (state_of changes) keeper.old.system prepared
         → PlacesFor (placed_of changes) keeper.old.system prepared
         → Kept result (O.shown outside.new).tells (O.shown outside.new).files (O.may_leave outside.new) keeper.new changes prepared.change }
     ensures any_moment { (changes : List Change)
-        → Keeps (O.shown outside.old).tells (O.shown outside.old).files (O.may_leave outside.old) keeper.old changes → IsLawful prepared.change → IsFor (state_of changes) keeper.old.system prepared
+        → Keeps (O.shown outside.old).tells (O.shown outside.old).files (O.may_leave outside.old) keeper.old changes changes → IsLawful prepared.change → IsFor (state_of changes) keeper.old.system prepared
         → PlacesFor (placed_of changes) keeper.old.system prepared
         → LeavesOnly O.moment O.left_since outside.old outside.new
         (LeavesEither (O.shown outside.old).told changes (changes ++ prepared.change ∷ [])) }
+    // Whatever the disk stands for.
+    ensures elsewhere { LeavesOnly O.moment O.left_since outside.old outside.new
+        (LeavesBeside (O.may_leave outside.old) (O.shown outside.old).told (log_file keeper.old.log.number) (λ c. ⊤)) }
+    ensures others { (other : FileId) → other ≢ Mark → other ≢ log_file keeper.old.log.number → (O.shown outside.new).files other ≡ (O.shown outside.old).files other }
     ensures closed { (failed : Failed) → (result ≡ Err (KeepFault.Closed failed)) ↔ (keeper.old.fault ≡ Some failed) }
     ensures full { (n : ℕ) → (result ≡ Err (KeepFault.Full n))
         ↔ ((keeper.old.fault ≡ None) × (n ≡ keeper.old.log.end) × (log_limit < keeper.old.log.end + length (block prepared.change))) }
@@ -105,6 +112,53 @@ pub(crate) fn read_source<O: Outside>(
     ensures faults_stay { UnlessKeepDisk result ((O.faults outside.new).disk ≡ (O.faults outside.old).disk) }
 {
     keeper.source_of(alloc, outside, class, side, selector)
+}
+
+/// The change set, read by a keeper. It changes no file, and a crash leaves what it might have left before.
+pub(crate) fn read_set<O: Outside>(
+    keeper: &mut Keeper,
+    alloc: Global,
+    outside: &mut O,
+) -> Result<Changes, KeepFault>
+    ensures set { IsTrue (O.shown outside.old).tells → (changes : List Change) → Knows (O.shown outside.old).files keeper.old changes
+        → IsThis (list_map (λ p. p.1) (set_of changes)) result }
+    ensures after { keeper.new ≡ after_reading result keeper.old }
+    ensures closed { (failed : Failed) → (result ≡ Err (KeepFault.Closed failed)) ↔ (keeper.old.fault ≡ Some failed) }
+    ensures images { (c : FileId → List ℕ) → O.may_leave outside.new c → O.may_leave outside.old c }
+    ensures any_moment { LeavesOnly O.moment O.left_since outside.old outside.new
+        (IsAsBefore (O.may_leave outside.old) (O.shown outside.old).told 0) }
+    ensures shown { O.shown outside.new ≡ O.shown outside.old }
+    ensures faults { O.faults outside.new ≡ record (O.faults outside.old) { disk = (O.faults outside.new).disk } }
+    ensures later { (O.faults outside.old).disk ≤ (O.faults outside.new).disk }
+    ensures cause { IfKeepDisk result (λ failed. Rose (O.faults outside.old).disk (O.faults outside.new).disk) }
+    ensures faults_stay { UnlessKeepDisk result ((O.faults outside.new).disk ≡ (O.faults outside.old).disk) }
+{
+    keeper.set_of(alloc, outside)
+}
+
+/// The versions of a method, read by a keeper. It changes no file, and a crash leaves what it might have left before.
+pub(crate) fn read_versions<O: Outside>(
+    keeper: &mut Keeper,
+    alloc: Global,
+    outside: &mut O,
+    class_name: &Text,
+    side: Side,
+    selector: &Text,
+) -> Result<Changes, KeepFault>
+    ensures versions { IsTrue (O.shown outside.old).tells → (changes : List Change) → Knows (O.shown outside.old).files keeper.old changes
+        → IsThis (list_map (λ p. p.1) (versions_of changes (record { class_name = class_name.now; side = side; selector = selector.now }))) result }
+    ensures after { keeper.new ≡ after_reading result keeper.old }
+    ensures closed { (failed : Failed) → (result ≡ Err (KeepFault.Closed failed)) ↔ (keeper.old.fault ≡ Some failed) }
+    ensures images { (c : FileId → List ℕ) → O.may_leave outside.new c → O.may_leave outside.old c }
+    ensures any_moment { LeavesOnly O.moment O.left_since outside.old outside.new
+        (IsAsBefore (O.may_leave outside.old) (O.shown outside.old).told 0) }
+    ensures shown { O.shown outside.new ≡ O.shown outside.old }
+    ensures faults { O.faults outside.new ≡ record (O.faults outside.old) { disk = (O.faults outside.new).disk } }
+    ensures later { (O.faults outside.old).disk ≤ (O.faults outside.new).disk }
+    ensures cause { IfKeepDisk result (λ failed. Rose (O.faults outside.old).disk (O.faults outside.new).disk) }
+    ensures faults_stay { UnlessKeepDisk result ((O.faults outside.new).disk ≡ (O.faults outside.old).disk) }
+{
+    keeper.versions_of(alloc, outside, class_name, side, selector)
 }
 
 /// The next bytes of the input. 0 for a buffer that isn't empty means its end.

@@ -6,25 +6,28 @@ ghost use Rattle.s80_disk.specs.declared.disk.FileId.{FileId};
 ghost use Rattle.s80_disk.specs.declared.disk.FileId.TheVariants.{Mark};
 ghost use Rattle.s80_disk.specs.Moments.{LeavesOnly};
 ghost use Rattle.s80_mark.specs.Found.{longer_log};
-ghost use Rattle.s80_apply.specs.System.{IsChecked};
+ghost use Rattle.s80_log.specs.Log.{log_file};
 ghost use Rattle.s80_keeper.specs.Keeper.{Knows};
 ghost use Rattle.s80_keeper.specs.Standing.{FilesStandFor, ReadsFor};
 ghost use Rattle.s80_keeper.specs.Start.{StartLeaves};
+ghost use Rattle.s80_model.specs.Asked.{snapshot_note};
 ghost use Rattle.s80_model.specs.Replies.{Work};
 ghost use Rattle.s80_model.specs.Section.{section_or};
 ghost use Rattle.s80_model.specs.Settings.{Settings};
 ghost use Rattle.s80_session.specs.Ending.{Counts, CountsFor, MeetsNoDamage, NoFewer, SourceCounts, StartsForReason};
+ghost use Rattle.s80_session.specs.Files.{IsAsking, IsAsLeft, IsElsewhere, IsQuestion};
 ghost use Rattle.s80_session.specs.Run.{HasKept, ShownFor};
 ghost use Rattle.s80_session.specs.Session.{TakesLine};
 ghost use Rattle.s80_session.specs.Working.{AnswerPut};
 
 use crate::end::SessionEnd;
-use crate::outside::{keep_change, put_all, read_source, start_keeper};
+use crate::outside::{keep_change, put_all, read_set, read_source, read_versions, start_keeper};
 use crate::plain::{Plain, plain_of};
 use crate::reply::{refusal_at_fault, refusal_line, reply_to_keeping};
-use crate::told::{tell_browsed, tell_classes, tell_recovered};
+use crate::told::{has_method, tell_browsed, tell_classes, tell_recovered, tell_versions};
+use s80_apply::{accepted_forms_are_lawful, classes_are_named};
 use s80_base::{OutOfMemory, Text};
-use s80_change::{Change, check_source};
+use s80_change::{Change, Source};
 use s80_chunk::{Item, LONGEST, Role};
 use s80_disk::Outside;
 use s80_doit::{answer as answer_of, compile, evaluate, is_stopped};
@@ -32,8 +35,10 @@ use s80_form::{FitWord, Refusal, Refused};
 use s80_keeper::Keeper;
 use s80_machine::Ran;
 use s80_model::{
-    Answer, Query, Reply, Section, SessionItem, head_answer, method_of, side_named, too_long_answer,
+    Answer, Query, Reply, Section, SessionItem, changes_text, head_answer, method_of, side_named,
+    snapshot_note, too_long_answer,
 };
+use s80_syntax::MethodTree;
 use s80_verify::Verified;
 use std::alloc::Global;
 
@@ -52,12 +57,12 @@ pub struct Session {
 }
 
 impl Session {
-    ghost use Rattle.s80_form.specs.Definition.{IsNoDefinition};
+    ghost use Rattle.s80_form.specs.Form.{IsNoFormText};
     ghost use Rattle.s80_chunk.specs.Chunks.{IsChunkText, longest};
-    ghost use Rattle.s80_doit.specs.DoIt.{Fits, IsDoItCode};
+    ghost use Rattle.s80_doit.specs.DoIt.{IsDoItCode, IsMethodOfDoIt};
     ghost use Rattle.s80_session.specs.Ending.{IsWorkEnd};
     ghost use Rattle.s80_session.specs.Session.{budget_of, keeper_of, last_run_of, section_of, troubled_of, was_of, HasBegun, IsFaultless, RunAfter, RunAfterText, RunAfterWork, TroubleAfter};
-    ghost use Rattle.s80_session.specs.Working.{Evaluates, IsAt, IsLawfulFor, IsReadable, IsSessionStart, Kept, KeepLeaves, Replied, Starts, Worked, WorkLeaves, Stepped, StepLeaves};
+    ghost use Rattle.s80_session.specs.Working.{Evaluates, IsAt, IsLawfulFor, IsReadable, IsSessionStart, Kept, KeepLeaves, Noted, Replied, Starts, Worked, WorkLeaves, Stepped, StepLeaves};
 
     /// A session on the folder that was attached, at the top level of its input. A doIt may take at most `budget` ticks.
     pub fn start<O: Outside>(
@@ -124,6 +129,13 @@ impl Session {
         ensures any_moment { (work : Work) (put : List ℕ) → IsReadable item
             → IsAt (O.may_leave outside.old) (O.shown outside.old) self.old work put
             → LeavesOnly O.moment O.left_since outside.old outside.new (StepLeaves work put item) }
+        // Whatever the disk stands for, but for the mark and the log the files stay, in what is read and at any moment.
+        ensures others { (other : FileId) → other ≢ Mark → other ≢ log_file (keeper_of self.old).log.number → (O.shown outside.new).files other ≡ (O.shown outside.old).files other }
+        ensures elsewhere { LeavesOnly O.moment O.left_since outside.old outside.new (IsElsewhere (O.may_leave outside.old) (log_file (keeper_of self.old).log.number)) }
+        // A query changes no file, and at any moment a crash leaves what it might have left before.
+        ensures asked { IsAsking item → (file : FileId) → (O.shown outside.new).files file ≡ (O.shown outside.old).files file }
+        ensures images { IsAsking item → (c : FileId → List ℕ) → O.may_leave outside.new c → O.may_leave outside.old c }
+        ensures no_more { IsAsking item → LeavesOnly O.moment O.left_since outside.old outside.new (IsAsLeft (O.may_leave outside.old)) }
         ensures sound { IsTrue (O.shown outside.old).tells → (changes : List Change) → Knows (O.shown outside.old).files (keeper_of self.old) changes → MeetsNoDamage result }
         ensures troubled { TroubleAfter result (O.shown outside.old).taken (O.shown outside.new).taken self.old self.new }
         ensures last_run { RunAfter result item self.old self.new }
@@ -184,6 +196,13 @@ impl Session {
         ensures any_moment { (work : Work) (put : List ℕ) → IsReadable item
             → IsAt (O.may_leave outside.old) (O.shown outside.old) self.old work put
             → LeavesOnly O.moment O.left_since outside.old outside.new (WorkLeaves work put item) }
+        // Whatever the disk stands for, but for the mark and the log the files stay, in what is read and at any moment.
+        ensures others { (other : FileId) → other ≢ Mark → other ≢ log_file (keeper_of self.old).log.number → (O.shown outside.new).files other ≡ (O.shown outside.old).files other }
+        ensures elsewhere { LeavesOnly O.moment O.left_since outside.old outside.new (IsElsewhere (O.may_leave outside.old) (log_file (keeper_of self.old).log.number)) }
+        // A query changes no file, and at any moment a crash leaves what it might have left before.
+        ensures asked { IsAsking item → (file : FileId) → (O.shown outside.new).files file ≡ (O.shown outside.old).files file }
+        ensures images { IsAsking item → (c : FileId → List ℕ) → O.may_leave outside.new c → O.may_leave outside.old c }
+        ensures no_more { IsAsking item → LeavesOnly O.moment O.left_since outside.old outside.new (IsAsLeft (O.may_leave outside.old)) }
         ensures sound { IsTrue (O.shown outside.old).tells → (changes : List Change) → Knows (O.shown outside.old).files (keeper_of self.old) changes → MeetsNoDamage result }
         ensures troubled { troubled_of self.new ≡ troubled_of self.old }
         ensures last_run { RunAfterWork result item self.old self.new }
@@ -212,12 +231,14 @@ impl Session {
                 Ok(too_long_answer(&self.section, role, length))
             }
             SessionItem::Unended => Ok(Answer::staying(Reply::Refused(Refusal::Unended))),
-            SessionItem::Query(query) => Ok(Answer::staying(self.tell(alloc, query, outside)?)),
+            SessionItem::Query(query) => {
+                Ok(Answer::staying(self.work_query(alloc, query, outside)?))
+            }
         }
     }
 
-    /// Keeps the change that a plain text is, and evaluates it where it is a doIt. Refuses every other text: one that is too long, has no tree,
-    /// or doesn't fit a machine.
+    /// Keeps the change that a plain text is, or the note of the snapshot that it asks for, and evaluates it where it is a doIt. Refuses every
+    /// other text: one that is too long, has no tree, or doesn't fit a machine.
     fn keep_text<O: Outside>(
         &mut self,
         alloc: Global,
@@ -231,6 +252,9 @@ impl Session {
         ensures any_moment { (work : Work) (put : List ℕ) → IsChunkText text → length text ≤ longest
             → IsAt (O.may_leave outside.old) (O.shown outside.old) self.old work put
             → LeavesOnly O.moment O.left_since outside.old outside.new (WorkLeaves work put (SessionItem.Chunk (items.Plain text))) }
+        // Whatever the disk stands for, but for the mark and the log the files stay, in what is read and at any moment.
+        ensures others { (other : FileId) → other ≢ Mark → other ≢ log_file (keeper_of self.old).log.number → (O.shown outside.new).files other ≡ (O.shown outside.old).files other }
+        ensures elsewhere { LeavesOnly O.moment O.left_since outside.old outside.new (IsElsewhere (O.may_leave outside.old) (log_file (keeper_of self.old).log.number)) }
         ensures troubled { troubled_of self.new ≡ troubled_of self.old }
         ensures last_run { RunAfterText result (SessionItem.Chunk (items.Plain text)) self.old self.new }
         ensures budget { budget_of self.new ≡ budget_of self.old }
@@ -240,17 +264,19 @@ impl Session {
         ensures ends { IfErr result IsWorkEnd }
         ensures counts { Counts (O.faults outside.old) (O.faults outside.new) result }
     {
+        accepted_forms_are_lawful();
         let length = text.bytes().len();
         if length > LONGEST {
             let refusal = Refusal::TooLarge(FitWord::Chunk, length as u64);
             return Ok(Reply::Refused(refusal));
         }
         match plain_of(alloc, text) {
-            Ok(Plain::Define(definition)) => {
-                let refusal = self.keep(alloc, Change::Define(definition), outside)?;
+            Ok(Plain::Form(form)) => {
+                let refusal = self.keep(alloc, Change::Form(form), outside)?;
                 Ok(reply_to_keeping(refusal))
             }
-            Ok(Plain::Evaluate(text)) => self.keep_doit(alloc, text, outside),
+            Ok(Plain::Snapshot) => self.keep_note(alloc, outside),
+            Ok(Plain::Evaluate(text, method)) => self.keep_doit(alloc, text, &method, outside),
             Err(Refused::Memory) => Err(SessionEnd::Memory),
             Err(Refused::Refusal(refusal)) => Ok(Reply::Refused(refusal)),
         }
@@ -261,19 +287,22 @@ impl Session {
         &mut self,
         alloc: Global,
         text: Text,
+        method: &MethodTree,
         outside: &mut O,
     ) -> Result<Reply, SessionEnd>
         requires faultless { IsFaultless self.old }
-        requires short { length text ≤ 65535 }
-        requires fits { Fits text }
-        ensures replied { (work : Work) (put : List ℕ) → IsChunkText text → IsNoDefinition text
+        requires method { IsMethodOfDoIt text method.now }
+        ensures replied { (work : Work) (put : List ℕ) → IsChunkText text → length text ≤ longest → IsNoFormText text
             → IsAt (O.may_leave outside.old) (O.shown outside.old) self.old work put
             → Replied result (O.may_leave outside.new) (O.shown outside.new) self.new (was_of self.old) work put (SessionItem.Chunk (items.Plain text)) }
-        ensures any_moment { (work : Work) (put : List ℕ) → IsChunkText text → IsNoDefinition text
+        ensures any_moment { (work : Work) (put : List ℕ) → IsChunkText text → length text ≤ longest → IsNoFormText text
             → IsAt (O.may_leave outside.old) (O.shown outside.old) self.old work put
             → LeavesOnly O.moment O.left_since outside.old outside.new (WorkLeaves work put (SessionItem.Chunk (items.Plain text))) }
+        // Whatever the disk stands for, but for the mark and the log the files stay, in what is read and at any moment.
+        ensures others { (other : FileId) → other ≢ Mark → other ≢ log_file (keeper_of self.old).log.number → (O.shown outside.new).files other ≡ (O.shown outside.old).files other }
+        ensures elsewhere { LeavesOnly O.moment O.left_since outside.old outside.new (IsElsewhere (O.may_leave outside.old) (log_file (keeper_of self.old).log.number)) }
         ensures troubled { troubled_of self.new ≡ troubled_of self.old }
-        ensures last_run { IsNoDefinition text → RunAfterText result (SessionItem.Chunk (items.Plain text)) self.old self.new }
+        ensures last_run { IsNoFormText text → RunAfterText result (SessionItem.Chunk (items.Plain text)) self.old self.new }
         ensures budget { budget_of self.new ≡ budget_of self.old }
         ensures faultless { OnOk result (IsFaultless self.new) }
         ensures left { (O.shown outside.new).left ≡ (O.shown outside.old).left }
@@ -281,7 +310,7 @@ impl Session {
         ensures ends { IfErr result IsWorkEnd }
         ensures counts { Counts (O.faults outside.old) (O.faults outside.new) result }
     {
-        let code = compile(alloc, self.keeper.system(), &text)?;
+        let code = compile(alloc, self.keeper.system(), method)?;
         match self.keep(alloc, Change::DoIt { text }, outside)? {
             None => Ok(self.evaluate(alloc, &code)?),
             Some(refusal) => Ok(Reply::Refused(refusal)),
@@ -317,6 +346,9 @@ impl Session {
         ensures any_moment { (work : Work) (put : List ℕ) → IsChunkText source → length source ≤ longest
             → IsAt (O.may_leave outside.old) (O.shown outside.old) self.old work put
             → LeavesOnly O.moment O.left_since outside.old outside.new (WorkLeaves work put (SessionItem.Chunk (items.Method source))) }
+        // Whatever the disk stands for, but for the mark and the log the files stay, in what is read and at any moment.
+        ensures others { (other : FileId) → other ≢ Mark → other ≢ log_file (keeper_of self.old).log.number → (O.shown outside.new).files other ≡ (O.shown outside.old).files other }
+        ensures elsewhere { LeavesOnly O.moment O.left_since outside.old outside.new (IsElsewhere (O.may_leave outside.old) (log_file (keeper_of self.old).log.number)) }
         ensures troubled { troubled_of self.new ≡ troubled_of self.old }
         ensures last_run { last_run_of self.new ≡ last_run_of self.old }
         ensures budget { budget_of self.new ≡ budget_of self.old }
@@ -326,20 +358,45 @@ impl Session {
         ensures ends { IfErr result IsWorkEnd }
         ensures counts { Counts (O.faults outside.old) (O.faults outside.new) result }
     {
+        classes_are_named();
         let length = source.bytes().len();
         if length > LONGEST {
             return Ok(too_long_answer(&self.section, Role::Method, length as u64).reply);
         }
-        let check = check_source(alloc, &source)?;
+        let source = Source::parse(alloc, source)?;
         match &self.section {
             Section::Open(head) => {
-                let method = method_of(alloc, head, source, check)?;
+                let method = method_of(alloc, head, source)?;
                 let refusal = self.keep(alloc, Change::Method(method), outside)?;
                 Ok(reply_to_keeping(refusal))
             }
             Section::Top => Ok(Reply::Silent),
             Section::Refused => Ok(Reply::Silent),
         }
+    }
+
+    /// Keeps the note of a snapshot.
+    fn keep_note<O: Outside>(&mut self, alloc: Global, outside: &mut O) -> Result<Reply, SessionEnd>
+        requires faultless { IsFaultless self.old }
+        ensures noted { (work : Work) (put : List ℕ)
+            → IsAt (O.may_leave outside.old) (O.shown outside.old) self.old work put
+            → Noted result (O.may_leave outside.new) (O.shown outside.new) self.new work put }
+        ensures any_moment { (work : Work) (put : List ℕ)
+            → IsAt (O.may_leave outside.old) (O.shown outside.old) self.old work put
+            → LeavesOnly O.moment O.left_since outside.old outside.new (KeepLeaves work put (Change.DoIt snapshot_note)) }
+        // Whatever the disk stands for, but for the mark and the log the files stay, in what is read and at any moment.
+        ensures others { (other : FileId) → other ≢ Mark → other ≢ log_file (keeper_of self.old).log.number → (O.shown outside.new).files other ≡ (O.shown outside.old).files other }
+        ensures elsewhere { LeavesOnly O.moment O.left_since outside.old outside.new (IsElsewhere (O.may_leave outside.old) (log_file (keeper_of self.old).log.number)) }
+        ensures rest { self.new ≡ record self.old { keeper = keeper_of self.new } }
+        ensures faultless { OnOk result (IsFaultless self.new) }
+        ensures left { (O.shown outside.new).left ≡ (O.shown outside.old).left }
+        ensures taken { (O.shown outside.new).taken ≡ (O.shown outside.old).taken }
+        ensures ends { IfErr result IsWorkEnd }
+        ensures counts { Counts (O.faults outside.old) (O.faults outside.new) result }
+    {
+        let text = snapshot_note(alloc)?;
+        let refusal = self.keep(alloc, Change::DoIt { text }, outside)?;
+        Ok(reply_to_keeping(refusal))
     }
 
     /// Keeps a change, on the disk. Says why it is refused, if it is.
@@ -350,13 +407,15 @@ impl Session {
         outside: &mut O,
     ) -> Result<Option<Refusal>, SessionEnd>
         requires faultless { IsFaultless self.old }
-        requires checked { IsChecked change }
         ensures kept { (work : Work) (put : List ℕ) → IsLawfulFor work.changes change
             → IsAt (O.may_leave outside.old) (O.shown outside.old) self.old work put
             → Kept result (O.may_leave outside.new) (O.shown outside.new) self.new work put change }
         ensures any_moment { (work : Work) (put : List ℕ) → IsLawfulFor work.changes change
             → IsAt (O.may_leave outside.old) (O.shown outside.old) self.old work put
             → LeavesOnly O.moment O.left_since outside.old outside.new (KeepLeaves work put change) }
+        // Whatever the disk stands for, but for the mark and the log the files stay, in what is read and at any moment.
+        ensures others { (other : FileId) → other ≢ Mark → other ≢ log_file (keeper_of self.old).log.number → (O.shown outside.new).files other ≡ (O.shown outside.old).files other }
+        ensures elsewhere { LeavesOnly O.moment O.left_since outside.old outside.new (IsElsewhere (O.may_leave outside.old) (log_file (keeper_of self.old).log.number)) }
         ensures rest { self.new ≡ record self.old { keeper = keeper_of self.new } }
         ensures faultless { OnOk result (IsFaultless self.new) }
         ensures left { (O.shown outside.new).left ≡ (O.shown outside.old).left }
@@ -375,8 +434,8 @@ impl Session {
         }
     }
 
-    /// What a query is told.
-    fn tell<O: Outside>(
+    /// Works a query: keeps the note of a snapshot, and tells what any other query asks for.
+    fn work_query<O: Outside>(
         &mut self,
         alloc: Global,
         query: Query,
@@ -388,7 +447,14 @@ impl Session {
             → Replied result (O.may_leave outside.new) (O.shown outside.new) self.new (was_of self.old) work put (SessionItem.Query query) }
         ensures any_moment { (work : Work) (put : List ℕ)
             → IsAt (O.may_leave outside.old) (O.shown outside.old) self.old work put
-            → LeavesOnly O.moment O.left_since outside.old outside.new (HasKept work.changes (length put)) }
+            → LeavesOnly O.moment O.left_since outside.old outside.new (WorkLeaves work put (SessionItem.Query query)) }
+        // Whatever the disk stands for, but for the mark and the log the files stay, in what is read and at any moment.
+        ensures others { (other : FileId) → other ≢ Mark → other ≢ log_file (keeper_of self.old).log.number → (O.shown outside.new).files other ≡ (O.shown outside.old).files other }
+        ensures elsewhere { LeavesOnly O.moment O.left_since outside.old outside.new (IsElsewhere (O.may_leave outside.old) (log_file (keeper_of self.old).log.number)) }
+        // A question changes no file, and at any moment a crash leaves what it might have left before.
+        ensures asked { IsQuestion query → (file : FileId) → (O.shown outside.new).files file ≡ (O.shown outside.old).files file }
+        ensures images { IsQuestion query → (c : FileId → List ℕ) → O.may_leave outside.new c → O.may_leave outside.old c }
+        ensures no_more { IsQuestion query → LeavesOnly O.moment O.left_since outside.old outside.new (IsAsLeft (O.may_leave outside.old)) }
         ensures sound { IsTrue (O.shown outside.old).tells → (changes : List Change) → Knows (O.shown outside.old).files (keeper_of self.old) changes → MeetsNoDamage result }
         ensures troubled { troubled_of self.new ≡ troubled_of self.old }
         ensures last_run { last_run_of self.new ≡ last_run_of self.old }
@@ -405,6 +471,11 @@ impl Session {
             Query::Classes => Ok(tell_classes(alloc, system)?),
             Query::Browse(name) => Ok(tell_browsed(alloc, system, name)?),
             Query::Source(spec, selector) => self.tell_source(alloc, spec, selector, outside),
+            Query::Versions(spec, selector) => {
+                self.tell_versions(alloc, spec, selector, outside)
+            }
+            Query::Changes => self.tell_changes(alloc, outside),
+            Query::Snapshot => self.keep_note(alloc, outside),
         }
     }
 
@@ -423,13 +494,14 @@ impl Session {
         ensures any_moment { (work : Work) (put : List ℕ)
             → IsAt (O.may_leave outside.old) (O.shown outside.old) self.old work put
             → LeavesOnly O.moment O.left_since outside.old outside.new (HasKept work.changes (length put)) }
+        ensures shown { O.shown outside.new ≡ O.shown outside.old }
+        ensures images { (c : FileId → List ℕ) → O.may_leave outside.new c → O.may_leave outside.old c }
+        ensures no_more { LeavesOnly O.moment O.left_since outside.old outside.new (IsAsLeft (O.may_leave outside.old)) }
         ensures sound { IsTrue (O.shown outside.old).tells → (changes : List Change) → Knows (O.shown outside.old).files (keeper_of self.old) changes → MeetsNoDamage result }
         ensures troubled { troubled_of self.new ≡ troubled_of self.old }
         ensures last_run { last_run_of self.new ≡ last_run_of self.old }
         ensures budget { budget_of self.new ≡ budget_of self.old }
         ensures faultless { OnOk result (IsFaultless self.new) }
-        ensures left { (O.shown outside.new).left ≡ (O.shown outside.old).left }
-        ensures taken { (O.shown outside.new).taken ≡ (O.shown outside.old).taken }
         ensures ends { IfErr result IsWorkEnd }
         ensures counts { SourceCounts (O.faults outside.old) (O.faults outside.new) result }
     {
@@ -448,6 +520,76 @@ impl Session {
             Err(fault) => Ok(Reply::Refused(refusal_at_fault(fault)?)),
         }
     }
+
+    /// The versions of a method, by the words that name its class and side, and its selector.
+    fn tell_versions<O: Outside>(
+        &mut self,
+        alloc: Global,
+        spec: Text,
+        selector: Text,
+        outside: &mut O,
+    ) -> Result<Reply, SessionEnd>
+        requires faultless { IsFaultless self.old }
+        ensures replied { (work : Work) (put : List ℕ)
+            → IsAt (O.may_leave outside.old) (O.shown outside.old) self.old work put
+            → Replied result (O.may_leave outside.new) (O.shown outside.new) self.new (was_of self.old) work put (SessionItem.Query (Query.Versions spec selector)) }
+        ensures any_moment { (work : Work) (put : List ℕ)
+            → IsAt (O.may_leave outside.old) (O.shown outside.old) self.old work put
+            → LeavesOnly O.moment O.left_since outside.old outside.new (HasKept work.changes (length put)) }
+        ensures shown { O.shown outside.new ≡ O.shown outside.old }
+        ensures images { (c : FileId → List ℕ) → O.may_leave outside.new c → O.may_leave outside.old c }
+        ensures no_more { LeavesOnly O.moment O.left_since outside.old outside.new (IsAsLeft (O.may_leave outside.old)) }
+        ensures sound { IsTrue (O.shown outside.old).tells → (changes : List Change) → Knows (O.shown outside.old).files (keeper_of self.old) changes → MeetsNoDamage result }
+        ensures troubled { troubled_of self.new ≡ troubled_of self.old }
+        ensures last_run { last_run_of self.new ≡ last_run_of self.old }
+        ensures budget { budget_of self.new ≡ budget_of self.old }
+        ensures faultless { OnOk result (IsFaultless self.new) }
+        ensures ends { IfErr result IsWorkEnd }
+        ensures counts { SourceCounts (O.faults outside.old) (O.faults outside.new) result }
+    {
+        let Some((name, side)) = side_named(alloc, &spec)? else {
+            return Ok(Reply::Refused(Refusal::BadName(spec)));
+        };
+        let system = self.keeper.system();
+        let Some(number) = system.find(&name) else {
+            return Ok(Reply::Refused(Refusal::UnknownClass(name)));
+        };
+        let is_there = has_method(system, number, side, &selector);
+        match read_versions(&mut self.keeper, alloc, outside, &name, side, &selector) {
+            Ok(versions) => Ok(tell_versions(alloc, name, side, selector, is_there, &versions)?),
+            Err(fault) => Ok(Reply::Refused(refusal_at_fault(fault)?)),
+        }
+    }
+
+    /// The change set.
+    fn tell_changes<O: Outside>(
+        &mut self,
+        alloc: Global,
+        outside: &mut O,
+    ) -> Result<Reply, SessionEnd>
+        requires faultless { IsFaultless self.old }
+        ensures replied { (work : Work) (put : List ℕ)
+            → IsAt (O.may_leave outside.old) (O.shown outside.old) self.old work put
+            → Replied result (O.may_leave outside.new) (O.shown outside.new) self.new (was_of self.old) work put (SessionItem.Query Query.Changes) }
+        ensures any_moment { (work : Work) (put : List ℕ)
+            → IsAt (O.may_leave outside.old) (O.shown outside.old) self.old work put
+            → LeavesOnly O.moment O.left_since outside.old outside.new (HasKept work.changes (length put)) }
+        ensures shown { O.shown outside.new ≡ O.shown outside.old }
+        ensures images { (c : FileId → List ℕ) → O.may_leave outside.new c → O.may_leave outside.old c }
+        ensures no_more { LeavesOnly O.moment O.left_since outside.old outside.new (IsAsLeft (O.may_leave outside.old)) }
+        ensures sound { IsTrue (O.shown outside.old).tells → (changes : List Change) → Knows (O.shown outside.old).files (keeper_of self.old) changes → MeetsNoDamage result }
+        ensures troubled { troubled_of self.new ≡ troubled_of self.old }
+        ensures last_run { last_run_of self.new ≡ last_run_of self.old }
+        ensures budget { budget_of self.new ≡ budget_of self.old }
+        ensures faultless { OnOk result (IsFaultless self.new) }
+        ensures ends { IfErr result IsWorkEnd }
+        ensures counts { SourceCounts (O.faults outside.old) (O.faults outside.new) result }
+    {
+        match read_set(&mut self.keeper, alloc, outside) {
+            Ok(set) => Ok(Reply::Told(changes_text(alloc, &set)?)),
+            Err(fault) => Ok(Reply::Refused(refusal_at_fault(fault)?)),
+        }
+    }
 }
 
 /// Puts an answer whole.
@@ -456,6 +598,7 @@ fn answer<O: Outside>(outside: &mut O, line: &[u8]) -> Result<(), SessionEnd>
         → AnswerPut result (O.shown outside.new).taken (O.shown outside.new).told put line.now }
     ensures taken { TakesLine result (O.shown outside.old).taken (O.shown outside.new).taken line.now }
     ensures images { (c : FileId → List ℕ) → O.may_leave outside.new c → O.may_leave outside.old c }
+    ensures no_more { LeavesOnly O.moment O.left_since outside.old outside.new (IsAsLeft (O.may_leave outside.old)) }
     ensures any_moment { (changes : List Change) (put : List ℕ)
         → ((c : FileId → List ℕ) → O.may_leave outside.old c → FilesStandFor c changes)
         → (O.shown outside.old).told ≡ length put

@@ -1,9 +1,9 @@
-// Changes: the items of an input, definitions, names, blocks, the kernel's rows, and refusals.
+// Changes: the items of an input, forms, names, blocks, the kernel's rows, and refusals.
 use anyhow::{Context, Result, bail, ensure};
 use s80_base::{Side, Text};
-use s80_change::{Change, FirstBlock, Method, SourceCheck, block_text, first_block};
+use s80_change::{Change, FirstBlock, Method, block_text, first_block};
 use s80_chunk::{Item, Rest, Role, read_pieces};
-use s80_form::{ManyKind, Recognised, Refusal, definition_text, is_class_name, is_name, recognise};
+use s80_form::{Form, ManyKind, Recognised, Refusal, form_text, is_class_name, is_name, recognise};
 use s80_kernel::{KernelMethod, class_rows, kernel_text, method_rows};
 use s80_print::refusal_text;
 use s80_rows::bytes;
@@ -104,7 +104,7 @@ fn add_item(alloc: Global, out: &mut Text, item: &Item) -> Result<()> {
     }
 }
 
-/// The text of the definition that a doIt is by its tree.
+/// The text of the form that a doIt has by its tree.
 fn recognised(alloc: Global, spelled: &str) -> Result<Text> {
     let text = bytes::read(alloc, spelled)?;
     ensure!(text.bytes().len() <= 65_535, "too long");
@@ -115,14 +115,9 @@ fn recognised(alloc: Global, spelled: &str) -> Result<Text> {
     };
     let mut out = Text::empty(alloc);
     match recognise(alloc, &tree)? {
-        Recognised::Define(definition) => {
-            spell(
-                alloc,
-                &mut out,
-                definition_text(alloc, &definition)?.bytes(),
-            )?;
-        }
-        Recognised::Evaluate => out.append(b"no definition")?,
+        Recognised::Form(form) => spell(alloc, &mut out, form_text(alloc, &form)?.bytes())?,
+        Recognised::Snapshot => out.append(b"a snapshot")?,
+        Recognised::Evaluate => out.append(b"no form")?,
     }
     Ok(out)
 }
@@ -182,9 +177,10 @@ fn add_block(
 /// Appends the line of a change.
 fn add_change(alloc: Global, out: &mut Text, change: &Change) -> Result<()> {
     match change {
-        Change::Define(definition) => {
+        Change::Form(Form::Define(definition)) => {
             add_line(alloc, out, "definition of ", definition.class_name.bytes())
         }
+        Change::Form(form) => add_line(alloc, out, "form ", form_text(alloc, form)?.bytes()),
         Change::Method(method) => add_method(alloc, out, method),
         Change::DoIt { text } => add_line(alloc, out, "doIt ", text.bytes()),
     }
@@ -199,9 +195,9 @@ fn add_method(alloc: Global, out: &mut Text, method: &Method) -> Result<()> {
         Side::Class => b" class|".as_slice(),
     })?;
     spell(alloc, out, method.category.bytes())?;
-    match &method.check {
-        SourceCheck::Fits(selector) => add_line(alloc, out, "|", selector.bytes()),
-        SourceCheck::Refused(refusal) => {
+    match method.source.tree() {
+        Ok(tree) => add_line(alloc, out, "|", tree.selector.bytes()),
+        Err(refusal) => {
             let text = refusal_text(alloc, refusal)?;
             add_line(alloc, out, "|", text.bytes())
         }

@@ -1,17 +1,20 @@
 -- Lists of changes: the state that one change more makes, and what is accepted.
-use Rattle.std.proofs.Common.{◌≡◌, ◌∙◌, ℕ, ◌+◌, ◌++◌, refl, sym, ap, subst, List, [], ◌∷◌, length, None, Result, Ok, arith, length-append}
+use Rattle.std.proofs.Common.{◌≡◌, ◌∙◌, ℕ, ◌+◌, ◌++◌, refl, sym, ap, subst, List, [], ◌∷◌, length, Option, None, Result, Ok, arith, length-append}
 use Rattle.std.proofs.lemmas.Grind.{flat_map-append}
 use Rattle.std.proofs.lemmas.List.{append-nil}
+use Rattle.std.specs.FinMap as map
 use Rattle.s80_change.specs.declared.change.Change.{Change}
-use Rattle.s80_change.specs.declared.change.Change.TheVariants.{Define}
+use Rattle.s80_change.specs.declared.change.Change.TheVariants as variant
 use Rattle.s80_form.specs.declared.definition.Definition.{Definition}
+use Rattle.s80_form.specs.declared.form.Form.{Form}
+use Rattle.s80_form.specs.declared.form.Form.TheVariants.{Define, ClassVars, Comment, RemoveClass}
 use Rattle.s80_form.specs.declared.refusal.Refusal.{Refusal}
 use Rattle.s80_change.specs.Block.{block, blocks}
-use Rattle.s80_apply.specs.State.{State, StateOf, kernel_state}
+use Rattle.s80_apply.specs.State.{State, StateOf, kernel_state, take_class}
 use Rattle.s80_apply.specs.Placed.{PlacedState, placed_after, placed_from, placed_kernel_state, placed_of}
-use Rattle.s80_class.specs.Classes.{Classes}
-use Rattle.s80_apply.specs.Accept.{accept, accepted, define, refusal_of}
-use Rattle.s80_apply.specs.List.{AreOfList, classes_of, state_or, state_after, state_from, state_of, IsAccepted, AreAccepted, IsBuilt}
+use Rattle.s80_class.specs.Classes.{Name, Classes, change_row, with_class_side_vars, with_comment}
+use Rattle.s80_apply.specs.Accept.{accept, accepted, define, refusal_of, refusal_of_class_vars, refusal_of_removal, unknown_name}
+use Rattle.s80_apply.specs.List.{AreOfList, state_or, state_after, state_from, state_of, IsAccepted, AreAccepted, IsBuilt}
 
 -- ---- the log
 
@@ -27,13 +30,31 @@ from_more state (c ∷ cs) change = from_more (state_after c state) cs change
 pub state_more : (changes : List Change) (change : Change) → state_of (changes ++ change ∷ []) ≡ state_after change (state_of changes)
 state_more changes change = from_more kernel_state changes change
 
--- the classes of a list with a definition more, which they accept
+-- ---- the classes of a list with a form more, which they accept
+
+makes : (o : Option Refusal) (before then : State) → o ≡ None → (state_or (accepted o then) before).classes ≡ then.classes
+makes o before then none = ap (λ p. (state_or (accepted p then) before).classes) none
+
+one_more : (classes now : Classes) (form : Form) → AreOfList classes → ((state : State) → state.classes ≡ classes → (state_after (variant.Form form) state).classes ≡ now) → AreOfList now
+one_more classes now form (cs, is) then =
+    (cs ++ variant.Form form ∷ [], sym (ap (λ (s : State). s.classes) (state_more cs (variant.Form form)) ∙ then (state_of cs) (sym is)))
+
 pub of_list_more : (classes : Classes) (d : Definition) → AreOfList classes → refusal_of d classes ≡ None → AreOfList (define d classes)
-of_list_more classes d (changes, is) none =
-    let before = state_of changes in
-    let after : state_after (Define d) before ≡ record before { classes = define d before.classes } =
-    ap (λ o. state_or (accepted o (record before { classes = define d before.classes })) before) (ap (refusal_of d) (sym is) ∙ none) in
-    (changes ++ Define d ∷ [], ap (define d) is ∙ sym (ap (λ (s : State). s.classes) (state_more changes (Define d) ∙ after)))
+of_list_more classes d of none = one_more classes (define d classes) (Define d) of (λ state same.
+    makes (refusal_of d state.classes) state (record state { classes = define d state.classes }) (ap (refusal_of d) same ∙ none) ∙ ap (define d) same)
+
+pub of_list_given_vars : (classes : Classes) (name : Name) (names : List Name) → AreOfList classes → refusal_of_class_vars name names classes ≡ None → AreOfList (change_row (with_class_side_vars names) name classes)
+of_list_given_vars classes name names of none = one_more classes (change_row (with_class_side_vars names) name classes) (ClassVars name names) of (λ state same.
+    makes (refusal_of_class_vars name names state.classes) state (record state { classes = change_row (with_class_side_vars names) name state.classes }) (ap (refusal_of_class_vars name names) same ∙ none)
+    ∙ ap (change_row (with_class_side_vars names) name) same)
+
+pub of_list_commented : (classes : Classes) (name : Name) (text : List ℕ) → AreOfList classes → unknown_name name classes ≡ None → AreOfList (change_row (with_comment text) name classes)
+of_list_commented classes name text of none = one_more classes (change_row (with_comment text) name classes) (Comment name text) of (λ state same.
+    makes (unknown_name name state.classes) state (record state { classes = change_row (with_comment text) name state.classes }) (ap (unknown_name name) same ∙ none) ∙ ap (change_row (with_comment text) name) same)
+
+pub of_list_removed : (classes : Classes) (name : Name) → AreOfList classes → refusal_of_removal name classes ≡ None → AreOfList (map.remove classes name)
+of_list_removed classes name of none = one_more classes (map.remove classes name) (RemoveClass name) of (λ state same.
+    makes (refusal_of_removal name state.classes) state (take_class name state) (ap (refusal_of_removal name) same ∙ none) ∙ ap (λ (c : Classes). map.remove c name) same)
 
 -- ---- the places
 

@@ -1,19 +1,25 @@
 -- The tokens of a text, one after the other.
-use Rattle.std.proofs.Common.{◌≡◌, ℕ, ◌+◌, ◌-◌, List, [], ◌∷◌, ◌++◌, length, take, drop, refl, ap, sym, ◌∙◌, subst, arith, append_assoc, length-drop}
+use Rattle.std.proofs.Common.{◌≡◌, ℕ, ◌+◌, ◌-◌, List, [], ◌∷◌, ◌++◌, length, take, drop, refl, ap, sym, ◌∙◌, subst, arith, append_assoc, length-drop, codes, true}
 use Rattle.std.specs.List.{flat_map}
 use Rattle.std.specs.Prelude.{slice_range}
-use Rattle.std.proofs.lemmas.List.{take_at, drop_at, drop-drop}
+use Rattle.std.proofs.lemmas.List.{append-nil, take_at, drop_at, drop-drop}
 use Rattle.s80_lex.specs.declared.token.Token.{Token}
 use Rattle.s80_lex.specs.declared.token.TokenKind.{TokenKind}
 use Rattle.s80_lex.specs.declared.token.TokenKind.TheVariants as kind
 use Rattle.s80_lex.specs.Class.{class_of}
-use Rattle.s80_lex.specs.Spelling.{IsName, keyword, quoted, unended, doubled, NotNext}
+use Rattle.s80_lex.specs.Spelling.{keyword, quoted, unended, doubled, NotNext}
 use Rattle.s80_lex.specs.Text.{IsLongest, AreTokens}
 use Rattle.s80_lex.proofs.lemmas.Parts.{Up, up_none, up_all, up_separator, up_token}
 use Rattle.s80_lex.proofs.lemmas.Standing.{token_some}
 use Rattle.s80_syntax.specs.Lexeme.{Lexeme, Lexemes, lexeme, lexemes}
+use Rattle.s80_base.specs.declared.names.Side.{Side}
+use Rattle.s80_base.specs.declared.names.Side.TheVariants.{Instance, Class}
+use Rattle.s80_lex.specs.Selector.{is_name as is_identifier}
+use Rattle.s80_lex.proofs.lemmas.SelectorLemmas.{name_is}
+use Rattle.s80_form.specs.Name.{IsSelectorWord}
+use Rattle.s80_form.specs.Form.{side_text}
 use Rattle.s80_form.specs.Read.{line}
-use Rattle.s80_form.proofs.Longest.{keyword_longest, string_longest}
+use Rattle.s80_form.proofs.Longest.{Stops, space, name_longest, keyword_longest, symbol_longest, string_longest}
 
 -- tokens by their kinds and words
 abbrev pub Words : Type 0
@@ -71,17 +77,76 @@ tokened text words k word rest other longest h =
           (ap (λ n. take n (drop h.place text)) same ∙ ap (take (length word)) h.left ∙ take_at word rest (length word) refl);
     }
 
--- a line
-pub lined : (text : List ℕ) (words : Words) (base string rest : List ℕ) → IsName base → NotNext 39 rest → Begun text words (line (keyword base) string rest) → Begun text ((words ++ (kind.Keyword, keyword base) ∷ []) ++ (kind.Str, quoted 39 string) ∷ []) rest
-lined text words base string rest n e h =
-    let inner : List ℕ = 39 ∷ (flat_map (doubled 39) string ++ 39 ∷ rest) in
-    let one = separated text words 10 _ refl h in
-    let two = separated text words 9 _ refl one in
-    let three = tokened text words kind.Keyword (keyword base) (32 ∷ inner) (λ i. cc) (keyword_longest base (32 ∷ inner) n refl) two in
-    let four = separated text (words ++ (kind.Keyword, keyword base) ∷ []) 32 inner refl three in
-    tokened text (words ++ (kind.Keyword, keyword base) ∷ []) kind.Str (quoted 39 string) rest (λ i. cc) (string_longest string rest e)
-    (subst (Begun text (words ++ (kind.Keyword, keyword base) ∷ [])) (sym (append_assoc (unended 39 string) (39 ∷ []) rest)) four)
-
 -- all of the text
 pub ended : (text : List ℕ) (words : Words) → (h : Begun text words []) → AreTokens h.tokens text
 ended text words h = up_all h.tokens h.place text (omega (arith, length-drop h.place text, ap length h.left)) h.up
+
+-- ---- from the last token to the first
+
+-- behind whatever words, this rest of a text is these words, to its end
+abbrev pub EndsIn : Words → List ℕ → Type 0
+EndsIn words rest = (text : List ℕ) (before : Words) → Begun text before rest → Begun text (before ++ words) []
+
+pub nothing_more : EndsIn [] []
+nothing_more text before h = subst (λ l. Begun text l []) (sym (append-nil before)) h
+
+pub behind : (b : ℕ) (words : Words) (rest : List ℕ) → class_of b ≡ class_of 32 → EndsIn words rest → EndsIn words (b ∷ rest)
+behind b words rest e h text before begun = h text before (separated text before b rest e begun)
+
+pub then_token : (k : TokenKind) (word : List ℕ) (words : Words) (rest : List ℕ) → (k ≡ kind.Number → ⊥) → IsLongest k word rest → EndsIn words rest → EndsIn ((k, word) ∷ words) (word ++ rest)
+then_token k word words rest other longest h text before begun =
+    subst (λ l. Begun text l []) (append_assoc before ((k, word) ∷ []) words) (h text (before ++ (k, word) ∷ []) (tokened text before k word rest other longest begun))
+
+-- a name, a keyword, a symbol and a string
+pub then_name : (w : List ℕ) (words : Words) (rest : List ℕ) → is_identifier w ≡ true → Stops rest → EndsIn words rest → EndsIn ((kind.Name, w) ∷ words) (w ++ rest)
+then_name w words rest e stops h = then_token kind.Name w words rest (λ i. cc) (name_longest w rest (name_is w e) stops) h
+
+pub then_keyword : (base : List ℕ) (words : Words) (rest : List ℕ) → is_identifier base ≡ true → NotNext 61 rest → EndsIn words rest → EndsIn ((kind.Keyword, keyword base) ∷ words) (keyword base ++ rest)
+then_keyword base words rest e n h = then_token kind.Keyword (keyword base) words rest (λ i. cc) (keyword_longest base rest (name_is base e) n) h
+
+pub then_symbol : (w : List ℕ) (words : Words) (rest : List ℕ) → IsSelectorWord w → Stops rest → EndsIn words rest → EndsIn ((kind.Symbol, 35 ∷ w) ∷ words) (35 ∷ (w ++ rest))
+then_symbol w words rest s stops h = then_token kind.Symbol (35 ∷ w) words rest (λ i. cc) (symbol_longest w rest s stops) h
+
+pub then_string : (string : List ℕ) (words : Words) (rest : List ℕ) → NotNext 39 rest → EndsIn words rest → EndsIn ((kind.Str, quoted 39 string) ∷ words) (quoted 39 string ++ rest)
+then_string string words rest n h = then_token kind.Str (quoted 39 string) words rest (λ i. cc) (string_longest string rest n) h
+
+-- the last ones
+pub last_name : (w : List ℕ) → is_identifier w ≡ true → EndsIn ((kind.Name, w) ∷ []) w
+last_name w e = subst (EndsIn ((kind.Name, w) ∷ [])) (append-nil w) (then_name w [] [] e tt nothing_more)
+
+pub last_symbol : (w : List ℕ) → IsSelectorWord w → EndsIn ((kind.Symbol, 35 ∷ w) ∷ []) (35 ∷ w)
+last_symbol w s = subst (EndsIn ((kind.Symbol, 35 ∷ w) ∷ [])) (ap (λ l. 35 ∷ l) (append-nil w)) (then_symbol w [] [] s tt nothing_more)
+
+pub last_string : (string : List ℕ) → EndsIn ((kind.Str, quoted 39 string) ∷ []) (quoted 39 string)
+last_string string = subst (EndsIn ((kind.Str, quoted 39 string) ∷ [])) (append-nil (quoted 39 string)) (then_string string [] [] refl nothing_more)
+
+-- a keyword and its string, to the end
+pub last_keyword_string : (base string : List ℕ) → is_identifier base ≡ true → EndsIn ((kind.Keyword, keyword base) ∷ (kind.Str, quoted 39 string) ∷ []) (keyword base ++ 32 ∷ quoted 39 string)
+last_keyword_string base string e = then_keyword base _ (32 ∷ quoted 39 string) e refl (behind 32 _ (quoted 39 string) refl (last_string string))
+
+-- the word for the class side
+abbrev pub side_words : Side → Words → Words
+side_words Instance words = words
+side_words Class words = (kind.Name, codes "class") ∷ words
+
+pub then_side : (s : Side) (words : Words) (rest : List ℕ) → EndsIn words (32 ∷ rest) → EndsIn (side_words s words) (side_text s ++ 32 ∷ rest)
+then_side Instance words rest h = h
+then_side Class words rest h = behind 32 _ (codes "class" ++ 32 ∷ rest) refl (then_name (codes "class") words (32 ∷ rest) refl space h)
+
+-- a name with its side begins the text
+side_stops : (s : Side) (rest : List ℕ) → Stops (side_text s ++ 32 ∷ rest)
+side_stops Instance rest = space
+side_stops Class rest = space
+
+pub then_named : (w : List ℕ) (s : Side) (words : Words) (rest : List ℕ) → is_identifier w ≡ true → EndsIn words (32 ∷ rest) → EndsIn ((kind.Name, w) ∷ side_words s words) (w ++ (side_text s ++ 32 ∷ rest))
+then_named w s words rest e h = then_name w (side_words s words) (side_text s ++ 32 ∷ rest) e (side_stops s rest) (then_side s words rest h)
+
+-- a line
+pub then_line : (base string : List ℕ) (words : Words) (rest : List ℕ) → is_identifier base ≡ true → NotNext 39 rest → EndsIn words rest → EndsIn ((kind.Keyword, keyword base) ∷ (kind.Str, quoted 39 string) ∷ words) (line (keyword base) string rest)
+then_line base string words rest e n h =
+    behind 10 _ _ refl (behind 9 _ _ refl (then_keyword base _ (32 ∷ 39 ∷ (flat_map (doubled 39) string ++ 39 ∷ rest)) e refl
+    (behind 32 _ _ refl (subst (EndsIn ((kind.Str, quoted 39 string) ∷ words)) (append_assoc (unended 39 string) (39 ∷ []) rest) (then_string string words rest n h)))))
+
+-- so the whole text is these words
+pub spelled : (text : List ℕ) (words : Words) → EndsIn words text → Begun text words []
+spelled text words h = h text [] (start text text refl)

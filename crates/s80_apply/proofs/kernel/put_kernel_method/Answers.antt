@@ -1,8 +1,7 @@
-use Rattle.std.proofs.Common.{◌≡◌, ◌≤◌, ◌∙◌, ◌&&◌, List, ℕ, ap, cond, length, nat_eq, subst, sym}
+use Rattle.std.proofs.Common.{◌≡◌, ◌≤◌, ◌∙◌, ◌&&◌, List, ℕ, Ok, ap, cond, length, nat_eq, subst, sym}
 use Rattle.std.specs.FinMap as map
 use Rattle.s80_dict.specs.Table.{same_side}
 use Rattle.s80_change.specs.Check.{IsCheckOf}
-use Rattle.s80_change.specs.declared.source_check.SourceCheck.TheVariants.{Fits}
 use Rattle.s80_class.specs.Table.{IsNumberOf}
 use Rattle.s80_apply.specs.Codes.{HasCode}
 use Rattle.s80_apply.specs.Placed.{PlacedRow}
@@ -20,7 +19,7 @@ returns-in-Some-clause-put c =
     let class_is : c.in_ok-class_name.class_name ≡ m.class_name.now = c.in_ok-class_name.ensures ∙ c.as_bytes.ensures.value in
     let selector_is : c.in_ok-selector.selector ≡ m.selector.now = c.in_ok-selector.ensures ∙ c.as_bytes-2.ensures.value in
     let named : IsNumberOf table.names c.in-Some.number m.class_name.now = subst (λ (n : List ℕ). IsNumberOf table.names c.in-Some.number n) class_is c.in-Some.ensures.found in
-    let check : IsCheckOf source (Fits m.selector.now) = subst (λ bytes. IsCheckOf bytes (Fits m.selector.now)) (sym c.in_ok-source.ensures) c.requires.fits in
+    let check : IsCheckOf source (Ok m.selector.now) = subst (λ bytes. IsCheckOf bytes (Ok m.selector.now)) (sym c.in_ok-source.ensures) c.requires.fits in
     let code : HasCode table.classes m.class_name.now c.side_of-side.result m.selector.now entry =
     code_is table.classes m.class_name.now c.side_of-side.result m.selector.now source entry c.in_ok-code-in-Some.code (ap (λ (row : PlacedRow). row.source) c.in_ok-entry-in-Some.ensures.row ∙ sym c.in_ok-source.ensures) c.in_ok-entry-in-Some.ensures.code
     (subst (λ bytes. length bytes ≤ 65535) (sym c.in_ok-source.ensures) (held_short m c.requires.short)) check (c.in_ok-code-in-Some.ensures m.class_name.now m.selector.now named check) in

@@ -4,7 +4,7 @@ use Rattle.s80_apply.specs.State.{kernel_state}
 use Rattle.s80_apply.specs.System.{SystemState}
 use Rattle.s80_kernel.specs.Methods.{kernel_methods}
 use Rattle.s80_apply.proofs.Booting.{all_put, lawful_rows, method_fits, method_more, method_short, method_stands, method_there, none_put}
-use Rattle.s80_apply.proofs.Tied.{kernel_tied, own_tied, system_tied}
+use Rattle.s80_apply.proofs.Tied.{kernel_tied, system_tied}
 use Rattle.s80_apply.proofs.kernel.put_kernel_methods.Goals as goal
 
 pub loop-method-init : goal.loop-method-init
@@ -39,15 +39,9 @@ loop-method-preserved c =
 pub returns-clause-system : goal.returns-clause-system
 returns-clause-system c =
     let system : SystemState = record { table = c.args.classes.now; methods = c.loop-method.methods } in
-    system_tied system placed_kernel_state kernel_state (kernel_tied c.found_methods_are_those_named.ensures)
+    system_tied system placed_kernel_state kernel_state kernel_tied
     (all_put c.method_rows-method-items.result.now c.loop-method.method-index c.args.classes.now c.loop-method.methods c.method_rows-method-items.ensures.rows (omega arith) c.loop-method.invariant)
 
 pub returns-clause-places : goal.returns-clause-places
 returns-clause-places c =
     all_put c.method_rows-method-items.result.now c.loop-method.method-index c.args.classes.now c.loop-method.methods c.method_rows-method-items.ensures.rows (omega arith) c.loop-method.invariant
-
-pub returns-clause-own : goal.returns-clause-own
-returns-clause-own c =
-    let system : SystemState = record { table = c.args.classes.now; methods = c.loop-method.methods } in
-    own_tied system placed_kernel_state kernel_state (kernel_tied c.found_methods_are_those_named.ensures)
-    (all_put c.method_rows-method-items.result.now c.loop-method.method-index c.args.classes.now c.loop-method.methods c.method_rows-method-items.ensures.rows (omega arith) c.loop-method.invariant)

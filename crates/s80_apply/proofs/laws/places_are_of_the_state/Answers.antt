@@ -2,4 +2,4 @@ use Rattle.s80_apply.proofs.Tied.{list_tied}
 use Rattle.s80_apply.proofs.laws.places_are_of_the_state.Goals as goal
 
 pub returns : goal.returns
-returns c = list_tied c.found_methods_are_those_named.ensures
+returns c = list_tied

@@ -1,4 +1,4 @@
-use Rattle.std.proofs.Common.{sym, ap, codes}
+use Rattle.std.proofs.Common.{codes}
 use Rattle.s80_base.specs.declared.names.Side.TheVariants.{Instance}
 use Rattle.s80_doit.specs.Answer.{doit_meant}
 use Rattle.s80_doit.proofs.Evaluated.{codes_agree, doit_code_for, stopped_alike, trees, trees_of_state}

@@ -5,7 +5,7 @@ use Rattle.std.proofs.lemmas.Iterator.Consumers.{YieldsList-end}
 use Rattle.std.proofs.lemmas.Iterator.Splits.{YieldsList-from_slice_split}
 use Rattle.s80_base.specs.Byte.{is_separator}
 use Rattle.s80_form.specs.Definition.{is_empty}
-use Rattle.s80_form.proofs.Forms.{pieces_are}
+use Rattle.s80_form.proofs.Splits.{pieces_are}
 use Rattle.s80_form.proofs.names.split_names.Goals as goal
 
 pub returns : goal.returns

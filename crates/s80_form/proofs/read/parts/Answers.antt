@@ -1,13 +1,19 @@
-use Rattle.std.proofs.Common.{Some, ap, ◌∙◌}
-use Rattle.s80_form.specs.Definition.{split_names}
-use Rattle.s80_form.proofs.Reading.{parts_are}
+use Rattle.std.proofs.Common.{ap, ◌∙◌}
+use Rattle.std.proofs.lemmas.Result.{IfOk-weaker}
+use Rattle.s80_form.specs.Keyword.{keyword_text}
+use Rattle.s80_form.specs.Read.{FindsWord, FindsForm}
+use Rattle.s80_form.proofs.Reading.{by_word_found, definition_found, none_found}
 use Rattle.s80_form.proofs.read.parts.Goals as goal
 
-pub returns : goal.returns
-returns c = λ d h t. ap Some (
-    parts_are d _ c.in-Some.head c.in_ok-inst_vars.inst_vars c.in_ok-class_vars.class_vars c.in_ok-pools.pools c.in_ok-category.category
-    c.in_ok-inst_vars.rest.now c.in_ok-class_vars.rest.now c.in_ok-pools.rest.now c.in_ok-category.field-0-1.now h (c.in-Some.ensures d h t)
-    c.in_ok-inst_vars.ensures c.in_ok-class_vars.ensures c.in_ok-pools.ensures c.in_ok-category.ensures
-    c.in_ok-from_bytes-2.ensures (λ _. c.in-Some.head.kind) c.in_ok-from_bytes.ensures
-    (c.in_ok-split_names.ensures ∙ ap split_names c.bytes.ensures) (c.in_ok-split_names-2.ensures ∙ ap split_names c.bytes-2.ensures) (c.in_ok-split_names-3.ensures ∙ ap split_names c.bytes-3.ensures)
-    (λ _. c.in_ok-category.category))
+pub returns-in_ok-definition-in-Some-Defines : goal.returns-in_ok-definition-in-Some-Defines
+returns-in_ok-definition-in-Some-Defines c =
+    definition_found c.args.text.now c.beginning-front.result c.in-Some-Defines.kind c.in_ok-definition-in-Some-Defines.definition c.beginning-front.ensures
+    (c.in-Some-Defines.ensures ∙ ap keyword_text c.in-Some-Defines.field-0-is) c.in_ok-definition-in-Some-Defines.ensures
+
+pub returns-in-Some-Plain : goal.returns-in-Some-Plain
+returns-in-Some-Plain c =
+    IfOk-weaker c.by_word.result (FindsWord c.in-Some-Plain.word c.beginning-front.result.name.now c.beginning-front.result.side c.beginning-front.result.rest.now) (FindsForm c.args.text.now)
+    (λ r h. by_word_found c.args.text.now c.beginning-front.result c.in-Some-Plain.word r c.beginning-front.ensures (c.in-Some-Plain.ensures ∙ ap keyword_text c.in-Some-Plain.field-0-is) h) c.by_word.ensures
+
+pub returns-in-None : goal.returns-in-None
+returns-in-None c = none_found c.args.text.now c.beginning-front.result c.beginning-front.ensures c.in-None.ensures

@@ -7,4 +7,4 @@ pub returns-then-count-eq1 : goal.returns-then-count-eq1
 returns-then-count-eq1 c = messages_one (messages_of c.args.messages.now) (message_of c.at.result.now) (omega arith) c.at.ensures
 
 pub returns : goal.returns
-returns c = behind_class (messages_of c.args.messages.now) (message_of c.at-2.result.now) (message_of c.at-3.result.now) (omega arith) c.at-2.ensures c.at-3.ensures (c.is_to_class.ensures.0 (search rules))
+returns c = behind_class (messages_of c.args.messages.now) (message_of c.at-2.result.now) (message_of c.at-3.result.now) (omega arith) c.at-2.ensures c.at-3.ensures (c.is_unary.ensures.0 (search rules))

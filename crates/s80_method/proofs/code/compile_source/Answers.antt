@@ -1,26 +1,12 @@
-use Rattle.std.proofs.Common.{◌≤◌, length, subst, sym}
-use Rattle.std.proofs.lemmas.Result.{IfOk-weaker}
+use Rattle.std.proofs.Common.{IfOk, subst}
 use Rattle.s80_tree.specs.Tree.{method_of}
-use Rattle.s80_scope.specs.declared.shape.Shape.{Shape}
-use Rattle.s80_compile.specs.Compiles.{Compiles}
-use Rattle.s80_class.proofs.lemmas.Walks.{same_name}
 use Rattle.s80_method.specs.Code.{IsMethodCode}
-use Rattle.s80_method.proofs.Fitting.{is_code}
+use Rattle.s80_method.proofs.Fitting.{selector_is}
 use Rattle.s80_method.proofs.code.compile_source.Goals as goal
-
-pub compile-requires-clause-inst_vars : goal.compile-requires-clause-inst_vars
-compile-requires-clause-inst_vars c =
-    let class = c.requires.class in
-    subst (λ (s : Shape). length s.inst_vars ≤ 64) (sym (c.in_ok-shape.ensures class.0 class.1)) (c.requires.few class.0 class.1)
 
 pub returns-clause-code : goal.returns-clause-code
 returns-clause-code c = λ name selector named check.
-    let table = c.args.classes.now in
     let source = c.args.source.now in
-    let tree = method_of c.in_ok-tree.tree in
-    let shape = c.in_ok-shape.shape in
-    let owner = c.at.result.now.class_name in
-    IfOk-weaker c.compile.result (Compiles tree shape owner c.args.side) (IsMethodCode table.classes name c.args.side selector source)
-    (λ code compiled. is_code table.classes name owner c.args.side selector source tree shape code c.in_ok-tree.ensures.tree check (c.in_ok-shape.ensures name named)
-    (same_name table c.args.c owner name c.at.ensures.named named) compiled)
-    c.compile.ensures.related
+    let is = c.in_ok-tree.ensures.tree in
+    subst (λ word. IfOk c.compile_tree.result (λ code. IsMethodCode c.args.classes.now.classes name c.args.side word source code))
+    (selector_is source selector (method_of c.in_ok-tree.tree) is check) (c.compile_tree.ensures.code name source named is)

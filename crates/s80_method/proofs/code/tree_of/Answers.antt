@@ -1,7 +1,7 @@
 use Rattle.std.proofs.Common.{◌≡◌, ◌∙◌, true, sym, true≢false}
 use Rattle.s80_tree.specs.Tree.{method_of}
 use Rattle.s80_syntax.specs.declared.fault.ParseFault.TheVariants.{Memory}
-use Rattle.s80_method.proofs.Fitting.{tree_fits}
+use Rattle.s80_method.proofs.Fitting.{no_refusal}
 use Rattle.s80_method.proofs.code.tree_of.Goals as goal
 
 pub prove-unreachable-requires : goal.prove-unreachable-requires
@@ -11,10 +11,4 @@ prove-unreachable-requires c =
     true≢false (sym same ∙ c.if-prove.true)
 
 pub returns-in-Ok-clause-fits : goal.returns-in-Ok-clause-fits
-returns-in-Ok-clause-fits c = tree_fits c.args.source.now c.requires.fits.0 (method_of c.in-Ok.tree) c.in-Ok.ensures.tree c.requires.fits.1
-
-pub returns-in-Ok-clause-in_order : goal.returns-in-Ok-clause-in_order
-returns-in-Ok-clause-in_order c = c.places_of_uses_rise.ensures.method c.args.source.now (method_of c.in-Ok.tree) c.in-Ok.ensures.tree
-
-pub returns-in-Ok-clause-sent : goal.returns-in-Ok-clause-sent
-returns-in-Ok-clause-sent c = c.trees_are_well_sent.ensures.method c.args.source.now (method_of c.in-Ok.tree) c.in-Ok.ensures.tree
+returns-in-Ok-clause-fits c = no_refusal c.args.source.now c.requires.fits.0 (method_of c.in-Ok.tree) c.in-Ok.ensures.tree c.requires.fits.1

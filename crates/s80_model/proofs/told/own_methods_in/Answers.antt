@@ -8,8 +8,8 @@ pub loop-i-preserved : goal.loop-i-preserved
 loop-i-preserved c =
     let at = ap (λ l. slice_get l c.loop-i.i) c.selectors.view_is ∙ c.at.ensures in
     elim c.if-is_own.branch [
-      | then-is_own w ↦ one_more (is_own_in c.args.methods.now.methods) c.selectors.inside.names.items c.loop-i.i c.at.result.now c.loop-i.count c.if-is_own.count
+      | then-is_own w ↦ one_more (is_own_in c.args.name.now c.args.side c.args.methods.now.methods) c.selectors.inside.names.items c.loop-i.i c.at.result.now c.loop-i.count c.if-is_own.count
           c.loop-i.invariant at (sym c.is_own.ensures ∙ w.if-is_own.true) w.count-is
-      | else-is_own w ↦ none_more (is_own_in c.args.methods.now.methods) c.selectors.inside.names.items c.loop-i.i c.at.result.now c.loop-i.count c.if-is_own.count
+      | else-is_own w ↦ none_more (is_own_in c.args.name.now c.args.side c.args.methods.now.methods) c.selectors.inside.names.items c.loop-i.i c.at.result.now c.loop-i.count c.if-is_own.count
           c.loop-i.invariant at (sym c.is_own.ensures ∙ w.if-is_own.false) w.count-is
     ]

@@ -1,4 +1,4 @@
-use Rattle.std.proofs.Common.{length, refl, ap, sym, subst, ◌∙◌, Option}
+use Rattle.std.proofs.Common.{length, refl, sym, subst, ◌∙◌, Option}
 use Rattle.std.proofs.lemmas.Result.{err_from_is_err_and}
 use Rattle.s80_disk.specs.Moments.{LeavesOnly}
 use Rattle.s80_disk.proofs.lemmas.Showing.{told_beside}
@@ -8,6 +8,7 @@ use Rattle.s80_program.specs.Command.{item_for}
 use Rattle.s80_program.specs.Ending.{status_after}
 use Rattle.s80_program.specs.Leaves.{KeepsFor, LeavesFor, beginning}
 use Rattle.s80_program.specs.Task.{command_of}
+use Rattle.s80_program.proofs.Asking.{item_asks, some_item}
 use Rattle.s80_program.proofs.Beginning.{no_memory, session_begins}
 use Rattle.s80_program.proofs.Ends.{no_damage, run_counts}
 use Rattle.s80_program.proofs.program.do_task.Goals as goal
@@ -46,3 +47,9 @@ returns-in-None-clause-sound g c = λ tells changes knows. no_damage _ _ _ _ c.r
 
 pub returns-in-None-clause-counts : goal.returns-in-None-clause-counts
 returns-in-None-clause-counts g c = run_counts _ _ _ _ c.run_input.ensures.counts
+
+pub returns-in-None-clause-asked : goal.returns-in-None-clause-asked
+returns-in-None-clause-asked g c = λ asks. absurd (some_item (command_of c.args.task) (sym c.in_ok-item_for.ensures.item ∙ c.in-None.is) asks)
+
+pub returns-in-Some-clause-asked : goal.returns-in-Some-clause-asked
+returns-in-Some-clause-asked g c = λ asks. c.answer_item.ensures.asked (item_asks (command_of c.args.task) c.in-Some.item (sym c.in_ok-item_for.ensures.item ∙ c.in-Some.is) asks)

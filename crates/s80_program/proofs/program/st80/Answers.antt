@@ -1,7 +1,7 @@
 use Rattle.std.proofs.Common.{List, ℕ, sym, subst, ◌∙◌}
 use Rattle.s80_change.specs.declared.change.Change.{Change}
 use Rattle.s80_disk.specs.Moments.{LeavesOnly}
-use Rattle.s80_program.specs.Command.{Command, item_for}
+use Rattle.s80_program.specs.Command.{Command, IsAskingCommand, item_for}
 use Rattle.s80_program.specs.Ending.{status_after}
 use Rattle.s80_program.specs.Leaves.{StartsWith, Leaves, CommandKeeps}
 use Rattle.s80_program.specs.Task.{command_of}
@@ -54,3 +54,17 @@ returns-in-None-clause-any_moment g c = λ folder command changes input before a
 
 pub returns-in-None-clause-damaged : goal.returns-in-None-clause-damaged
 returns-in-None-clause-damaged g c = λ folder command damage asked tells h. absurd (c.in-None.ensures.none folder command asked)
+
+pub returns-in-Some-clause-asked : goal.returns-in-Some-clause-asked
+returns-in-Some-clause-asked g c = λ folder command asked asks.
+    c.work.ensures.asked (subst IsAskingCommand (one_command _ folder _ command (command_of c.in-Some.request.task) asked c.in-Some.ensures.found) asks)
+
+pub returns-in-Some-clause-marked : goal.returns-in-Some-clause-marked
+returns-in-Some-clause-marked g c = λ folder command asked asks.
+    c.work.ensures.marked (subst IsAskingCommand (one_command _ folder _ command (command_of c.in-Some.request.task) asked c.in-Some.ensures.found) asks)
+
+pub returns-in-None-clause-asked : goal.returns-in-None-clause-asked
+returns-in-None-clause-asked g c = λ folder command asked asks. absurd (c.in-None.ensures.none folder command asked)
+
+pub returns-in-None-clause-marked : goal.returns-in-None-clause-marked
+returns-in-None-clause-marked g c = λ folder command asked asks. absurd (c.in-None.ensures.none folder command asked)

@@ -1,9 +1,10 @@
-use Rattle.std.proofs.Common.{List, ℕ, ap, refl, sym, subst, ◌∙◌}
+use Rattle.std.proofs.Common.{◌<◌, List, ℕ, ap, refl, sym, subst, ◌∙◌}
 use Rattle.std.proofs.lemmas.Result.{err_from_is_err_and}
 use Rattle.s80_change.specs.declared.change.Change.{Change}
 use Rattle.s80_disk.specs.Image.{Image}
 use Rattle.s80_disk.specs.Moments.{LeavesOnly}
 use Rattle.s80_disk.specs.Shown.{Shown}
+use Rattle.s80_mark.specs.Found.{longer_log}
 use Rattle.s80_keeper.specs.declared.start.Damage.{Damage}
 use Rattle.s80_keeper.specs.Standing.{StandsFor}
 use Rattle.s80_keeper.specs.Start.{IsDamage}
@@ -127,3 +128,27 @@ returns-clause-reason g c = later_reason c.do_task.result _ _ _ (c.in_ok-session
 
 pub returns-clause-useful : goal.returns-clause-useful
 returns-clause-useful g c = never_usage _
+
+pub returns-in_err-open_folder-clause-asked : goal.returns-in_err-open_folder-clause-asked
+returns-in_err-open_folder-clause-asked g c = λ asks file ne. ap (λ (o : Shown). o.files file) c.open_folder.ensures.shown
+
+pub returns-in_err-open_folder-clause-marked : goal.returns-in_err-open_folder-clause-marked
+returns-in_err-open_folder-clause-marked g c = λ asks tells some file. ap (λ (o : Shown). o.files file) c.open_folder.ensures.shown
+
+pub returns-in_err-session-clause-asked : goal.returns-in_err-session-clause-asked
+returns-in_err-session-clause-asked g c = λ asks file ne. c.start.ensures.others file ne ∙ ap (λ (o : Shown). o.files file) c.open_folder.ensures.shown
+
+pub returns-in_err-session-clause-marked : goal.returns-in_err-session-clause-marked
+returns-in_err-session-clause-marked g c = λ asks tells some file.
+    let same = c.open_folder.ensures.shown in
+    let P : Shown → Type 0 = λ o. 0 < longer_log o.files in
+    c.start.ensures.untouched (ap (λ (o : Shown). o.tells) same ∙ tells) (subst P (sym same) some) file ∙ ap (λ (o : Shown). o.files file) same
+
+pub returns-clause-asked : goal.returns-clause-asked
+returns-clause-asked g c = λ asks file ne. c.do_task.ensures.asked asks file ∙ c.start.ensures.others file ne ∙ ap (λ (o : Shown). o.files file) c.open_folder.ensures.shown
+
+pub returns-clause-marked : goal.returns-clause-marked
+returns-clause-marked g c = λ asks tells some file.
+    let same = c.open_folder.ensures.shown in
+    let P : Shown → Type 0 = λ o. 0 < longer_log o.files in
+    c.do_task.ensures.asked asks file ∙ c.start.ensures.untouched (ap (λ (o : Shown). o.tells) same ∙ tells) (subst P (sym same) some) file ∙ ap (λ (o : Shown). o.files file) same

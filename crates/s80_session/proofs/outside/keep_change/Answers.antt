@@ -1,8 +1,11 @@
 use Rattle.std.proofs.Common.{ap, ◌∙◌, ◌++◌, ◌∷◌, []}
+use Rattle.std.specs.Prelude.{⊤}
 use Rattle.s80_disk.specs.Moments.{Beside}
 use Rattle.s80_disk.proofs.lemmas.Run.{weaker}
 use Rattle.s80_disk.proofs.lemmas.Showing.{but_for_files, but_for_disk}
 use Rattle.s80_keeper.specs.Standing.{LeavesEither}
+use Rattle.s80_log.specs.Commit.{LeavesBeside}
+use Rattle.s80_log.specs.Log.{log_file}
 use Rattle.s80_session.proofs.outside.keep_change.Goals as goal
 
 pub returns-clause-kept : goal.returns-clause-kept
@@ -15,6 +18,17 @@ returns-clause-any_moment g c =
     let same = ap (λ (b : Beside). b.told) (g.met.O.Outside.beside_is o) in
     rw (g.met.O.Outside.shown_is o) (λ changes keeps lawful is_for places.
     weaker D.moment D.left_since o c.keep.new.disk _ (LeavesEither (g.O.Sink.told o) changes (changes ++ c.args.prepared.change ∷ [])) (c.keep.ensures.any_moment changes keeps lawful is_for places) (λ told image h. record { told_is = h.told_is ∙ same; files = h.files }))
+
+pub returns-clause-elsewhere : goal.returns-clause-elsewhere
+returns-clause-elsewhere g c =
+    let D = g.O.Disk in
+    let o = c.args.outside.now in
+    let log = log_file c.args.keeper.now.log.number in
+    let same = ap (λ (b : Beside). b.told) (g.met.O.Outside.beside_is o) in
+    rw (g.met.O.Outside.shown_is o) (weaker D.moment D.left_since o c.keep.new.disk (LeavesBeside (D.may_leave o) (D.beside o).told log (λ c. ⊤)) (LeavesBeside (D.may_leave o) (g.O.Sink.told o) log (λ c. ⊤)) c.keep.ensures.elsewhere (λ told image h. record { told_is = h.told_is ∙ same; here = h.here; image = h.image; was = h.was; others = h.others }))
+
+pub returns-clause-others : goal.returns-clause-others
+returns-clause-others g c = rw (g.met.O.Outside.shown_is c.args.outside.now, g.met.O.Outside.shown_is c.keep.new.disk) c.keep.ensures.others
 
 pub returns-clause-shown : goal.returns-clause-shown
 returns-clause-shown g c = but_for_files g.met.O.Outside.beside_is g.met.O.Outside.shown_is c.args.outside.now c.keep.new.disk c.keep.ensures.tells c.keep.ensures.beside

@@ -1,4 +1,4 @@
-use Rattle.std.proofs.Common.{inl, refl, sym, ◌∙◌, subst}
+use Rattle.std.proofs.Common.{inl, refl, subst}
 use Rattle.s80_tree.specs.Tree.{doit_of}
 use Rattle.s80_form.specs.declared.form.Recognised.{Recognised}
 use Rattle.s80_form.specs.Form.{Recognises}
@@ -11,5 +11,5 @@ returns-in-Err c = inl (c.in_ok-syntax_refusal-in-Err.ensures.doit c.args.text c
 pub returns-in-Evaluate : goal.returns-in-Evaluate
 returns-in-Evaluate c =
     let P : Recognised → Type 0 = λ r. Recognises (doit_of c.in-Ok.tree) r in
-    let is = doit_fits c.args.text (doit_of c.in-Ok.tree) c.in-Ok.ensures.tree (sym c.in_ok-refusal.ensures ∙ c.in_default.is) (subst P c.in-Evaluate.is c.in_ok-recognised.ensures) in
+    let is = doit_fits c.args.text (doit_of c.in-Ok.tree) c.in_ok-method.method c.in-Ok.ensures.tree c.in_ok-method.ensures (subst P c.in-Evaluate.is c.in_ok-recognised.ensures) in
     (refl, is.0, is.1)

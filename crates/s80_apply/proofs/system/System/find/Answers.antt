@@ -1,6 +1,7 @@
-use Rattle.std.proofs.Common.{subst, arith}
+use Rattle.std.proofs.Common.{subst, sym, arith}
 use Rattle.s80_apply.specs.System.{HasNumber, SystemState}
-use Rattle.s80_apply.proofs.Own.{number_there}
+use Rattle.s80_apply.proofs.Places.{some_same}
+use Rattle.s80_apply.proofs.Sound.{number_there}
 use Rattle.s80_apply.proofs.system.System.find.Goals as goal
 
 pub returns-in-Some : goal.returns-in-Some
@@ -9,6 +10,7 @@ returns-in-Some c =
     let there = number_there here c.in-Some.number c.args.name.now c.self.invariant c.in-Some.ensures.found.named in
     let is : HasNumber here c.args.name.now c.in-Some.number = record {
       named = c.in-Some.ensures.found.named;
+      only = λ n named. sym (some_same c.in-Some.number n (c.in-Some.ensures.only n named));
       dictionaries = omega (arith, there);
       there = (_, c.in-Some.ensures.found.row);
     } in

@@ -2,24 +2,18 @@ use Rattle.std.proofs.Common.{◌≡◌, ◌∙◌, ℕ, sym, ap, subst, None, O
 use Rattle.s80_class.specs.Classes.{Name, IsValid}
 use Rattle.s80_class.specs.Table.{Table, IsNumberOf}
 use Rattle.s80_apply.specs.Accept.{define, refusal_of}
-use Rattle.s80_apply.specs.List.{AreOfList}
-use Rattle.s80_apply.specs.System.{CanPut, HasPlaces, IsSoundSystem, IsSystemOf, Places, SystemState, with_entry}
-use Rattle.s80_apply.proofs.Codes.{codes_have_sources, sound_reserved, sources_stay}
+use Rattle.s80_apply.specs.System.{CanPut, IsSoundSystem, Places, Stays, SystemState, with_entry}
+use Rattle.s80_apply.proofs.Codes.{codes_have_sources}
 use Rattle.s80_apply.proofs.Refusing.{new_can_put, none_numbered, prepared}
-use Rattle.s80_apply.proofs.Stands.{stays}
+use Rattle.s80_apply.proofs.Sound.{sound_reserved, sources_stay}
+use Rattle.s80_apply.proofs.Standing.{only_room}
 use Rattle.s80_apply.proofs.system.System.place.Goals as goal
 
-pub returns-in_err-reserve-clause-same : goal.returns-in_err-reserve-clause-same
-returns-in_err-reserve-clause-same c = λ state is.
+pub returns-in_err-reserve-clause-stays : goal.returns-in_err-reserve-clause-stays
+returns-in_err-reserve-clause-stays c =
     let here : SystemState = record { table = c.self.inside.classes; methods = c.self.inside.methods } in
     let now : SystemState = record { table = c.reserve.new.self; methods = c.self.inside.methods } in
-    stays here now state c.reserve.ensures.classes c.reserve.ensures.names (λ n s. refl) (subst (λ s. IsSystemOf s state) (sym c.self.view_is) is)
-
-pub returns-in_err-reserve-clause-same_places : goal.returns-in_err-reserve-clause-same_places
-returns-in_err-reserve-clause-same_places c = λ state is.
-    let here : SystemState = record { table = c.self.inside.classes; methods = c.self.inside.methods } in
-    let now : SystemState = record { table = c.reserve.new.self; methods = c.self.inside.methods } in
-    stays here now state c.reserve.ensures.classes c.reserve.ensures.names (λ n s. refl) (subst (λ s. HasPlaces s state) (sym c.self.view_is) is)
+    subst (λ s. Stays s now) c.self.view_is (only_room here now c.reserve.ensures.classes c.reserve.ensures.names (λ n s. refl))
 
 -- ---- with room the system is sound yet
 
@@ -49,14 +43,6 @@ returns-in_ok-placed_again-in-Some-number-clause-sound c =
 
 pub returns-in-None-clause-sound : goal.returns-in-None-clause-sound
 returns-in-None-clause-sound c = sound_reserved c.self.inside.classes c.reserve.new.self c.self.inside.methods c.reserve-2.new.self c.reserve.ensures.classes c.reserve.ensures.names c.reserve-2.ensures.sides c.self.invariant
-
--- ---- the classes were those of a list
-
-pub returns-in_ok-placed_again-in-Some-number-clause-of_list : goal.returns-in_ok-placed_again-in-Some-number-clause-of_list
-returns-in_ok-placed_again-in-Some-number-clause-of_list c = subst (λ (s : SystemState). AreOfList s.table.classes) c.self.view_is c.self.invariant.of_list
-
-pub returns-in-None-clause-of_list : goal.returns-in-None-clause-of_list
-returns-in-None-clause-of_list c = subst (λ (s : SystemState). AreOfList s.table.classes) c.self.view_is c.self.invariant.of_list
 
 -- ---- a class that is there
 
@@ -90,7 +76,7 @@ returns-in_ok-placed_again-in-Some-number-clause-answer c =
     c.self.invariant.within accepted c.in_ok-entry.ensures c.in-Some-number.ensures.found in
     let now : SystemState = record { table = c.placed_again.new.classes; methods = c.reserve-2.new.self } in
     let again = c.in_ok-placed_again-in-Some-number.field-0 in
-    subst (λ (s : SystemState). Places s.table.classes d now (Ok again)) c.self.view_is (
+    subst (λ (s : SystemState). Places (refusal_of d s.table.classes) (define d s.table.classes) now (Ok again)) c.self.view_is (
       accepted,
       subst (λ (t : Table). CanPut (record { table = t; methods = c.reserve-2.new.self }) again) (sym c.placed_again.ensures.same) c.in_ok-placed_again-in-Some-number.ensures.can_put,
       ap (λ (t : Table). with_entry t again.entry) c.placed_again.ensures.same ∙ c.in_ok-placed_again-in-Some-number.ensures.classes ∙ placed.makes ∙ ap (define d) c.reserve.ensures.classes,
@@ -112,4 +98,4 @@ returns-in-None-clause-answer c =
     none_numbered n (c.in-None.ensures.only n (subst (λ ns. IsNumberOf ns n d.class_name) c.reserve.ensures.names (subst (λ (name : Name). IsNumberOf c.reserve.new.self.names n name) c.in_ok-entry.ensures.class_name named))) in
     let can =
     new_can_put now d c.find-number.result entry c.new.result c.in-None.is c.new.ensures.items placed (omega (arith, c.in_ok-reserve-2.ensures.ok)) (subst IsValid (sym c.reserve.ensures.classes) c.find-number.ensures.valid) placed.may_put.1 unnumbered in
-    subst (λ (s : SystemState). Places s.table.classes d now (Ok (record { number = c.find-number.result; entry = entry; recompiled = c.new.result }))) c.self.view_is (accepted, can, placed.makes ∙ ap (define d) c.reserve.ensures.classes)
+    subst (λ (s : SystemState). Places (refusal_of d s.table.classes) (define d s.table.classes) now (Ok (record { number = c.find-number.result; entry = entry; recompiled = c.new.result }))) c.self.view_is (accepted, can, placed.makes ∙ ap (define d) c.reserve.ensures.classes)

@@ -1,7 +1,7 @@
 use Rattle.std.proofs.Common.{subst, sym}
 use Rattle.s80_apply.specs.List.{AreOfList}
 use Rattle.s80_apply.specs.System.{CanPut, HasClass, SystemState, with_entry}
-use Rattle.s80_apply.proofs.Codes.{class_is_put, room_again, sound_with_class, valid_put}
+use Rattle.s80_apply.proofs.Sound.{class_is_put, room_again, sound_with_class, valid_put}
 use Rattle.s80_apply.proofs.system.System.put.Goals as goal
 
 pub put_entry-requires-clause-may_put : goal.put_entry-requires-clause-may_put

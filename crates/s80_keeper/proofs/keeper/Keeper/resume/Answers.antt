@@ -34,17 +34,17 @@ returns-in_err-system-clause-answer g c = λ told has.
     rw (p.1, p.2) (bad_start _ c.args.mark has c.if-mark.false (long g run told) fault is)
 
 -- its changes are all accepted
-replayed : (g : _) (c : In_ok-system g) → IsTrue (g.D.Disk.tells c.args.disk.now) → AreReplayed (marked_part c.args.mark (g.D.Disk.reads c.args.disk.now)) (Ok (c.in_ok-system.system, c.in_ok-system.count))
+replayed : (g : _) (c : In_ok-system g) → IsTrue (g.D.Disk.tells c.args.disk.now) → AreReplayed (marked_part c.args.mark (g.D.Disk.reads c.args.disk.now)) (Ok (c.in_ok-system.system, c.in_ok-system.history, c.in_ok-system.count))
 replayed g c told =
     let run = (goal.at.In_ok-system g c).After-replay in
-    let P : List ℕ → Type 0 = λ bytes. AreReplayed bytes (Ok (c.in_ok-system.system, c.in_ok-system.count)) in
+    let P : List ℕ → Type 0 = λ bytes. AreReplayed bytes (Ok (c.in_ok-system.system, c.in_ok-system.history, c.in_ok-system.count)) in
     subst P (part g run) (c.in_ok-system.ensures.answer (c.check_length.ensures.untouched.telling ∙ told) (long_still g run told))
 
 pub returns-in_err-check_count-clause-answer : goal.returns-in_err-check_count-clause-answer
 returns-in_err-check_count-clause-answer g c = λ told has.
     let at = goal.at.returns-in_err-check_count-clause-answer g c in
     let fault = c.in_err-check_count.field-0.0 in
-    let is = miscounted_start _ c.args.mark has c.if-mark.false (long g at.After-replay told) (c.in_ok-system.system, c.in_ok-system.count) fault c.in_err-check_count.ensures (replayed g at.In_ok-system told) in
+    let is = miscounted_start _ c.args.mark has c.if-mark.false (long g at.After-replay told) (c.in_ok-system.system, c.in_ok-system.history, c.in_ok-system.count) fault c.in_err-check_count.ensures (replayed g at.In_ok-system told) in
     let p = err_from_is_err_and c.from_residual-in_err-check_count.result c.from_residual-in_err-check_count.ensures.1 in
     rw (p.1, p.2) is
 
@@ -52,4 +52,4 @@ pub returns-clause-answer : goal.returns-clause-answer
 returns-clause-answer g c = λ told has.
     let at = goal.at.returns-clause-answer g c in
     let keeper = c.at.ensures in
-    replayed_start _ c.args.mark has c.if-mark.false (long g at.After-replay told) (c.in_ok-system.system, c.in_ok-system.count) c.at.result (ap (λ (k : KeeperState). k.log) keeper ∙ c.resume-log.ensures) (ap (λ (k : KeeperState). k.system) keeper) (ap (λ (k : KeeperState). k.count) keeper) c.in_ok-check_count.ensures (replayed g at.In_ok-system told)
+    replayed_start _ c.args.mark has c.if-mark.false (long g at.After-replay told) (c.in_ok-system.system, c.in_ok-system.history, c.in_ok-system.count) c.at.result (ap (λ (k : KeeperState). k.log) keeper ∙ c.resume-log.ensures) (ap (λ (k : KeeperState). k.system) keeper) (ap (λ (k : KeeperState). k.history) keeper) (ap (λ (k : KeeperState). k.count) keeper) c.in_ok-check_count.ensures (replayed g at.In_ok-system told)

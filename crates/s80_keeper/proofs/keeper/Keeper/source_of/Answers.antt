@@ -1,7 +1,6 @@
-use Rattle.std.proofs.Common.{◌≡◌, ◌∙◌, IsTrue, List, None, Some, Ok, Err, option_map, sym, ap, subst}
+use Rattle.std.proofs.Common.{◌≡◌, ◌∙◌, Ok, Err, option_map, sym, ap, subst}
 use Rattle.std.specs.FinMap as map
 use Rattle.std.specs.Option.{option_copied}
-use Rattle.s80_change.specs.declared.change.Change.{Change}
 use Rattle.s80_dict.specs.Table.{methods_at, dict_at}
 use Rattle.s80_apply.specs.Placed.{PlacedRow}
 use Rattle.s80_apply.specs.State.{MethodRow}

@@ -62,7 +62,7 @@ returns-in_err-mark-in-Fresh-clause-stands g c = λ changes is. stands g (goal.a
 pub returns-in_ok-boot-in-Fresh-clause-answer : goal.returns-in_ok-boot-in-Fresh-clause-answer
 returns-in_ok-boot-in-Fresh-clause-answer g c = λ told.
     let none = empty g (goal.at.returns-in_ok-boot-in-Fresh-clause-answer g c).After-init_mark told in
-    first_start (g.D.Disk.reads c.args.disk.now) c.resume.result c.in_ok-mark-in-Fresh.mark c.in_ok-boot-in-Fresh.field-0 c.at.result none c.resume.ensures c.in_ok-boot-in-Fresh.ensures.state c.in_ok-boot-in-Fresh.ensures.places c.at.ensures
+    first_start (g.D.Disk.reads c.args.disk.now) c.resume.result c.in_ok-mark-in-Fresh.mark c.in_ok-boot-in-Fresh.field-0 c.empty.result c.at.result none c.resume.ensures c.in_ok-boot-in-Fresh.ensures.state c.in_ok-boot-in-Fresh.ensures.places c.empty.ensures.of c.at.ensures
 
 pub returns-in_ok-boot-in-Fresh-clause-any_moment : goal.returns-in_ok-boot-in-Fresh-clause-any_moment
 returns-in_ok-boot-in-Fresh-clause-any_moment g c = fresh g (goal.at.returns-in_ok-boot-in-Fresh-clause-any_moment g c).After-init_mark
@@ -78,7 +78,7 @@ returns-in_ok-boot-in-Fresh-clause-started g c = λ changes is.
     let made = c.in_ok-mark-in-Fresh in
     let told = c.find_mark.ensures.untouched.telling ∙ is.told in
     let none = none_kept (D.tells d) (D.reads d) (D.may_leave d) changes is (empty g (goal.at.returns-in_ok-boot-in-Fresh-clause-started g c).After-init_mark is.told) in
-    first_keeps (D.tells new) (D.reads new) (D.may_leave new) changes (c.init_mark.ensures.tells ∙ told) none made.ensures.durable c.resume.result made.mark c.in_ok-boot-in-Fresh.field-0 c.at.result c.resume.ensures made.ensures.first c.in_ok-boot-in-Fresh.ensures.state c.in_ok-boot-in-Fresh.ensures.places (made.ensures.valid told) c.at.ensures
+    first_keeps (D.tells new) (D.reads new) (D.may_leave new) changes (c.init_mark.ensures.tells ∙ told) none made.ensures.durable c.resume.result made.mark c.in_ok-boot-in-Fresh.field-0 c.empty.result c.at.result c.resume.ensures made.ensures.first c.in_ok-boot-in-Fresh.ensures.state c.in_ok-boot-in-Fresh.ensures.places c.empty.ensures.of (made.ensures.valid told) c.at.ensures
 
 -- there is no memory for the classes
 pub returns-in_err-boot-in-Fresh-clause-any_moment : goal.returns-in_err-boot-in-Fresh-clause-any_moment

@@ -2,6 +2,8 @@ use Rattle.std.proofs.Common.{◌≡◌, ◌++◌, ◌∷◌, [], ◌+◌, inl, 
 use Rattle.std.proofs.lemmas.Result.{err_from_is_err_and}
 use Rattle.s80_change.specs.declared.change.Change.{Change}
 use Rattle.s80_change.specs.Block.{block, IsLawful}
+use Rattle.std.specs.Prelude.{⊤}
+use Rattle.s80_disk.specs.declared.disk.FileId.TheVariants.{Mark}
 use Rattle.s80_disk.specs.Image.{Image}
 use Rattle.s80_disk.specs.Moments.{Beside, LeavesOnly}
 use Rattle.s80_disk.proofs.lemmas.Run.{joined, weaker}
@@ -9,7 +11,7 @@ use Rattle.s80_log.specs.Log.{LogEnd, log_file}
 use Rattle.s80_log.specs.Standing.{StandsFor}
 use Rattle.s80_log.specs.Commit.{next_mark, Holds, LeavesBeside, StandForEither}
 use Rattle.s80_log.proofs.Appending.{image_stands}
-use Rattle.s80_log.proofs.Keeping.{holds_none, loosened, beside_on}
+use Rattle.s80_log.proofs.Keeping.{holds_none, loosened, beside_on, elsewhere}
 use Rattle.s80_log.proofs.log.Log.append_and_commit.Goals as goal
 use Rattle.s80_log.proofs.log.Log.append_and_commit.Goals.{After-commit}
 
@@ -48,7 +50,32 @@ returns-in-Err-clause-full g c = λ n. (
   λ over. let w = c.in_ok-at.ensures.within in let e = ap (λ (l : LogEnd). l.end) c.in_ok-at.ensures.end in absurd (omega arith),
 )
 
+pub returns-in_err-at-clause-elsewhere : goal.returns-in_err-at-clause-elsewhere
+returns-in_err-at-clause-elsewhere g c =
+    let D = g.D.Disk in
+    let d = c.args.disk.now in
+    let log = log_file c.args.self.now.number in
+    weaker D.moment D.left_since d c.append.new.disk _ _ c.append.ensures.any_moment (elsewhere (D.may_leave d) (D.beside d).told log log _ (λ other no_mark no_log. no_log))
+
 -- ---- where the commit was made
+
+-- whatever the disk stands for, but for the mark and the log
+others_stay : (g : _) (c : After-commit g) → LeavesOnly g.D.Disk.moment g.D.Disk.left_since c.args.disk.now c.commit.new.disk (LeavesBeside (g.D.Disk.may_leave c.args.disk.now) (g.D.Disk.beside c.args.disk.now).told (log_file c.args.self.now.number) (λ e. ⊤))
+others_stay g c =
+    let D = g.D.Disk in
+    let d = c.args.disk.now in
+    let mid = c.append.new.disk in
+    let log = log_file c.args.self.now.number in
+    joined D.moment D.left_since d mid c.commit.new.disk (LeavesBeside (D.may_leave d) (D.beside d).told log (λ e. ⊤)) (LeavesBeside (D.may_leave mid) (D.beside mid).told log (λ e. ⊤))
+    (weaker D.moment D.left_since d mid _ _ c.append.ensures.any_moment (elsewhere (D.may_leave d) (D.beside d).told log log _ (λ other no_mark no_log. no_log)))
+    (weaker D.moment D.left_since mid c.commit.new.disk _ _ c.commit.ensures.any_moment (λ told e either. elsewhere (D.may_leave mid) (D.beside mid).told log Mark _ (λ other no_mark no_log. no_mark) told e either.from))
+    (beside_on _ log _ (D.may_leave d) (D.may_leave mid) _ _ (ap (λ (b : Beside). b.told) c.append.ensures.beside) c.append.ensures.crash)
+
+pub returns-in-Err-clause-elsewhere : goal.returns-in-Err-clause-elsewhere
+returns-in-Err-clause-elsewhere g c = others_stay g (goal.at.returns-in-Err-clause-elsewhere g c).After-commit
+
+pub returns-clause-elsewhere : goal.returns-clause-elsewhere
+returns-clause-elsewhere g c = others_stay g (goal.at.returns-clause-elsewhere g c).After-commit
 
 module _ (g : _) (c : After-commit g) (changes : List Change) (change : Change) (stands : StandsFor (g.D.Disk.tells c.args.disk.now) (g.D.Disk.reads c.args.disk.now) (g.D.Disk.may_leave c.args.disk.now) c.args.mark.now changes) (named : c.args.mark.now.log ≡ c.args.self.now.number) (ends : c.args.mark.now.log_length ≡ c.args.self.now.end) (lawful : IsLawful change) (is : c.args.block.now ≡ block change) (counts : c.args.count ≡ length changes + 1) where
   -- the log behind the block

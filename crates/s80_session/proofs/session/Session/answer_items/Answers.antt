@@ -1,4 +1,4 @@
-use Rattle.std.proofs.Common.{inl, sym, ap, ◌∙◌, ◌++◌, ◌∷◌, [], refl, arith}
+use Rattle.std.proofs.Common.{inl, sym, ◌∙◌, ◌++◌, ◌∷◌, [], refl, arith}
 use Rattle.std.proofs.lemmas.Result.{err_from_is_err_and}
 use Rattle.s80_disk.proofs.lemmas.Showing.{told_beside}
 use Rattle.s80_model.specs.declared.item.SessionItem.TheVariants.{Chunk}

@@ -1,4 +1,4 @@
-use Rattle.std.proofs.Common.{inl, ap, [], refl, sym, ◌∙◌, ◌++◌}
+use Rattle.std.proofs.Common.{inl, [], refl, sym, ◌∙◌, ◌++◌}
 use Rattle.std.proofs.lemmas.List.{append-nil}
 use Rattle.std.proofs.lemmas.Result.{err_from_is_err_and}
 use Rattle.s80_disk.proofs.lemmas.Showing.{told_beside}

@@ -1,10 +1,13 @@
 use Rattle.std.proofs.Common.{inl, true, refl, sym, ap, ◌∙◌, ◌||◌}
 use Rattle.std.proofs.lemmas.Result.{err_from_is_err_and}
+use Rattle.s80_disk.specs.Shown.{Shown}
+use Rattle.s80_log.specs.Log.{log_file}
 use Rattle.s80_model.specs.declared.reply.Reply.TheVariants.{Silent, Accepted, Refused, Evaluated, Told}
 use Rattle.s80_model.specs.Replies.{reply_text, work_after, reply_to, is_trouble}
 use Rattle.s80_session.specs.declared.session.Session.{Session}
-use Rattle.s80_session.specs.Session.{budget_of, last_run_of, troubled_of, was_of}
+use Rattle.s80_session.specs.Session.{budget_of, keeper_of, last_run_of, troubled_of, was_of}
 use Rattle.s80_session.specs.Working.{staying}
+use Rattle.s80_session.proofs.lemmas.Elsewhere.{elsewhere_on, left_on}
 use Rattle.s80_session.proofs.lemmas.Keeping.{keeps_leaves}
 use Rattle.s80_session.proofs.lemmas.Lasting.{step_lasts, work_lasts}
 use Rattle.s80_session.proofs.Marking.{broken_run, broken_trouble, put_trouble, run_on, run_refused, silent_run, silent_trouble}
@@ -173,3 +176,73 @@ returns-in-Evaluated-clause-budget g c = ap budget_of c.enter-in-Evaluated.ensur
 
 pub returns-in-Told-clause-budget : goal.returns-in-Told-clause-budget
 returns-in-Told-clause-budget g c = ap budget_of c.enter-in-Told.ensures.rest ∙ c.work.ensures.budget
+
+-- ---- the files: an answer leaves them
+
+pub returns-in-Accepted-clause-others : goal.returns-in-Accepted-clause-others
+returns-in-Accepted-clause-others g c = λ other no_mark no_log. ap (λ (s : Shown). s.files other) c.answer.ensures.shown ∙ c.work.ensures.others other no_mark no_log
+
+pub returns-in-Accepted-clause-elsewhere : goal.returns-in-Accepted-clause-elsewhere
+returns-in-Accepted-clause-elsewhere g c =
+    let D = g.O.Disk in
+    let mid = c.work.new.outside in
+    elsewhere_on D.moment D.left_since c.args.outside.now mid c.answer.new.outside (D.may_leave c.args.outside.now) (D.may_leave mid) (D.beside mid).told (log_file (keeper_of c.args.self.now).log.number) (g.met.O.Disk.counts_now mid) c.work.ensures.elsewhere c.answer.ensures.no_more
+
+pub returns-in-Accepted-clause-asked : goal.returns-in-Accepted-clause-asked
+returns-in-Accepted-clause-asked g c = λ asking file. ap (λ (s : Shown). s.files file) c.answer.ensures.shown ∙ c.work.ensures.asked asking file
+
+pub returns-in-Accepted-clause-no_more : goal.returns-in-Accepted-clause-no_more
+returns-in-Accepted-clause-no_more g c = λ asking.
+    let D = g.O.Disk in
+    left_on D.moment D.left_since c.args.outside.now c.work.new.outside c.answer.new.outside (D.may_leave c.args.outside.now) (D.may_leave c.work.new.outside) (c.work.ensures.images asking) (c.work.ensures.no_more asking) c.answer.ensures.no_more
+
+pub returns-in_ok-line-in-Refused-clause-others : goal.returns-in_ok-line-in-Refused-clause-others
+returns-in_ok-line-in-Refused-clause-others g c = λ other no_mark no_log. ap (λ (s : Shown). s.files other) c.answer-in-Refused.ensures.shown ∙ c.work.ensures.others other no_mark no_log
+
+pub returns-in_ok-line-in-Refused-clause-elsewhere : goal.returns-in_ok-line-in-Refused-clause-elsewhere
+returns-in_ok-line-in-Refused-clause-elsewhere g c =
+    let D = g.O.Disk in
+    let mid = c.work.new.outside in
+    elsewhere_on D.moment D.left_since c.args.outside.now mid c.answer-in-Refused.new.outside (D.may_leave c.args.outside.now) (D.may_leave mid) (D.beside mid).told (log_file (keeper_of c.args.self.now).log.number) (g.met.O.Disk.counts_now mid) c.work.ensures.elsewhere c.answer-in-Refused.ensures.no_more
+
+pub returns-in_ok-line-in-Refused-clause-asked : goal.returns-in_ok-line-in-Refused-clause-asked
+returns-in_ok-line-in-Refused-clause-asked g c = λ asking file. ap (λ (s : Shown). s.files file) c.answer-in-Refused.ensures.shown ∙ c.work.ensures.asked asking file
+
+pub returns-in_ok-line-in-Refused-clause-no_more : goal.returns-in_ok-line-in-Refused-clause-no_more
+returns-in_ok-line-in-Refused-clause-no_more g c = λ asking.
+    let D = g.O.Disk in
+    left_on D.moment D.left_since c.args.outside.now c.work.new.outside c.answer-in-Refused.new.outside (D.may_leave c.args.outside.now) (D.may_leave c.work.new.outside) (c.work.ensures.images asking) (c.work.ensures.no_more asking) c.answer-in-Refused.ensures.no_more
+
+pub returns-in-Evaluated-clause-others : goal.returns-in-Evaluated-clause-others
+returns-in-Evaluated-clause-others g c = λ other no_mark no_log. ap (λ (s : Shown). s.files other) c.answer-in-Evaluated.ensures.shown ∙ c.work.ensures.others other no_mark no_log
+
+pub returns-in-Evaluated-clause-elsewhere : goal.returns-in-Evaluated-clause-elsewhere
+returns-in-Evaluated-clause-elsewhere g c =
+    let D = g.O.Disk in
+    let mid = c.work.new.outside in
+    elsewhere_on D.moment D.left_since c.args.outside.now mid c.answer-in-Evaluated.new.outside (D.may_leave c.args.outside.now) (D.may_leave mid) (D.beside mid).told (log_file (keeper_of c.args.self.now).log.number) (g.met.O.Disk.counts_now mid) c.work.ensures.elsewhere c.answer-in-Evaluated.ensures.no_more
+
+pub returns-in-Evaluated-clause-asked : goal.returns-in-Evaluated-clause-asked
+returns-in-Evaluated-clause-asked g c = λ asking file. ap (λ (s : Shown). s.files file) c.answer-in-Evaluated.ensures.shown ∙ c.work.ensures.asked asking file
+
+pub returns-in-Evaluated-clause-no_more : goal.returns-in-Evaluated-clause-no_more
+returns-in-Evaluated-clause-no_more g c = λ asking.
+    let D = g.O.Disk in
+    left_on D.moment D.left_since c.args.outside.now c.work.new.outside c.answer-in-Evaluated.new.outside (D.may_leave c.args.outside.now) (D.may_leave c.work.new.outside) (c.work.ensures.images asking) (c.work.ensures.no_more asking) c.answer-in-Evaluated.ensures.no_more
+
+pub returns-in-Told-clause-others : goal.returns-in-Told-clause-others
+returns-in-Told-clause-others g c = λ other no_mark no_log. ap (λ (s : Shown). s.files other) c.answer-in-Told.ensures.shown ∙ c.work.ensures.others other no_mark no_log
+
+pub returns-in-Told-clause-elsewhere : goal.returns-in-Told-clause-elsewhere
+returns-in-Told-clause-elsewhere g c =
+    let D = g.O.Disk in
+    let mid = c.work.new.outside in
+    elsewhere_on D.moment D.left_since c.args.outside.now mid c.answer-in-Told.new.outside (D.may_leave c.args.outside.now) (D.may_leave mid) (D.beside mid).told (log_file (keeper_of c.args.self.now).log.number) (g.met.O.Disk.counts_now mid) c.work.ensures.elsewhere c.answer-in-Told.ensures.no_more
+
+pub returns-in-Told-clause-asked : goal.returns-in-Told-clause-asked
+returns-in-Told-clause-asked g c = λ asking file. ap (λ (s : Shown). s.files file) c.answer-in-Told.ensures.shown ∙ c.work.ensures.asked asking file
+
+pub returns-in-Told-clause-no_more : goal.returns-in-Told-clause-no_more
+returns-in-Told-clause-no_more g c = λ asking.
+    let D = g.O.Disk in
+    left_on D.moment D.left_since c.args.outside.now c.work.new.outside c.answer-in-Told.new.outside (D.may_leave c.args.outside.now) (D.may_leave c.work.new.outside) (c.work.ensures.images asking) (c.work.ensures.no_more asking) c.answer-in-Told.ensures.no_more

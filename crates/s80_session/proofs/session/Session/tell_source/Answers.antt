@@ -1,5 +1,5 @@
 use Rattle.std.specs.Prelude.{IfErr}
-use Rattle.std.proofs.Common.{◌≡◌, inl, ◌++◌, ◌∷◌, [], ℕ, List, Option, Some, None, Result, Ok, Err, length, refl, ap, sym, subst, ◌∙◌, arith}
+use Rattle.std.proofs.Common.{◌≡◌, inl, ℕ, List, Option, Some, None, Result, Ok, Err, length, refl, ap, sym, subst, ◌∙◌, arith}
 use Rattle.std.proofs.lemmas.Result.{err_from_is_err_and}
 use Rattle.std.specs.FinMap as map
 use Rattle.s80_form.specs.declared.refusal.Refusal.{Refusal}
@@ -9,7 +9,6 @@ use Rattle.s80_disk.specs.Moments.{LeavesOnly}
 use Rattle.s80_disk.specs.Shown.{Faults}
 use Rattle.s80_disk.proofs.lemmas.Showing.{told_beside}
 use Rattle.s80_keeper.specs.declared.keep.KeepFault.{KeepFault}
-use Rattle.s80_keeper.specs.Keeper.{KeeperState}
 use Rattle.s80_keeper.specs.Source.{IsThis, after_reading}
 use Rattle.s80_model.specs.declared.item.Query.TheVariants.{Source}
 use Rattle.s80_model.specs.declared.item.SessionItem.{SessionItem}
@@ -23,9 +22,11 @@ use Rattle.s80_apply.specs.System.{SystemState}
 use Rattle.s80_session.specs.declared.end.SessionEnd.{SessionEnd}
 use Rattle.s80_session.specs.declared.session.Session.{Session}
 use Rattle.s80_session.specs.Ending.{EndsForReasonOrDamage, NoFewer}
+use Rattle.s80_session.specs.Files.{IsAsLeft}
 use Rattle.s80_session.specs.Run.{HasKept}
 use Rattle.s80_session.specs.Session.{was_of}
 use Rattle.s80_session.specs.Working.{IsAt, Replied, Unreplied}
+use Rattle.s80_session.proofs.lemmas.Elsewhere.{left_as_before}
 use Rattle.s80_session.proofs.lemmas.Keeping.{keeps_knows}
 use Rattle.s80_session.proofs.lemmas.Lasting.{nothing_happens, quiet_last}
 use Rattle.s80_session.proofs.Reading.{at_read, fault_unread, read_reason, unread_ends}
@@ -35,10 +36,14 @@ use Rattle.s80_session.proofs.session.Session.tell_source.Goals as goal
 use Rattle.s80_session.proofs.session.Session.tell_source.Goals.{After-read_source}
 
 -- what the paths behind the reading share
+module _ (g : _) (c : After-read_source g) where
+  no_more : LeavesOnly g.O.Disk.moment g.O.Disk.left_since c.args.outside.now c.read_source.new.outside (IsAsLeft (g.O.Disk.may_leave c.args.outside.now))
+  no_more = left_as_before g.O.Disk.moment g.O.Disk.left_since c.args.outside.now c.read_source.new.outside (g.O.Disk.may_leave c.args.outside.now) (g.O.Outside.shown c.args.outside.now).told 0 c.read_source.ensures.any_moment
+
 module _ (g : _) (c : After-read_source g) (work : Work) (put : List ℕ) (at : IsAt (g.O.Disk.may_leave c.args.outside.now) (g.O.Outside.shown c.args.outside.now) c.args.self.now work put) where
   -- it is the source that the list has
   this : IsThis (source_in (state_of work.changes) c.in-Some.name c.in-Some.side c.args.selector) c.read_source.result
-  this = c.read_source.ensures.source at.keeps.stands.told work.changes (keeps_knows (g.O.Outside.shown c.args.outside.now).tells (g.O.Outside.shown c.args.outside.now).files (g.O.Disk.may_leave c.args.outside.now) c.args.self.now.keeper work.changes at.keeps) c.in-Some.name (subst (λ (s : SystemState). IsNumberOf s.table.names c.in-Some-find.number c.in-Some.name) c.system.ensures c.in-Some-find.ensures.named)
+  this = c.read_source.ensures.source at.keeps.holds.stands.told work.changes (keeps_knows (g.O.Outside.shown c.args.outside.now).tells (g.O.Outside.shown c.args.outside.now).files (g.O.Disk.may_leave c.args.outside.now) c.args.self.now.keeper work.changes at.keeps) c.in-Some.name (subst (λ (s : SystemState). IsNumberOf s.table.names c.in-Some-find.number c.in-Some.name) c.system.ensures c.in-Some-find.ensures.named)
 
   run : LeavesOnly g.O.Disk.moment g.O.Disk.left_since c.args.outside.now c.read_source.new.outside (HasKept work.changes (length put))
   run = quiet_last g.O.Disk.moment g.O.Disk.left_since (g.O.Disk.may_leave c.args.outside.now) (g.O.Outside.shown c.args.outside.now) c.args.self.now c.args.outside.now c.read_source.new.outside work put at c.read_source.ensures.any_moment
@@ -54,8 +59,8 @@ module _ (g : _) (c : After-read_source g) (work : Work) (put : List ℕ) (at : 
   is_told found reply is reply_is =
       let P : Result (Option (List ℕ)) KeepFault → Type 0 = λ r. IsThis (source_in (state_of work.changes) c.in-Some.name c.in-Some.side c.args.selector) r in
       let row = c.in-Some-find.ensures.there in
-      let text = source_is_told (state_of work.changes) (length work.changes) c.args.spec c.args.selector c.in_ok-name.field-0 (c.in-Some.name, c.in-Some.side) c.in_ok-name.ensures c.in-Some.is row.0 found reply (sym (ap (λ (s : SystemState). map.get s.table.classes c.in-Some.name) c.system.ensures ∙ ap (λ (m : Classes). map.get m c.in-Some.name) at.keeps.system.classes) ∙ row.1) (subst P is this) reply_is in
-      replied_told (g.O.Disk.may_leave c.read_source.new.outside) (g.O.Outside.shown c.read_source.new.outside) (record c.args.self.now { keeper = c.read_source.new.keeper }) (was_of c.args.self.now) work put (Source c.args.spec c.args.selector) (Source c.args.spec c.args.selector) (length work.changes) reply refl refl refl text (still found is)
+      let text = source_is_told work.changes c.args.spec c.args.selector c.in_ok-name.field-0 (c.in-Some.name, c.in-Some.side) c.in_ok-name.ensures c.in-Some.is row.0 (sym (ap (λ (s : SystemState). map.get s.table.classes c.in-Some.name) c.system.ensures ∙ ap (λ (m : Classes). map.get m c.in-Some.name) at.keeps.system.classes) ∙ row.1) reply found (subst P is this) reply_is in
+      replied_told (g.O.Disk.may_leave c.read_source.new.outside) (g.O.Outside.shown c.read_source.new.outside) (record c.args.self.now { keeper = c.read_source.new.keeper }) (was_of c.args.self.now) work put (Source c.args.spec c.args.selector) (Source c.args.spec c.args.selector) reply refl refl tt text (still found is)
 
 pub returns-in_err-name-clause-any_moment : goal.returns-in_err-name-clause-any_moment
 returns-in_err-name-clause-any_moment g c = λ work put at.
@@ -102,7 +107,7 @@ pub returns-clause-replied : goal.returns-clause-replied
 returns-clause-replied g c = λ work put at.
     let after = (goal.at.returns-clause-replied g c).After-read_source in
     let Q : Result (Option (List ℕ)) KeepFault → Type 0 = λ r. IsThis (source_in (state_of work.changes) c.in-Some.name c.in-Some.side c.args.selector) r in
-    absurd (unread_ends c.in-Err.fault (source_in (state_of work.changes) c.in-Some.name c.in-Some.side c.args.selector) c.in_ok-refusal_at_fault-in-Err.field-0 (subst Q c.in-Err.is (this g after work put at)) (sym c.in_ok-refusal_at_fault-in-Err.ensures))
+    absurd (unread_ends (Option (List ℕ)) c.in-Err.fault (source_in (state_of work.changes) c.in-Some.name c.in-Some.side c.args.selector) c.in_ok-refusal_at_fault-in-Err.field-0 (subst Q c.in-Err.is (this g after work put at)) (sym c.in_ok-refusal_at_fault-in-Err.ensures))
 
 pub returns-in_err-refusal_at_fault-in-Err-clause-replied : goal.returns-in_err-refusal_at_fault-in-Err-clause-replied
 returns-in_err-refusal_at_fault-in-Err-clause-replied g c = λ work put at.
@@ -112,7 +117,7 @@ returns-in_err-refusal_at_fault-in-Err-clause-replied g c = λ work put at.
     let item : SessionItem = Query (Source c.args.spec c.args.selector) in
     let P : Result Refusal SessionEnd → Type 0 = λ r. IfErr r (λ end. Unreplied end (g.O.Disk.may_leave new) (g.O.Outside.shown new) now work put item) in
     let Q : Result (Option (List ℕ)) KeepFault → Type 0 = λ r. IsThis (source_in (state_of work.changes) c.in-Some.name c.in-Some.side c.args.selector) r in
-    let ends = subst P (sym c.in_err-refusal_at_fault-in-Err.ensures) (fault_unread c.in-Err.fault (source_in (state_of work.changes) c.in-Some.name c.in-Some.side c.args.selector) (g.O.Disk.may_leave c.args.outside.now) (g.O.Disk.may_leave new) (g.O.Outside.shown c.args.outside.now) (g.O.Outside.shown new) c.args.self.now now work put item (subst Q c.in-Err.is (this g after work put at)) (c.read_source.ensures.after ∙ ap (λ r. after_reading r c.args.self.now.keeper) c.in-Err.is) refl c.read_source.ensures.images c.read_source.ensures.shown at) in
+    let ends = subst P (sym c.in_err-refusal_at_fault-in-Err.ensures) (fault_unread (Option (List ℕ)) c.in-Err.fault (source_in (state_of work.changes) c.in-Some.name c.in-Some.side c.args.selector) (g.O.Disk.may_leave c.args.outside.now) (g.O.Disk.may_leave new) (g.O.Outside.shown c.args.outside.now) (g.O.Outside.shown new) c.args.self.now now work put item (subst Q c.in-Err.is (this g after work put at)) (c.read_source.ensures.after ∙ ap (λ r. after_reading r c.args.self.now.keeper) c.in-Err.is) refl c.read_source.ensures.images c.read_source.ensures.shown at) in
     let p = err_from_is_err_and c.from_residual-in_err-refusal_at_fault-in-Err.result c.from_residual-in_err-refusal_at_fault-in-Err.ensures.1 in
     rw (p.1, p.2) ends
 
@@ -130,6 +135,23 @@ returns-in_err-refusal_at_fault-in-Err-clause-counts g c =
       disk = c.read_source.ensures.later;
     } in
     let P : Result Refusal SessionEnd → Type 0 = λ r. IfErr r (λ end. EndsForReasonOrDamage {T = Reply} old new (Err end)) in
-    let reason = subst P (sym c.in_err-refusal_at_fault-in-Err.ensures) (read_reason Reply c.read_source.result c.args.self.now.keeper c.in-Err.fault old new c.in-Err.is counts c.read_source.ensures.cause c.read_source.ensures.faults_stay c.read_source.ensures.closed c.requires.faultless) in
+    let reason = subst P (sym c.in_err-refusal_at_fault-in-Err.ensures) (read_reason Reply (Option (List ℕ)) c.read_source.result c.args.self.now.keeper c.in-Err.fault old new c.in-Err.is counts c.read_source.ensures.cause c.read_source.ensures.faults_stay c.read_source.ensures.closed c.requires.faultless) in
     let p = err_from_is_err_and c.from_residual-in_err-refusal_at_fault-in-Err.result c.from_residual-in_err-refusal_at_fault-in-Err.ensures.1 in
     rw (p.1, p.2) (record { later = later; reason = reason })
+
+-- ---- no image is added
+
+pub returns-in_err-append-in-Ok-Some-clause-no_more : goal.returns-in_err-append-in-Ok-Some-clause-no_more
+returns-in_err-append-in-Ok-Some-clause-no_more g c = no_more g (goal.at.returns-in_err-append-in-Ok-Some-clause-no_more g c).After-read_source
+
+pub returns-in-Ok-Some-clause-no_more : goal.returns-in-Ok-Some-clause-no_more
+returns-in-Ok-Some-clause-no_more g c = no_more g (goal.at.returns-in-Ok-Some-clause-no_more g c).After-read_source
+
+pub returns-in-Ok-None-clause-no_more : goal.returns-in-Ok-None-clause-no_more
+returns-in-Ok-None-clause-no_more g c = no_more g (goal.at.returns-in-Ok-None-clause-no_more g c).After-read_source
+
+pub returns-in_err-refusal_at_fault-in-Err-clause-no_more : goal.returns-in_err-refusal_at_fault-in-Err-clause-no_more
+returns-in_err-refusal_at_fault-in-Err-clause-no_more g c = no_more g (goal.at.returns-in_err-refusal_at_fault-in-Err-clause-no_more g c).After-read_source
+
+pub returns-clause-no_more : goal.returns-clause-no_more
+returns-clause-no_more g c = no_more g (goal.at.returns-clause-no_more g c).After-read_source

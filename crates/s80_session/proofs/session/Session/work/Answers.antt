@@ -6,7 +6,7 @@ use Rattle.s80_disk.specs.Moments.{LeavesOnly}
 use Rattle.s80_disk.proofs.lemmas.Showing.{told_beside}
 use Rattle.s80_apply.specs.System.{SystemState}
 use Rattle.s80_model.specs.declared.item.SessionItem.{SessionItem}
-use Rattle.s80_model.specs.declared.item.SessionItem.TheVariants.{Chunk, Unended, Query}
+use Rattle.s80_model.specs.declared.item.SessionItem.TheVariants.{Chunk, Unended}
 use Rattle.s80_model.specs.declared.reply.Answer.{Answer}
 use Rattle.s80_model.specs.declared.reply.Reply.TheVariants.{Silent}
 use Rattle.s80_model.specs.declared.section.Section.TheVariants.{Top}
@@ -23,9 +23,10 @@ pub returns-in_err-head_answer-in-Chunk-Head-clause-any_moment : goal.returns-in
 returns-in_err-head_answer-in-Chunk-Head-clause-any_moment g c = λ work put readable at.
     work_still g.O.Disk.moment g.O.Disk.left_since c.args.outside.now c.args.outside.now work put c.args.item (nothing_happens g.O.Disk.moment g.O.Disk.left_since _ (g.O.Outside.shown c.args.outside.now) _ c.args.outside.now work put (λ told image left. let x = g.met.O.Disk.only_now c.args.outside.now told image left in (x.0, x.1 ∙ told_beside g.met.O.Outside.beside_is g.met.O.Outside.shown_is c.args.outside.now)) at)
 
-pub returns-in_err-tell-in-Query-clause-any_moment : goal.returns-in_err-tell-in-Query-clause-any_moment
-returns-in_err-tell-in-Query-clause-any_moment g c = λ work put readable at.
-    work_still g.O.Disk.moment g.O.Disk.left_since c.args.outside.now c.tell.new.outside work put c.args.item (c.tell.ensures.any_moment work put at)
+pub returns-in_err-work_query-in-Query-clause-any_moment : goal.returns-in_err-work_query-in-Query-clause-any_moment
+returns-in_err-work_query-in-Query-clause-any_moment g c = λ work put readable at.
+    let P : SessionItem → Type 0 = λ i. LeavesOnly g.O.Disk.moment g.O.Disk.left_since c.args.outside.now c.work_query.new.outside (WorkLeaves work put i) in
+    subst P (sym c.in-Query.is) (c.work_query.ensures.any_moment work put at)
 
 pub returns-in_ok-keep_text-in-Chunk-Plain-clause-worked : goal.returns-in_ok-keep_text-in-Chunk-Plain-clause-worked
 returns-in_ok-keep_text-in-Chunk-Plain-clause-worked g c = λ work put readable at.
@@ -96,14 +97,15 @@ pub returns-in-Unended-clause-any_moment : goal.returns-in-Unended-clause-any_mo
 returns-in-Unended-clause-any_moment g c = λ work put readable at.
     work_still g.O.Disk.moment g.O.Disk.left_since c.args.outside.now c.args.outside.now work put c.args.item (nothing_happens g.O.Disk.moment g.O.Disk.left_since _ (g.O.Outside.shown c.args.outside.now) _ c.args.outside.now work put (λ told image left. let x = g.met.O.Disk.only_now c.args.outside.now told image left in (x.0, x.1 ∙ told_beside g.met.O.Outside.beside_is g.met.O.Outside.shown_is c.args.outside.now)) at)
 
-pub returns-in_ok-tell-in-Query-clause-worked : goal.returns-in_ok-tell-in-Query-clause-worked
-returns-in_ok-tell-in-Query-clause-worked g c = λ work put readable at.
-    let P : SessionItem → Type 0 = λ i. Worked (Ok c.staying-in-Query.result) (g.O.Disk.may_leave c.tell.new.outside) (g.O.Outside.shown c.tell.new.outside) c.tell.new.self (was_of c.args.self.now) work put i in
-    subst P (sym c.in-Query.is) (worked_query (g.O.Disk.may_leave c.tell.new.outside) (g.O.Outside.shown c.tell.new.outside) _ (was_of c.args.self.now) work put c.in-Query.query _ c.staying-in-Query.result c.staying-in-Query.ensures (c.in_ok-tell-in-Query.ensures.replied work put at))
+pub returns-in_ok-work_query-in-Query-clause-worked : goal.returns-in_ok-work_query-in-Query-clause-worked
+returns-in_ok-work_query-in-Query-clause-worked g c = λ work put readable at.
+    let P : SessionItem → Type 0 = λ i. Worked (Ok c.staying-in-Query.result) (g.O.Disk.may_leave c.work_query.new.outside) (g.O.Outside.shown c.work_query.new.outside) c.work_query.new.self (was_of c.args.self.now) work put i in
+    subst P (sym c.in-Query.is) (worked_query (g.O.Disk.may_leave c.work_query.new.outside) (g.O.Outside.shown c.work_query.new.outside) _ (was_of c.args.self.now) work put c.in-Query.query _ c.staying-in-Query.result c.staying-in-Query.ensures (c.in_ok-work_query-in-Query.ensures.replied work put at))
 
-pub returns-in_ok-tell-in-Query-clause-any_moment : goal.returns-in_ok-tell-in-Query-clause-any_moment
-returns-in_ok-tell-in-Query-clause-any_moment g c = λ work put readable at.
-    work_still g.O.Disk.moment g.O.Disk.left_since c.args.outside.now c.tell.new.outside work put c.args.item (c.tell.ensures.any_moment work put at)
+pub returns-in_ok-work_query-in-Query-clause-any_moment : goal.returns-in_ok-work_query-in-Query-clause-any_moment
+returns-in_ok-work_query-in-Query-clause-any_moment g c = λ work put readable at.
+    let P : SessionItem → Type 0 = λ i. LeavesOnly g.O.Disk.moment g.O.Disk.left_since c.args.outside.now c.work_query.new.outside (WorkLeaves work put i) in
+    subst P (sym c.in-Query.is) (c.work_query.ensures.any_moment work put at)
 
 pub returns-in_ok-keep_text-in-Chunk-Plain-clause-last_run : goal.returns-in_ok-keep_text-in-Chunk-Plain-clause-last_run
 returns-in_ok-keep_text-in-Chunk-Plain-clause-last_run g c =
@@ -140,10 +142,10 @@ returns-in-Chunk-TooLong-clause-last_run g c = inl refl
 pub returns-in-Unended-clause-last_run : goal.returns-in-Unended-clause-last_run
 returns-in-Unended-clause-last_run g c = inl refl
 
-pub returns-in_ok-tell-in-Query-clause-last_run : goal.returns-in_ok-tell-in-Query-clause-last_run
-returns-in_ok-tell-in-Query-clause-last_run g c = inl c.tell.ensures.last_run
+pub returns-in_ok-work_query-in-Query-clause-last_run : goal.returns-in_ok-work_query-in-Query-clause-last_run
+returns-in_ok-work_query-in-Query-clause-last_run g c = inl c.work_query.ensures.last_run
 
-pub returns-in_err-tell-in-Query-clause-last_run : goal.returns-in_err-tell-in-Query-clause-last_run
-returns-in_err-tell-in-Query-clause-last_run g c =
-    let p = err_from_is_err_and c.from_residual-in_err-tell-in-Query.result c.from_residual-in_err-tell-in-Query.ensures.1 in
-    rw p.1 c.tell.ensures.last_run
+pub returns-in_err-work_query-in-Query-clause-last_run : goal.returns-in_err-work_query-in-Query-clause-last_run
+returns-in_err-work_query-in-Query-clause-last_run g c =
+    let p = err_from_is_err_and c.from_residual-in_err-work_query-in-Query.result c.from_residual-in_err-work_query-in-Query.ensures.1 in
+    rw p.1 c.work_query.ensures.last_run

@@ -1,0 +1,13 @@
+mod Continuing
+mod Counting
+mod Emptying
+mod Grouping
+mod Naming
+mod Noting
+mod OneMore
+mod Same
+mod Showing
+mod Staying
+mod Stepping
+mod Tying
+mod Versions

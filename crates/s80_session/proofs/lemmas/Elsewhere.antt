@@ -1,0 +1,36 @@
+-- What a crash leaves of the files that an item doesn't change.
+use Rattle.std.proofs.Common.{◌≤◌, ℕ, refl}
+use Rattle.s80_disk.specs.declared.disk.FileId.{FileId}
+use Rattle.s80_disk.specs.Image.{Image}
+use Rattle.s80_disk.specs.Moments.{LeavesOnly}
+use Rattle.s80_disk.proofs.lemmas.Run.{joined, weaker}
+use Rattle.s80_log.specs.Commit.{LeavesBeside}
+use Rattle.s80_session.specs.Files.{IsAsLeft, IsElsewhere}
+use Rattle.s80_session.specs.Putting.{IsAsBefore}
+
+-- an image of before
+as_it_was : (before : Image → Type 0) (log : FileId) (told : ℕ) (c : Image) → before c → IsElsewhere before log told c
+as_it_was before log told c was = record { image = c; was = was; others = λ other no_mark no_log. refl }
+
+module _ {D : Type 0} (moment : D → ℕ) (left_since : D → ℕ → ℕ → Image → Type 0) where
+  -- calls that leave what might be left before
+  pub elsewhere_as_left : (old new : D) (before : Image → Type 0) (log : FileId) → LeavesOnly moment left_since old new (IsAsLeft before) → LeavesOnly moment left_since old new (IsElsewhere before log)
+  elsewhere_as_left old new before log run = weaker moment left_since old new (IsAsLeft before) (IsElsewhere before log) run (as_it_was before log)
+
+  -- calls that put nothing, or only to the output
+  pub left_as_before : (old new : D) (before : Image → Type 0) (told more : ℕ) → LeavesOnly moment left_since old new (IsAsBefore before told more) → LeavesOnly moment left_since old new (IsAsLeft before)
+  left_as_before old new before told more run = weaker moment left_since old new (IsAsBefore before told more) (IsAsLeft before) run (λ n c h. h.was)
+
+  -- a change was to be kept
+  pub elsewhere_beside : (old new : D) (before : Image → Type 0) (told : ℕ) (log : FileId) (P : Image → Type 0) → LeavesOnly moment left_since old new (LeavesBeside before told log P) → LeavesOnly moment left_since old new (IsElsewhere before log)
+  elsewhere_beside old new before told log P run = weaker moment left_since old new (LeavesBeside before told log P) (IsElsewhere before log) run (λ n c h. record { image = h.image; was = h.was; others = h.others })
+
+  -- an answer more, before which a crash leaves this
+  pub elsewhere_on : (old mid new : D) (before now : Image → Type 0) (told : ℕ) (log : FileId) → ((t : ℕ) (c : Image) → t ≤ moment mid → now c → left_since mid t told c) → LeavesOnly moment left_since old mid (IsElsewhere before log) → LeavesOnly moment left_since mid new (IsAsLeft now) → LeavesOnly moment left_since old new (IsElsewhere before log)
+  elsewhere_on old mid new before now told log counts first second =
+      joined moment left_since old mid new (IsElsewhere before log) (IsAsLeft now) first second (λ n c left.
+      let h = first.each told c (counts (moment old) c first.later left) in
+      record { image = h.image; was = h.was; others = h.others })
+
+  pub left_on : (old mid new : D) (before now : Image → Type 0) → ((c : Image) → now c → before c) → LeavesOnly moment left_since old mid (IsAsLeft before) → LeavesOnly moment left_since mid new (IsAsLeft now) → LeavesOnly moment left_since old new (IsAsLeft before)
+  left_on old mid new before now less first second = joined moment left_since old mid new (IsAsLeft before) (IsAsLeft now) first second (λ n c left. less c left)

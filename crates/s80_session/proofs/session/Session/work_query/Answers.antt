@@ -1,0 +1,109 @@
+use Rattle.std.proofs.Common.{ap, refl, sym, subst, ◌∙◌}
+use Rattle.s80_change.specs.declared.change.Change.TheVariants.{DoIt}
+use Rattle.s80_disk.specs.Moments.{LeavesOnly}
+use Rattle.s80_disk.proofs.lemmas.Showing.{told_beside}
+use Rattle.s80_log.specs.Log.{log_file}
+use Rattle.s80_model.specs.Asked.{snapshot_note}
+use Rattle.s80_model.specs.declared.item.Query.{Query as SessionQuery}
+use Rattle.s80_model.specs.declared.item.Query.TheVariants.{Recover, Classes, Browse, Snapshot}
+use Rattle.s80_model.specs.declared.item.SessionItem.TheVariants.{Query}
+use Rattle.s80_apply.specs.List.{state_of}
+use Rattle.s80_apply.specs.System.{SystemState, IsSystemOf}
+use Rattle.s80_session.specs.Session.{keeper_of, last_run_of, was_of}
+use Rattle.s80_session.specs.Working.{Replied, WorkLeaves}
+use Rattle.s80_session.proofs.lemmas.Elsewhere.{elsewhere_as_left}
+use Rattle.s80_session.proofs.lemmas.Lasting.{nothing_happens, work_still}
+use Rattle.s80_session.proofs.Stepping.{change_lasts, replied_note, replied_told}
+use Rattle.s80_session.proofs.session.Session.work_query.Goals as goal
+
+pub returns-in_err-tell_recovered-in-Recover-clause-any_moment : goal.returns-in_err-tell_recovered-in-Recover-clause-any_moment
+returns-in_err-tell_recovered-in-Recover-clause-any_moment g c = λ work put at.
+    work_still g.O.Disk.moment g.O.Disk.left_since c.args.outside.now c.args.outside.now work put (Query c.args.query) (nothing_happens g.O.Disk.moment g.O.Disk.left_since _ (g.O.Outside.shown c.args.outside.now) _ c.args.outside.now work put (λ told image left. let x = g.met.O.Disk.only_now c.args.outside.now told image left in (x.0, x.1 ∙ told_beside g.met.O.Outside.beside_is g.met.O.Outside.shown_is c.args.outside.now)) at)
+
+pub returns-in_err-tell_classes-in-Classes-clause-any_moment : goal.returns-in_err-tell_classes-in-Classes-clause-any_moment
+returns-in_err-tell_classes-in-Classes-clause-any_moment g c = λ work put at.
+    work_still g.O.Disk.moment g.O.Disk.left_since c.args.outside.now c.args.outside.now work put (Query c.args.query) (nothing_happens g.O.Disk.moment g.O.Disk.left_since _ (g.O.Outside.shown c.args.outside.now) _ c.args.outside.now work put (λ told image left. let x = g.met.O.Disk.only_now c.args.outside.now told image left in (x.0, x.1 ∙ told_beside g.met.O.Outside.beside_is g.met.O.Outside.shown_is c.args.outside.now)) at)
+
+pub returns-in_err-tell_browsed-in-Browse-clause-any_moment : goal.returns-in_err-tell_browsed-in-Browse-clause-any_moment
+returns-in_err-tell_browsed-in-Browse-clause-any_moment g c = λ work put at.
+    work_still g.O.Disk.moment g.O.Disk.left_since c.args.outside.now c.args.outside.now work put (Query c.args.query) (nothing_happens g.O.Disk.moment g.O.Disk.left_since _ (g.O.Outside.shown c.args.outside.now) _ c.args.outside.now work put (λ told image left. let x = g.met.O.Disk.only_now c.args.outside.now told image left in (x.0, x.1 ∙ told_beside g.met.O.Outside.beside_is g.met.O.Outside.shown_is c.args.outside.now)) at)
+
+pub returns-in_ok-tell_recovered-in-Recover-clause-replied : goal.returns-in_ok-tell_recovered-in-Recover-clause-replied
+returns-in_ok-tell_recovered-in-Recover-clause-replied g c = λ work put at.
+    let P : SystemState → Type 0 = λ s. IsSystemOf s (state_of work.changes) in
+    let system = subst P (sym c.system-system.ensures) at.keeps.system in
+    replied_told (g.O.Disk.may_leave c.args.outside.now) (g.O.Outside.shown c.args.outside.now) _ (was_of c.args.self.now) work put c.args.query Recover _ refl c.in-Recover.is tt (c.in_ok-tell_recovered-in-Recover.ensures work.changes system (c.count.ensures ∙ at.keeps.count)) at
+
+pub returns-in_ok-tell_recovered-in-Recover-clause-any_moment : goal.returns-in_ok-tell_recovered-in-Recover-clause-any_moment
+returns-in_ok-tell_recovered-in-Recover-clause-any_moment g c = λ work put at.
+    work_still g.O.Disk.moment g.O.Disk.left_since c.args.outside.now c.args.outside.now work put (Query c.args.query) (nothing_happens g.O.Disk.moment g.O.Disk.left_since _ (g.O.Outside.shown c.args.outside.now) _ c.args.outside.now work put (λ told image left. let x = g.met.O.Disk.only_now c.args.outside.now told image left in (x.0, x.1 ∙ told_beside g.met.O.Outside.beside_is g.met.O.Outside.shown_is c.args.outside.now)) at)
+
+pub returns-in_ok-tell_classes-in-Classes-clause-replied : goal.returns-in_ok-tell_classes-in-Classes-clause-replied
+returns-in_ok-tell_classes-in-Classes-clause-replied g c = λ work put at.
+    let P : SystemState → Type 0 = λ s. IsSystemOf s (state_of work.changes) in
+    let system = subst P (sym c.system-system.ensures) at.keeps.system in
+    replied_told (g.O.Disk.may_leave c.args.outside.now) (g.O.Outside.shown c.args.outside.now) _ (was_of c.args.self.now) work put c.args.query Classes _ refl c.in-Classes.is tt (c.in_ok-tell_classes-in-Classes.ensures work.changes system) at
+
+pub returns-in_ok-tell_classes-in-Classes-clause-any_moment : goal.returns-in_ok-tell_classes-in-Classes-clause-any_moment
+returns-in_ok-tell_classes-in-Classes-clause-any_moment g c = λ work put at.
+    work_still g.O.Disk.moment g.O.Disk.left_since c.args.outside.now c.args.outside.now work put (Query c.args.query) (nothing_happens g.O.Disk.moment g.O.Disk.left_since _ (g.O.Outside.shown c.args.outside.now) _ c.args.outside.now work put (λ told image left. let x = g.met.O.Disk.only_now c.args.outside.now told image left in (x.0, x.1 ∙ told_beside g.met.O.Outside.beside_is g.met.O.Outside.shown_is c.args.outside.now)) at)
+
+pub returns-in_ok-tell_browsed-in-Browse-clause-replied : goal.returns-in_ok-tell_browsed-in-Browse-clause-replied
+returns-in_ok-tell_browsed-in-Browse-clause-replied g c = λ work put at.
+    let P : SystemState → Type 0 = λ s. IsSystemOf s (state_of work.changes) in
+    let system = subst P (sym c.system-system.ensures) at.keeps.system in
+    replied_told (g.O.Disk.may_leave c.args.outside.now) (g.O.Outside.shown c.args.outside.now) _ (was_of c.args.self.now) work put c.args.query (Browse c.in-Browse.name) _ refl c.in-Browse.is tt (c.in_ok-tell_browsed-in-Browse.ensures work.changes system) at
+
+pub returns-in_ok-tell_browsed-in-Browse-clause-any_moment : goal.returns-in_ok-tell_browsed-in-Browse-clause-any_moment
+returns-in_ok-tell_browsed-in-Browse-clause-any_moment g c = λ work put at.
+    work_still g.O.Disk.moment g.O.Disk.left_since c.args.outside.now c.args.outside.now work put (Query c.args.query) (nothing_happens g.O.Disk.moment g.O.Disk.left_since _ (g.O.Outside.shown c.args.outside.now) _ c.args.outside.now work put (λ told image left. let x = g.met.O.Disk.only_now c.args.outside.now told image left in (x.0, x.1 ∙ told_beside g.met.O.Outside.beside_is g.met.O.Outside.shown_is c.args.outside.now)) at)
+
+pub returns-in-Source-clause-replied : goal.returns-in-Source-clause-replied
+returns-in-Source-clause-replied g c = λ work put at.
+    let P : SessionQuery → Type 0 = λ q. Replied c.tell_source.result (g.O.Disk.may_leave c.tell_source.new.outside) (g.O.Outside.shown c.tell_source.new.outside) c.tell_source.new.self (was_of c.args.self.now) work put (Query q) in
+    subst P (sym c.in-Source.is) (c.tell_source.ensures.replied work put at)
+
+pub returns-in-Versions-clause-replied : goal.returns-in-Versions-clause-replied
+returns-in-Versions-clause-replied g c = λ work put at.
+    let P : SessionQuery → Type 0 = λ q. Replied c.tell_versions.result (g.O.Disk.may_leave c.tell_versions.new.outside) (g.O.Outside.shown c.tell_versions.new.outside) c.tell_versions.new.self (was_of c.args.self.now) work put (Query q) in
+    subst P (sym c.in-Versions.is) (c.tell_versions.ensures.replied work put at)
+
+pub returns-in-Changes-clause-replied : goal.returns-in-Changes-clause-replied
+returns-in-Changes-clause-replied g c = λ work put at.
+    let P : SessionQuery → Type 0 = λ q. Replied c.tell_changes.result (g.O.Disk.may_leave c.tell_changes.new.outside) (g.O.Outside.shown c.tell_changes.new.outside) c.tell_changes.new.self (was_of c.args.self.now) work put (Query q) in
+    subst P (sym c.in-Changes.is) (c.tell_changes.ensures.replied work put at)
+
+-- the note of a snapshot
+pub returns-in-Snapshot-clause-replied : goal.returns-in-Snapshot-clause-replied
+returns-in-Snapshot-clause-replied g c = λ work put at.
+    let P : SessionQuery → Type 0 = λ q. Replied c.keep_note.result (g.O.Disk.may_leave c.keep_note.new.outside) (g.O.Outside.shown c.keep_note.new.outside) c.keep_note.new.self (was_of c.args.self.now) work put (Query q) in
+    subst P (sym c.in-Snapshot.is) (replied_note c.keep_note.result (g.O.Disk.may_leave c.keep_note.new.outside) (g.O.Outside.shown c.keep_note.new.outside) c.keep_note.new.self (was_of c.args.self.now) work put (Query Snapshot) (ap last_run_of c.keep_note.ensures.rest) refl (c.keep_note.ensures.noted work put at))
+
+pub returns-in-Snapshot-clause-any_moment : goal.returns-in-Snapshot-clause-any_moment
+returns-in-Snapshot-clause-any_moment g c = λ work put at.
+    let P : SessionQuery → Type 0 = λ q. LeavesOnly g.O.Disk.moment g.O.Disk.left_since c.args.outside.now c.keep_note.new.outside (WorkLeaves work put (Query q)) in
+    subst P (sym c.in-Snapshot.is) (change_lasts g.O.Disk.moment g.O.Disk.left_since c.args.outside.now c.keep_note.new.outside work put (Query Snapshot) (DoIt snapshot_note) refl (c.keep_note.ensures.any_moment work put at))
+
+pub returns-in-Source-clause-any_moment : goal.returns-in-Source-clause-any_moment
+returns-in-Source-clause-any_moment g c = λ work put at. work_still g.O.Disk.moment g.O.Disk.left_since c.args.outside.now c.tell_source.new.outside work put (Query c.args.query) (c.tell_source.ensures.any_moment work put at)
+
+pub returns-in-Source-clause-elsewhere : goal.returns-in-Source-clause-elsewhere
+returns-in-Source-clause-elsewhere g c =
+    let o = c.args.outside.now in
+    elsewhere_as_left g.O.Disk.moment g.O.Disk.left_since o c.tell_source.new.outside (g.O.Disk.may_leave o) (log_file (keeper_of c.args.self.now).log.number) c.tell_source.ensures.no_more
+
+pub returns-in-Versions-clause-any_moment : goal.returns-in-Versions-clause-any_moment
+returns-in-Versions-clause-any_moment g c = λ work put at. work_still g.O.Disk.moment g.O.Disk.left_since c.args.outside.now c.tell_versions.new.outside work put (Query c.args.query) (c.tell_versions.ensures.any_moment work put at)
+
+pub returns-in-Versions-clause-elsewhere : goal.returns-in-Versions-clause-elsewhere
+returns-in-Versions-clause-elsewhere g c =
+    let o = c.args.outside.now in
+    elsewhere_as_left g.O.Disk.moment g.O.Disk.left_since o c.tell_versions.new.outside (g.O.Disk.may_leave o) (log_file (keeper_of c.args.self.now).log.number) c.tell_versions.ensures.no_more
+
+pub returns-in-Changes-clause-any_moment : goal.returns-in-Changes-clause-any_moment
+returns-in-Changes-clause-any_moment g c = λ work put at. work_still g.O.Disk.moment g.O.Disk.left_since c.args.outside.now c.tell_changes.new.outside work put (Query c.args.query) (c.tell_changes.ensures.any_moment work put at)
+
+pub returns-in-Changes-clause-elsewhere : goal.returns-in-Changes-clause-elsewhere
+returns-in-Changes-clause-elsewhere g c =
+    let o = c.args.outside.now in
+    elsewhere_as_left g.O.Disk.moment g.O.Disk.left_since o c.tell_changes.new.outside (g.O.Disk.may_leave o) (log_file (keeper_of c.args.self.now).log.number) c.tell_changes.ensures.no_more
