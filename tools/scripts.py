@@ -305,6 +305,13 @@ def query(chance):
     return Command((word, name + chance.choice([b"", b"", b" class"]), chance.choice(SELECTORS * 2 + [b"isNil", b"new"])))
 
 
+def file_in(chance):
+    """A long file-in of several groups: a class, and many of its methods below a long category, each of which has it in its block."""
+    name, category = chance.choice(NAMES), b"c" * chance.randint(300, 900)
+    methods = b"".join(b"m%d ^%d!\n" % (number, number) for number in range(chance.randint(150, 300)))
+    return Command(("run",), simple_definition(chance, name) + b"!\n!%s methodsFor: %s!\n%s !\n3 + 4!\n" % (name, quote(category), methods))
+
+
 def command(chance, size):
     """Any of the nine; a run of at most so many pieces."""
     kind = chance.randrange(9)

@@ -109,9 +109,9 @@ class Course:
         return self.works[first]
 
     def may_follow(self, out):
-        """The lists for which a folder may stand where the run broke off behind these bytes: none is lost, and one may be begun."""
+        """The lists for which a folder may stand where the run broke off behind these bytes: none is lost, and a group may be kept."""
         least = self.answered(out)
-        return {work.count: work for work in self.works if least.count <= work.count <= least.count + 1}
+        return {work.count: work for work in self.works if least.count <= work.count}
 
 
 def kind_of(reply):

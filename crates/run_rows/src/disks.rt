@@ -79,6 +79,20 @@ pub(crate) fn planned(
     Ok(disk)
 }
 
+/// An input, and how many bytes of it are given at once.
+#[derive(Drop)]
+pub(crate) struct Input {
+    pub text: Text,
+    pub piece: usize,
+}
+
+impl Input {
+    /// The source that gives it. No take of it fails.
+    pub(crate) fn source(&self, alloc: Global) -> Result<MemSource> {
+        Ok(MemSource::make(alloc, self.text.bytes(), self.piece.max(1), &[])?)
+    }
+}
+
 /// What a run left: how it ended, its disk, and what it wrote.
 #[derive(Drop)]
 pub(crate) struct Ran {

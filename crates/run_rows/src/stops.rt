@@ -1,5 +1,5 @@
 // Which lists the files stand for while a run is in one of its calls on the disk, whatever a crash leaves.
-use crate::disks::{contents, found};
+use crate::disks::{Input, contents, found};
 use crate::sweeps::{CHOICES, stopped};
 use anyhow::{Result, bail};
 use s80_base::Text;
@@ -84,7 +84,7 @@ fn lists_before(
     disk: &MemDisk,
     room: usize,
     call: u64,
-    input: &Text,
+    input: &Input,
 ) -> Result<Lists> {
     let ran = stopped(alloc, disk, room, call, input)?;
     lists_left(alloc, &ran.disk, room)
@@ -108,7 +108,7 @@ pub(crate) fn stops(
     disk: &MemDisk,
     room: usize,
     calls: (u64, u64),
-    input: &Text,
+    input: &Input,
 ) -> Result<Text> {
     let (first, last) = calls;
     let mut out = Text::empty(alloc);

@@ -1,5 +1,5 @@
 // Runs that are stopped at each of their calls on the disk, and what is found after crashes.
-use crate::disks::{Ran, contents, empty, planned, run, words};
+use crate::disks::{Input, Ran, contents, empty, planned, run, words};
 use anyhow::{Context, Result, bail, ensure};
 use s80_base::{MemSource, Text};
 use s80_disk::{FaultPlan, FileId, MemDisk};
@@ -29,7 +29,7 @@ pub(crate) fn stopped(
     disk: &MemDisk,
     room: usize,
     call: u64,
-    input: &Text,
+    input: &Input,
 ) -> Result<Ran> {
     run_planned(alloc, disk, room, FaultPlan::From(call), input)
 }
@@ -40,12 +40,11 @@ fn run_planned(
     disk: &MemDisk,
     room: usize,
     plan: FaultPlan,
-    input: &Text,
+    input: &Input,
 ) -> Result<Ran> {
     let disk = planned(alloc, disk, room, plan)?;
-    let source = MemSource::make(alloc, input.bytes(), 4096, &[])?;
     let asked = words(alloc, "st80|F|run")?;
-    run(alloc, disk, source, &[], &asked)
+    run(alloc, disk, input.source(alloc)?, &[], &asked)
 }
 
 /// How many changes were answered, each by a line.
@@ -59,14 +58,15 @@ fn answered(written: &Text) -> u64 {
     lines
 }
 
-/// How many crashes of a run lose no change that was answered, and find at most one more, where there were so many before.
-fn crashes(alloc: Global, ran: &Ran, before: u64) -> Result<u64> {
+/// How many crashes of a run lose no change that was answered, and find no more, or the next group of so many, where there were so many
+/// before.
+fn crashes(alloc: Global, ran: &Ran, before: u64, group: u64) -> Result<u64> {
     let least = before.saturating_add(answered(&ran.written));
     let mut tried = 0u64;
     for choice in CHOICES {
         let found = count(alloc, &ran.disk, choice)?;
         ensure!(
-            least <= found && found <= least.saturating_add(1),
+            found == least || found == least.saturating_add(group),
             "{least} changes were answered, and choice {choice} finds {found}"
         );
         tried = tried.saturating_add(1);
@@ -74,21 +74,22 @@ fn crashes(alloc: Global, ran: &Ran, before: u64) -> Result<u64> {
     Ok(tried)
 }
 
-/// Runs an input over a folder, stopped at each call up to the last, and tries crashes behind each. Answers how many, and whether the
-/// run that is stopped at the last call came to its end.
+/// Runs an input in groups of so many changes over a folder, stopped at each call up to the last, and tries crashes behind each. Answers how
+/// many, and whether the run that is stopped at the last call came to its end.
 pub(crate) fn sweep(
     alloc: Global,
     disk: &MemDisk,
     room: usize,
     last: u64,
-    input: &Text,
+    group: u64,
+    input: &Input,
 ) -> Result<(u64, Status)> {
     let before = count(alloc, disk, 1)?;
     let mut tried = 0u64;
     let mut status = Status::DiskFault;
     for call in 1..=last {
         let ran = stopped(alloc, disk, room, call, input)?;
-        tried = tried.saturating_add(crashes(alloc, &ran, before)?);
+        tried = tried.saturating_add(crashes(alloc, &ran, before, group)?);
         status = ran.status;
     }
     Ok((tried, status))
@@ -101,14 +102,15 @@ pub(crate) fn sweep_again(
     room: usize,
     call: u64,
     last: u64,
-    input: &Text,
+    group: u64,
+    input: &Input,
 ) -> Result<(u64, Status)> {
     let first = stopped(alloc, disk, room, call, input)?;
     let mut tried = 0u64;
     let mut status = Status::DiskFault;
     for choice in CHOICES {
         let left = first.disk.crash(alloc, choice)?;
-        let (more, ended) = sweep(alloc, &left, room, last, input)?;
+        let (more, ended) = sweep(alloc, &left, room, last, group, input)?;
         tried = tried.saturating_add(more);
         status = ended;
     }
@@ -123,7 +125,7 @@ pub(crate) fn faults(
     room: usize,
     first: u64,
     last: u64,
-    input: &Text,
+    input: &Input,
 ) -> Result<(Text, Status)> {
     let alone = run_planned(alloc, disk, room, FaultPlan::One(first), input)?;
     for call in first..=last {
@@ -140,10 +142,10 @@ pub(crate) fn faults(
 
 /// How many changes are found on the disk that a run in a new folder left, whose one call failed, as it was killed: at a start, and then
 /// after each crash.
-pub(crate) fn killed(alloc: Global, room: usize, call: u64, input: &Text) -> Result<Text> {
+pub(crate) fn killed(alloc: Global, room: usize, call: u64, input: &Input) -> Result<Text> {
     let disk = empty(alloc, room, FaultPlan::One(call))?;
-    let source = MemSource::make(alloc, input.bytes(), 4096, &[])?;
-    let mut ran = run(alloc, disk, source, &[], &words(alloc, "st80|F|run")?)?;
+    let asked = words(alloc, "st80|F|run")?;
+    let mut ran = run(alloc, disk, input.source(alloc)?, &[], &asked)?;
     ensure!(ran.status == Status::DiskFault, "no call of the disk fails");
     let Ok(keeper) = Keeper::start(alloc, &mut ran.disk) else {
         bail!("no keeper starts");

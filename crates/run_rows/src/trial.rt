@@ -1,7 +1,7 @@
 // A folder in memory on which rows work one after the other.
-ghost use Rattle.s80_session.specs.Session.{IsFaultless};
+ghost use Rattle.s80_session.specs.Session.{IsResting};
 
-use crate::disks::{Ran, contents, empty, file_named, found, long, planned, run, words};
+use crate::disks::{Input, Ran, contents, empty, file_named, found, long, planned, run, words};
 use crate::stops::stops;
 use crate::sweeps::{crashes_of, faults, killed, sweep, sweep_again};
 use crate::{keepers, system};
@@ -186,7 +186,7 @@ impl Trial {
             "faults" => self.faults(alloc, rest),
             "killed" => {
                 let (call, spelled) = number(rest)?;
-                killed(alloc, self.room, call, &bytes::read(alloc, spelled)?)
+                killed(alloc, self.room, call, &self.input(alloc, spelled)?)
             }
             "long" => long(alloc, rest),
             "system" => system::row(alloc, rest),
@@ -196,6 +196,14 @@ impl Trial {
                 None => bail!("no row: {word}"),
             },
         }
+    }
+
+    /// An input, given in pieces of the size that the rows set.
+    fn input(&self, alloc: Global, spelled: &str) -> Result<Input> {
+        Ok(Input {
+            text: bytes::read(alloc, spelled)?,
+            piece: self.piece,
+        })
     }
 
     /// Takes over what a run left, and shows it. What was to fail failed in this run.
@@ -381,7 +389,7 @@ impl Trial {
     fn faults(&self, alloc: Global, rest: &str) -> Result<Text> {
         let (first, rest) = number(rest)?;
         let (last, spelled) = number(rest)?;
-        let input = bytes::read(alloc, spelled)?;
+        let input = self.input(alloc, spelled)?;
         let (written, status) = faults(alloc, &self.disk, self.room, first, last, &input)?;
         let mut out = Text::empty(alloc);
         add_lines(alloc, &mut out, written.bytes())?;
@@ -389,28 +397,30 @@ impl Trial {
         Ok(out)
     }
 
-    /// Runs an input, stopped at each call up to the last, and tries crashes behind each.
+    /// Runs an input in groups of so many changes, stopped at each call up to the last, and tries crashes behind each.
     fn sweep(&self, alloc: Global, rest: &str) -> Result<Text> {
-        let (last, input) = number(rest)?;
-        let input = bytes::read(alloc, input)?;
-        let swept = sweep(alloc, &self.disk, self.room, last, &input)?;
+        let (last, rest) = number(rest)?;
+        let (group, spelled) = number(rest)?;
+        let input = self.input(alloc, spelled)?;
+        let swept = sweep(alloc, &self.disk, self.room, last, group, &input)?;
         Ok(Text::from_bytes(alloc, line_of(alloc, swept)?.as_bytes())?)
     }
 
     /// Which lists the files stand for while an input is worked: in each call on the disk from the first to the last, and behind that.
     fn stops(&self, alloc: Global, rest: &str) -> Result<Text> {
         let (first, rest) = number(rest)?;
-        let (last, input) = number(rest)?;
-        let input = bytes::read(alloc, input)?;
+        let (last, spelled) = number(rest)?;
+        let input = self.input(alloc, spelled)?;
         stops(alloc, &self.disk, self.room, (first, last), &input)
     }
 
     /// The same over each folder that a crash may leave of a run that is stopped at this call.
     fn resweep(&self, alloc: Global, rest: &str) -> Result<Text> {
         let (call, rest) = number(rest)?;
-        let (last, input) = number(rest)?;
-        let input = bytes::read(alloc, input)?;
-        let swept = sweep_again(alloc, &self.disk, self.room, call, last, &input)?;
+        let (last, rest) = number(rest)?;
+        let (group, spelled) = number(rest)?;
+        let input = self.input(alloc, spelled)?;
+        let swept = sweep_again(alloc, &self.disk, self.room, call, last, group, &input)?;
         Ok(Text::from_bytes(alloc, line_of(alloc, swept)?.as_bytes())?)
     }
 }
@@ -430,7 +440,7 @@ fn begin(alloc: Global, outside: &mut MemOutside<MemSource>, budget: u64) -> Res
 }
 
 fn work(alloc: Global, session: &mut Session, outside: &mut MemOutside<MemSource>) -> Result<String>
-    requires { IsFaultless session.old }
+    requires { IsResting session.old }
 {
     session.run_items(alloc, outside)?;
     run_of(alloc, session)

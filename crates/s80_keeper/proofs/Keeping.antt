@@ -1,26 +1,33 @@
--- One commit: what the log says of it, by the mark, as the keeper says it.
-use Rattle.std.proofs.Common.{◌≡◌, ◌⊎◌, inl, inr, ⊎_elim, ℕ, Bool, List, [], ◌∷◌, ◌++◌, length, take, Ok, sym, ap, ◌∙◌, subst, arith, append-nil, length-append}
+-- Changes kept later, and their commit: what the log says of them, by the mark, as the keeper says it.
+use Rattle.std.proofs.Common.{◌≡◌, ◌≢◌, ◌⊎◌, inl, inr, ⊎_elim, ℕ, ◌+◌, Bool, List, [], ◌∷◌, ◌++◌, length, take, refl, sym, ap, ◌∙◌, subst, arith, append_assoc, append-nil, length-append}
+use Rattle.std.specs.Prelude.{⊤}
+use Rattle.std.proofs.lemmas.Grind.{flat_map-append}
+use Rattle.std.proofs.lemmas.List.{nil_from_length}
 use Rattle.std.proofs.lemmas.List.Elements.{All-push}
 use Rattle.std.specs.List.{All}
 use Rattle.s80_change.specs.declared.change.Change.{Change}
 use Rattle.s80_disk.specs.declared.disk.FileId.{FileId}
+use Rattle.s80_disk.specs.declared.disk.FileId.TheVariants.{Mark}
 use Rattle.s80_disk.specs.Image.{Image}
+use Rattle.s80_disk.specs.Moments.{ComesFrom}
 use Rattle.s80_mark.specs.declared.mark.MarkState.{MarkState}
 use Rattle.s80_change.specs.Block.{block, blocks, IsLawful}
 use Rattle.s80_apply.specs.declared.step.Step.{Step}
 use Rattle.s80_apply.specs.Accept.{accept}
 use Rattle.s80_apply.specs.Placed.{accept_placed, placed_of}
+use Rattle.s80_apply.specs.State.{State, kernel_state}
 use Rattle.s80_apply.specs.System.{SystemState, HasPlaces, IsSystemOf, IsInstalled}
-use Rattle.s80_apply.specs.List.{IsBuilt, state_of}
+use Rattle.s80_apply.specs.List.{AreAccepted, IsBuilt, state_after, state_of}
 use Rattle.s80_apply.proofs.lemmas.Lists.{built_more, places_are_more, state_is_more, is_accepted, is_after}
 use Rattle.s80_history.specs.History.{HistoryState, IsHistoryOf}
 use Rattle.s80_log.specs.Log.{LogEnd, log_file}
-use Rattle.s80_log.specs.Standing.{StandsFor as StandsByMark}
-use Rattle.s80_log.specs.Commit.{Holds, LeavesBeside, StandForEither, next_mark}
-use Rattle.s80_keeper.specs.Standing.{NamesNoImage, FilesStandFor, LeavesEither}
-use Rattle.s80_keeper.specs.Keeper.{KeeperState, Keeps}
-use Rattle.s80_keeper.specs.Answers.{PreparedChange, IsFor, PlacesFor, AfterKeeping, longer, one_more}
-use Rattle.s80_keeper.proofs.Counting.{counts_more}
+use Rattle.s80_log.specs.Standing.{FilesStandFor as StandByMark, ReadsFor as ReadsByMark, StandsFor as StandsByMark}
+use Rattle.s80_log.specs.Commit.{Holds, LeavesBeside, ReadForEither, StandForEither}
+use Rattle.s80_keeper.specs.Standing.{NamesNoImage, FilesStandFor, LeavesEither, LeavesFor, ReadsFor, StandsFor}
+use Rattle.s80_keeper.specs.Keeper.{KeeperState, Keeps, pending_of}
+use Rattle.s80_keeper.specs.Answers.{PreparedChange, IsFor, PlacesFor, HasTakenIn, longer, one_more}
+use Rattle.s80_keeper.proofs.Counting.{counts_more, no_more}
+use Rattle.s80_keeper.proofs.lemmas.Standing.{stands_leaves}
 
 -- a disk that stands for a list by a mark that takes the log to its end holds no more
 pub holds_all : (tells : Bool) (reads : Image) (may_leave : Image → Type 0) (log : LogEnd) (mark : MarkState) (changes : List Change) → StandsByMark tells reads may_leave mark changes → mark.log ≡ log.number → mark.log_length ≡ log.end → Holds tells reads may_leave log mark changes changes
@@ -33,21 +40,44 @@ holds_all tells reads may_leave log mark changes stands named ends = record {
   bytes = ap (λ n. take n (reads (log_file log.number))) (sym ends) ∙ ap (λ n. take mark.log_length (reads (log_file n))) (sym named) ∙ stands.files.bytes;
 }
 
--- where all is kept, the mark takes the log to its end
-pub ends_with : {tells : Bool} {reads : Image} {may_leave : Image → Type 0} {log : LogEnd} {mark : MarkState} (changes : List Change) → Holds tells reads may_leave log mark changes changes → mark.log_length ≡ log.end
-ends_with changes holds = holds.stands.files.whole ∙ sym holds.whole
-
 -- a list has all of itself
 pub all_kept : (changes : List Change) → (pending : List Change) × (changes ≡ changes ++ pending)
 all_kept changes = ([], sym (append-nil changes))
 
--- neither of two marks names an image
-pub either_list : (mark next : MarkState) (changes all : List Change) (c : Image) → NamesNoImage mark → NamesNoImage next → IsBuilt changes → IsBuilt all → StandForEither mark changes next all c → FilesStandFor c changes ⊎ FilesStandFor c all
-either_list mark next changes all c none also_none built all_built = ⊎_elim (λ h. inl (inr (mark, h, none, built))) (λ h. inr (inr (next, h, also_none, all_built)))
+-- the front of a list that is built is so
+accepted_front : (state : State) (kept pending : List Change) → AreAccepted state (kept ++ pending) → AreAccepted state kept
+accepted_front state [] pending accepted = tt
+accepted_front state (change ∷ kept) pending accepted = (accepted.0, accepted_front (state_after change state) kept pending accepted.1)
 
-pub leaves_either : (before : Image → Type 0) (told_before : ℕ) (file : FileId) (mark next : MarkState) (changes all : List Change) → NamesNoImage mark → NamesNoImage next → IsBuilt changes → IsBuilt all → (told : ℕ) (c : Image) → LeavesBeside before told_before file (StandForEither mark changes next all) told c → LeavesEither told_before changes all told c
-leaves_either before told_before file mark next changes all none also_none built all_built told c leaves =
-    record { told_is = leaves.told_is; files = either_list mark next changes all c none also_none built all_built leaves.here }
+-- a mark that names no image, of a list that is built
+module _ (tells : Bool) (reads : Image) (may_leave : Image → Type 0) (mark : MarkState) (changes : List Change) (none : NamesNoImage mark) (built : IsBuilt changes) where
+  pub stands_by_mark : StandsByMark tells reads may_leave mark changes → StandsFor tells reads may_leave changes
+  stands_by_mark h = record { told = h.told; stands = inr (mark, h, none, built) }
+
+  reads_by_mark : ReadsByMark tells reads may_leave mark changes → ReadsFor tells reads may_leave changes
+  reads_by_mark h = record { told = h.told; stands = inr (mark, h.files, none, built, h.log_stays) }
+
+pub leaves_kept : (before : Image → Type 0) (told_before : ℕ) (file : FileId) (mark : MarkState) (changes : List Change) → NamesNoImage mark → IsBuilt changes → (told : ℕ) (c : Image) → LeavesBeside before told_before file (λ d. StandByMark d mark changes) told c → LeavesFor told_before changes told c
+leaves_kept before told_before file mark changes none built told c leaves = record { told_is = leaves.told_is; files = inr (mark, leaves.here, none, built) }
+
+-- neither of two marks names an image
+module _ (mark next : MarkState) (changes all : List Change) (none : NamesNoImage mark) (also_none : NamesNoImage next) (built : IsBuilt changes) (all_built : IsBuilt all) where
+  pub either_list : (c : Image) → StandForEither mark changes next all c → FilesStandFor c changes ⊎ FilesStandFor c all
+  either_list c = ⊎_elim (λ h. inl (inr (mark, h, none, built))) (λ h. inr (inr (next, h, also_none, all_built)))
+
+  pub leaves_either : (before : Image → Type 0) (told_before : ℕ) (file : FileId) (told : ℕ) (c : Image) → LeavesBeside before told_before file (StandForEither mark changes next all) told c → LeavesEither told_before changes all told c
+  leaves_either before told_before file told c leaves = record { told_is = leaves.told_is; files = either_list c leaves.here }
+
+  pub reads_either : (tells : Bool) (reads : Image) (may_leave : Image → Type 0) → ReadForEither tells reads may_leave mark changes next all → ReadsFor tells reads may_leave changes ⊎ ReadsFor tells reads may_leave all
+  reads_either tells reads may_leave = ⊎_elim (λ h. inl (reads_by_mark tells reads may_leave mark changes none built h)) (λ h. inr (reads_by_mark tells reads may_leave next all also_none all_built h))
+
+-- what comes from an image of before by a change of the mark or of the log
+pub elsewhere : (before : Image → Type 0) (told_before : ℕ) (log file : FileId) (change : List ℕ → List ℕ → Type 0) → ((other : FileId) → other ≢ Mark → other ≢ log → other ≢ file) → (told : ℕ) (c : Image) → ComesFrom before told_before file change told c → LeavesBeside before told_before log (λ d. ⊤) told c
+elsewhere before told_before log file change apart told c from =
+    record { told_is = from.told_is; here = tt; image = from.image; was = from.was; others = λ other no_mark no_log. from.step.others other (apart other no_mark no_log) }
+
+pub still_elsewhere : (before : Image → Type 0) (told_before : ℕ) (log : FileId) (told : ℕ) (c : Image) → before c × (told ≡ told_before) → LeavesBeside before told_before log (λ d. ⊤) told c
+still_elsewhere before told_before log told c left = record { told_is = left.1; here = tt; image = c; was = left.0; others = λ other no_mark no_log. refl }
 
 -- a list with a change that was prepared in the state that it makes
 module _ (changes : List Change) (system : SystemState) (prepared : PreparedChange) (ready : IsFor (state_of changes) system prepared) where
@@ -81,42 +111,76 @@ installed_at inside before step at now same here is =
     let AtPlace : ℕ → Type 0 = λ n. IsInstalled before.system step n now in
     subst AtPlace (here ∙ ap (λ (k : KeeperState). k.log.end) same) (subst InSystem same is)
 
--- what becomes of the keeper's parts, once a block of this size is committed
-pub after_kept : (inside before : KeeperState) (log : LogEnd) (mark : MarkState) (system : SystemState) (history : HistoryState) (count size : ℕ) (change : Change) → inside ≡ before → size ≡ length (block change) → log ≡ longer inside.log size → mark ≡ next_mark inside.mark log count → count ≡ one_more inside.count → record { log = log; mark = mark; system = system; history = history; count = count; fault = inside.fault } ≡ record before {
+-- what becomes of the keeper's parts, once a block of this size is appended and taken in
+pub after_taken : (inside before : KeeperState) (log : LogEnd) (system : SystemState) (history : HistoryState) (count size : ℕ) (change : Change) → inside ≡ before → size ≡ length (block change) → log ≡ longer inside.log size → count ≡ one_more inside.count → record { log = log; mark = inside.mark; system = system; history = history; count = count; fault = inside.fault } ≡ record before {
   log = longer before.log (length (block change));
-  mark = next_mark before.mark (longer before.log (length (block change))) (one_more before.count);
   system = system;
   history = history;
   count = one_more before.count;
 }
-after_kept inside before log mark system history count size change same size_is log_is mark_is count_is =
+after_taken inside before log system history count size change same size_is log_is count_is =
     let log_now : log ≡ longer before.log (length (block change)) = log_is ∙ (λ i. longer (same i).log (size_is i)) in
     let count_now : count ≡ one_more before.count = count_is ∙ ap (λ (k : KeeperState). one_more k.count) same in
-    let mark_now : mark ≡ next_mark before.mark (longer before.log (length (block change))) (one_more before.count) = mark_is ∙ (λ i. next_mark (same i).mark (log_now i) (count_now i)) in
-    λ i. record { log = log_now i; mark = mark_now i; system = system; history = history; count = count_now i; fault = (same i).fault }
+    λ i. record { log = log_now i; mark = (same i).mark; system = system; history = history; count = count_now i; fault = (same i).fault }
 
--- the keeper after one change more is kept
-pub keeps_more : (tells : Bool) (reads : Image) (may_leave : Image → Type 0) (new_tells : Bool) (new_reads : Image) (new_leaves : Image → Type 0) (keeper now : KeeperState) (place : ℕ) (prepared : PreparedChange) (changes : List Change) → Keeps tells reads may_leave keeper changes changes → IsFor (state_of changes) keeper.system prepared → PlacesFor (placed_of changes) keeper.system prepared → AfterKeeping (Ok place) prepared keeper now → StandsByMark new_tells new_reads new_leaves now.mark (changes ++ prepared.change ∷ []) → IsHistoryOf now.history (changes ++ prepared.change ∷ []) → Keeps new_tells new_reads new_leaves now (changes ++ prepared.change ∷ []) (changes ++ prepared.change ∷ [])
-keeps_more tells reads may_leave new_tells new_reads new_leaves keeper now place prepared changes keeps ready places after stands noted =
-    let made = after.1 in
-    let named : now.mark.log ≡ now.log.number = ap (λ (k : KeeperState). k.mark.log) made ∙ sym (ap (λ (k : KeeperState). k.log.number) made) in
-    let ends : now.mark.log_length ≡ now.log.end = ap (λ (k : KeeperState). k.mark.log_length) made ∙ sym (ap (λ (k : KeeperState). k.log.end) made) in
-    record {
-      holds = holds_all new_tells new_reads new_leaves now.log now.mark (changes ++ prepared.change ∷ []) stands named ends;
-      front = all_kept (changes ++ prepared.change ∷ []);
-      no_image = ap (λ (k : KeeperState). k.mark.image) made ∙ keeps.no_image;
-      built = built_kept changes keeper.system prepared ready keeps.built;
-      system = installed_kept changes keeper.system prepared ready keeper.log.end now.system after.0;
-      places = places_kept changes keeper.system prepared ready places keeper.log.end now.system keeps.holds.whole after.0;
-      history = noted;
-      count = ap (λ (k : KeeperState). k.count) made ∙ counts_more changes keeper.count keeps.holds.list keeps.count ∙ sym (length-append changes (prepared.change ∷ []));
-      faultless = ap (λ (k : KeeperState). k.fault) made ∙ keeps.faultless;
-    }
+module _ (tells : Bool) (reads : Image) (may_leave : Image → Type 0) (keeper : KeeperState) (kept all : List Change) (keeps : Keeps tells reads may_leave keeper kept all) where
+  -- what is kept is the front of a list that is built
+  pub kept_built : IsBuilt kept
+  kept_built = accepted_front kernel_state kept keeps.front.0 (subst IsBuilt keeps.front.1 keeps.built)
+
+  -- the keeper after one change more was taken in
+  pub keeps_later : (new_tells : Bool) (new_reads : Image) (new_leaves : Image → Type 0) (now : KeeperState) (prepared : PreparedChange) → IsFor (state_of all) keeper.system prepared → PlacesFor (placed_of all) keeper.system prepared → HasTakenIn prepared keeper now → Holds new_tells new_reads new_leaves now.log now.mark kept (all ++ prepared.change ∷ []) → IsHistoryOf now.history (all ++ prepared.change ∷ []) → Keeps new_tells new_reads new_leaves now kept (all ++ prepared.change ∷ [])
+  keeps_later new_tells new_reads new_leaves now prepared ready places after holds noted =
+      let made = after.1 in
+      record {
+        holds = holds;
+        front = (keeps.front.0 ++ prepared.change ∷ [], ap (λ l. l ++ prepared.change ∷ []) keeps.front.1 ∙ append_assoc kept keeps.front.0 (prepared.change ∷ []));
+        no_image = ap (λ (k : KeeperState). k.mark.image) made ∙ keeps.no_image;
+        built = built_kept all keeper.system prepared ready keeps.built;
+        system = installed_kept all keeper.system prepared ready keeper.log.end now.system after.0;
+        places = places_kept all keeper.system prepared ready places keeper.log.end now.system keeps.holds.whole after.0;
+        history = noted;
+        count = ap (λ (k : KeeperState). k.count) made ∙ counts_more all keeper.count keeps.holds.list keeps.count ∙ sym (length-append all (prepared.change ∷ []));
+        faultless = ap (λ (k : KeeperState). k.fault) made ∙ keeps.faultless;
+      }
+
+  -- the keeper after a commit
+  pub keeps_all : (new_tells : Bool) (new_reads : Image) (new_leaves : Image → Type 0) (log : LogEnd) (mark : MarkState) → mark.image ≡ keeper.mark.image → Holds new_tells new_reads new_leaves log mark all all → Keeps new_tells new_reads new_leaves (record keeper { log = log; mark = mark }) all all
+  keeps_all new_tells new_reads new_leaves log mark image holds = record {
+    holds = holds;
+    front = all_kept all;
+    no_image = image ∙ keeps.no_image;
+    built = keeps.built;
+    system = keeps.system;
+    places = keeps.places;
+    history = keeps.history;
+    count = keeps.count;
+    faultless = keeps.faultless;
+  }
+
+  -- how long the blocks are that are pending
+  pub pending_is : (pending : List Change) → all ≡ kept ++ pending → pending_of keeper ≡ length (blocks pending)
+  pending_is pending front =
+      let log : length (blocks all) ≡ length (blocks kept) + length (blocks pending) = ap (λ l. length (blocks l)) front ∙ ap length (flat_map-append block kept pending) ∙ length-append (blocks kept) (blocks pending) in
+      omega (arith, log, keeps.holds.whole, keeps.holds.stands.files.whole)
+
+  -- with nothing pending all is kept
+  pub none_pending : pending_of keeper ≡ 0 → all ≡ kept
+  none_pending none =
+      let pending = keeps.front.0 in
+      let few : length pending ≡ 0 = omega (arith, no_more pending, pending_is pending keeps.front.1, none) in
+      keeps.front.1 ∙ ap (λ l. kept ++ l) (nil_from_length pending few) ∙ append-nil kept
+
+  pub keeps_unpending : pending_of keeper ≡ 0 → Keeps tells reads may_leave keeper all all
+  keeps_unpending none = subst (λ k. Keeps tells reads may_leave keeper k all) (sym (none_pending none)) keeps
+
+  -- a crash now leaves what is kept
+  pub images_stand : (c : Image) → may_leave c → FilesStandFor c kept
+  images_stand = stands_leaves tells reads may_leave kept (stands_by_mark tells reads may_leave keeper.mark kept keeps.no_image kept_built keeps.holds.stands)
 
 -- a keeper of which nothing changes, nor of its disk
-pub keeps_still : {D : Type 0} (tells : D → Bool) (reads : D → Image) (may_leave : D → Image → Type 0) (old new : D) (keeper : KeeperState) (log : LogEnd) (mark : MarkState) (changes : List Change) → new ≡ old → log ≡ keeper.log → mark ≡ keeper.mark → Keeps (tells old) (reads old) (may_leave old) keeper changes changes → Keeps (tells new) (reads new) (may_leave new) (record { log = log; mark = mark; system = keeper.system; history = keeper.history; count = keeper.count; fault = keeper.fault }) changes changes
-keeps_still {D} tells reads may_leave old new keeper log mark changes same same_log same_mark keeps =
-    let OnDisk : D → Type 0 = λ d. Keeps (tells d) (reads d) (may_leave d) keeper changes changes in
-    let OfLog : LogEnd → Type 0 = λ l. Keeps (tells new) (reads new) (may_leave new) (record { log = l; mark = keeper.mark; system = keeper.system; history = keeper.history; count = keeper.count; fault = keeper.fault }) changes changes in
-    let OfMark : MarkState → Type 0 = λ m. Keeps (tells new) (reads new) (may_leave new) (record { log = log; mark = m; system = keeper.system; history = keeper.history; count = keeper.count; fault = keeper.fault }) changes changes in
-    subst OfMark (sym same_mark) (subst OfLog (sym same_log) (subst OnDisk (sym same) keeps))
+pub keeps_still : {D : Type 0} (tells : D → Bool) (reads : D → Image) (may_leave : D → Image → Type 0) (old new : D) (keeper : KeeperState) (log : LogEnd) (kept all : List Change) → new ≡ old → log ≡ keeper.log → Keeps (tells old) (reads old) (may_leave old) keeper kept all → Keeps (tells new) (reads new) (may_leave new) (record { log = log; mark = keeper.mark; system = keeper.system; history = keeper.history; count = keeper.count; fault = keeper.fault }) kept all
+keeps_still {D} tells reads may_leave old new keeper log kept all same same_log keeps =
+    let OnDisk : D → Type 0 = λ d. Keeps (tells d) (reads d) (may_leave d) keeper kept all in
+    let OfLog : LogEnd → Type 0 = λ l. Keeps (tells new) (reads new) (may_leave new) (record { log = l; mark = keeper.mark; system = keeper.system; history = keeper.history; count = keeper.count; fault = keeper.fault }) kept all in
+    subst OfLog (sym same_log) (subst OnDisk (sym same) keeps)

@@ -2,6 +2,7 @@ pub mod lemmas
 mod Counting
 mod Accepted
 mod Keeping
+mod Together
 mod Histories
 mod Readings
 pub mod OneList

@@ -1,7 +1,8 @@
 -- A start from a valid mark.
-use Rattle.std.proofs.Common.{◌≡◌, ◌≢◌, inl, inr, ⊎_elim, ℕ, ◌≤◌, Bool, List, [], ◌++◌, length, None, Result, Ok, Err, IfOk, refl, append_assoc, sym, ap, ◌∙◌, subst, append-nil}
+use Rattle.std.proofs.Common.{◌≡◌, ◌≢◌, inl, inr, ⊎_elim, ℕ, ◌≤◌, Bool, List, [], ◌++◌, length, None, Result, Ok, Err, IfOk, refl, append_assoc, sym, ap, ◌∙◌, subst, arith, append-nil}
 use Rattle.s80_change.specs.declared.change.Change.{Change}
 use Rattle.s80_change.specs.Block.{block, blocks}
+use Rattle.s80_disk.specs.declared.disk.FileId.{FileId}
 use Rattle.s80_disk.specs.declared.disk.FileId.TheVariants.{Mark}
 use Rattle.s80_disk.specs.Image.{Image, Only}
 use Rattle.s80_mark.specs.declared.mark.MarkState.{MarkState}
@@ -20,13 +21,14 @@ use Rattle.s80_log.specs.Standing.{marked_part, StandsFor as StandsByMark}
 use Rattle.s80_keeper.specs.declared.start.Damage.TheVariants.{NoMark, BadMark, LogShort, BadBlock, Replay, CountDiffers}
 use Rattle.s80_keeper.specs.declared.start.StartFault.{StartFault}
 use Rattle.s80_keeper.specs.declared.start.StartFault.TheVariants as faults
-use Rattle.s80_keeper.specs.Keeper.{KeeperState, Keeps}
-use Rattle.s80_keeper.specs.Standing.{NamesNoImage, ReadsFor}
+use Rattle.s80_keeper.specs.Keeper.{KeeperState, Keeps, pending_of}
+use Rattle.s80_keeper.specs.Standing.{NamesNoImage, ReadsFor, StandsFor}
 use Rattle.s80_keeper.specs.Start.{HasMark, IsStart, Started, log_length, fault_of_mark}
 use Rattle.s80_keeper.specs.Reading.{IsFound, IsCountChecked, AreReplayed}
 use Rattle.s80_keeper.proofs.Keeping.{all_kept, holds_all}
 use Rattle.s80_keeper.proofs.OneList.{one_mark, one_standing, some_log}
 use Rattle.s80_keeper.proofs.lemmas.Damages.{no_list}
+use Rattle.s80_keeper.proofs.lemmas.Standing.{reads_on, reads_so}
 use Rattle.s80_keeper.proofs.Replayed.{held_length}
 
 -- why no mark is found
@@ -127,11 +129,11 @@ module _ (files : Image) (mark : MarkState) (has : HasMark files mark) (no_image
     is.10,
   )
 
--- no damage is found in files that a disk reads for a list
-pub found_started : (tells told : Bool) (reads now_reads : Image) (before now : Image → Type 0) (changes : List Change) (fault : StartFault) → ReadsFor tells reads before changes → IsFound reads (Err fault) → Started (Err fault) told now_reads now changes
-found_started tells told reads now_reads before now changes faults.Memory stands is = absurd is
-found_started tells told reads now_reads before now changes (faults.Disk failed) stands is = tt
-found_started tells told reads now_reads before now changes (faults.Damaged damage) stands is =
+-- no damage is found in files that a disk reads for a list, and where the disk fails it goes on to read for it
+pub found_started : (tells told : Bool) (reads now_reads : Image) (before now : Image → Type 0) (changes : List Change) (fault : StartFault) → told ≡ tells → ((file : FileId) → now_reads file ≡ reads file) → ((c : Image) → now c → before c) → ReadsFor tells reads before changes → IsFound reads (Err fault) → Started (Err fault) told now_reads now changes
+found_started tells told reads now_reads before now changes faults.Memory same_tells same still stands is = absurd is
+found_started tells told reads now_reads before now changes (faults.Disk failed) same_tells same still stands is = reads_on tells told reads now_reads before now changes same_tells same still stands
+found_started tells told reads now_reads before now changes (faults.Damaged damage) same_tells same still stands is =
     no_list reads damage changes is (⊎_elim (λ none. inl none) (λ by_mark. inr (by_mark.0, by_mark.1, by_mark.2, by_mark.3)) stands.stands)
 
 -- where the disk reads for a list, by the mark that is found
@@ -149,6 +151,9 @@ module _ (tells : Bool) (reads : Image) (before now : Image → Type 0) (mark : 
         by_mark.3,
       )) stands.stands
 
+  stands_still : StandsFor tells reads now changes
+  stands_still = record { told = stands.told; stands = inr (mark, stands_by.0, stands_by.1, stands_by.2) }
+
   pub started_mark : (result : Result KeeperState StartFault) → IsStart reads result → IfOk result (λ keeper. keeper ≡ record {
     log = record { number = mark.log; end = mark.log_length };
     mark = mark;
@@ -157,8 +162,8 @@ module _ (tells : Bool) (reads : Image) (before now : Image → Type 0) (mark : 
     count = keeper.count;
     fault = None;
   }) → Started result tells reads now changes
-  started_mark (Err faults.Memory) is keeper_is = record { told = stands.told; stands = inr (mark, stands_by.0, stands_by.1, stands_by.2) }
-  started_mark (Err (faults.Disk failed)) is keeper_is = tt
+  started_mark (Err faults.Memory) is keeper_is = stands_still
+  started_mark (Err (faults.Disk failed)) is keeper_is = reads_so tells reads now changes stands_still
   started_mark (Err (faults.Damaged damage)) is keeper_is = no_list reads damage changes is (inr (mark, stands_by.0.files, stands_by.1, stands_by.2))
   started_mark (Ok keeper) is keeper_is =
       let P : KeeperState → Type 0 = λ k. Keeps tells reads now k changes changes in
@@ -174,3 +179,15 @@ module _ (tells : Bool) (reads : Image) (before now : Image → Type 0) (mark : 
         count = is.2.count ∙ ap length same;
         faultless = refl;
       }
+
+-- the log is as long as its mark says
+pub settled_mark : (result : Result KeeperState StartFault) (mark : MarkState) → IfOk result (λ keeper. keeper ≡ record {
+  log = record { number = mark.log; end = mark.log_length };
+  mark = mark;
+  system = keeper.system;
+  history = keeper.history;
+  count = keeper.count;
+  fault = None;
+}) → IfOk result (λ keeper. pending_of keeper ≡ 0)
+settled_mark (Err fault) mark keeper_is = tt
+settled_mark (Ok keeper) mark keeper_is = ap pending_of keeper_is ∙ omega arith

@@ -1,5 +1,5 @@
 -- What a start leaves of the files, and the first mark that it makes.
-use Rattle.std.proofs.Common.{◌≡◌, inl, inr, ⊎_elim, ℕ, Bool, IsTrue, List, [], Some, None, Ok, refl, sym, ap, ◌∙◌, subst, arith}
+use Rattle.std.proofs.Common.{◌≡◌, ◌≢◌, ◌⊎◌, ◌-◌, inl, inr, ⊎_elim, ℕ, Bool, IsTrue, List, [], Some, None, Ok, refl, sym, ap, ◌∙◌, subst, arith}
 use Rattle.std.proofs.lemmas.List.Elements.{All-nil}
 use Rattle.s80_change.specs.declared.change.Change.{Change}
 use Rattle.s80_change.specs.Block.{IsLawful}
@@ -17,8 +17,8 @@ use Rattle.s80_apply.specs.System.{SystemState, HasPlaces, IsSystemOf}
 use Rattle.s80_history.specs.History.{HistoryState, IsHistoryOf}
 use Rattle.s80_log.specs.Log.{LogEnd, held_in}
 use Rattle.s80_log.specs.Standing.{StandsFor as StandsByMark}
-use Rattle.s80_keeper.specs.Keeper.{KeeperState, Keeps}
-use Rattle.s80_keeper.specs.Standing.{ReadsFor, StandsFor, LeavesFor}
+use Rattle.s80_keeper.specs.Keeper.{KeeperState, Keeps, pending_of}
+use Rattle.s80_keeper.specs.Standing.{FilesStandFor, ReadsFor, StandsFor, LeavesEither, LeavesFor}
 use Rattle.s80_keeper.specs.Start.{IsStart, StartLeaves}
 use Rattle.s80_keeper.proofs.Keeping.{all_kept, holds_all}
 use Rattle.s80_keeper.proofs.OneList.{empty_list}
@@ -109,3 +109,21 @@ leaves_for tells reads before changes stands told_before told c left = record {
   told_is = left.told_is;
   files = ⊎_elim (stands_leaves tells reads before changes stands c) (λ empty. inl (empty.1, none_kept tells reads before changes (reads_so tells reads before changes stands) empty.0)) left.files;
 }
+
+-- and one from a disk that reads for a list, of which a crash leaves that list or another
+pub leaves_killed : (tells : Bool) (reads : Image) (before : Image → Type 0) (changes was : List Change) → ReadsFor tells reads before changes → ((c : Image) → before c → FilesStandFor c changes ⊎ FilesStandFor c was) → (told_before told : ℕ) (c : Image) → StartLeaves reads before told_before told c → LeavesEither told_before changes was told c
+leaves_killed tells reads before changes was is images told_before told c left = record {
+  told_is = left.told_is;
+  files = ⊎_elim (images c) (λ empty. inl (inl (empty.1, none_kept tells reads before changes is empty.0))) left.files;
+}
+
+-- where the logs are empty, and only the mark may be written, the disk goes on to read for no change
+pub still_empty : (tells : Bool) (reads mid now : Image) (may_leave : Image → Type 0) (changes : List Change) → IsTrue tells → AreLogsEmpty reads → changes ≡ [] → ((file : FileId) → mid file ≡ reads file) → ((file : FileId) → file ≢ Mark → now file ≡ mid file) → ReadsFor tells now may_leave changes
+still_empty tells reads mid now may_leave changes told empty none same others = record {
+  told = told;
+  stands = inl ((others Log0 (λ e. absurd cc) ∙ same Log0 ∙ empty.0, others Log1 (λ e. absurd cc) ∙ same Log1 ∙ empty.1), none);
+}
+
+-- a log and a mark that begin at nothing
+pub settled_first : (log : LogEnd) (mark : MarkState) (keeper : KeeperState) (system : SystemState) (history : HistoryState) → log ≡ record { number = 0; end = 0 } → keeper ≡ record { log = log; mark = mark; system = system; history = history; count = 0; fault = None } → pending_of keeper ≡ 0
+settled_first log mark keeper system history first is = ap pending_of is ∙ ap (λ (l : LogEnd). l.end - mark.log_length) first ∙ omega arith

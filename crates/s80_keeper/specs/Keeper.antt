@@ -1,5 +1,5 @@
 -- A keeper at work on a disk.
-use Rattle.std.specs.Prelude.{◌≡◌, ◌++◌, ℕ, Bool, List, length, Option, None, All}
+use Rattle.std.specs.Prelude.{◌≡◌, ◌≢◌, ◌⊎◌, ◌++◌, ◌-◌, ℕ, Bool, List, length, Option, None, All}
 use Rattle.s80_base.specs.declared.outside.Failed.{Failed}
 use Rattle.s80_change.specs.declared.change.Change.{Change}
 use Rattle.s80_disk.specs.Image.{Image}
@@ -22,6 +22,14 @@ pub record KeeperState : Type 0 where
   pub history : HistoryState
   pub count : ℕ
   pub fault : Option Failed
+
+-- how many bytes of the log are appended and not yet committed
+abbrev pub pending_of : KeeperState → ℕ
+pending_of keeper = keeper.log.end - keeper.mark.log_length
+
+-- nothing is pending, or the disk failed
+abbrev pub IsSettled : KeeperState → Type 0
+IsSettled keeper = (pending_of keeper ≡ 0) ⊎ (keeper.fault ≢ None)
 
 -- The disk stands for the list that is kept by the keeper's mark, and up to its end the keeper's log has the blocks of all changes, of which
 -- those that are kept come first. The keeper has the classes and methods that all of them make, with the places of their sources, their

@@ -38,3 +38,8 @@ pub record LeavesFor (told_before : ℕ) (changes : List Change) (told : ℕ) (c
 pub record LeavesEither (told_before : ℕ) (changes other : List Change) (told : ℕ) (c : Image) : Type 0 where
   pub told_is : told ≡ told_before
   pub files : FilesStandFor c changes ⊎ FilesStandFor c other
+
+-- A commit broke off: the disk reads for the one list or for the other, and a crash now leaves files that stand for one of the two.
+pub record ReadsForEither (tells : Bool) (reads : Image) (may_leave : Image → Type 0) (changes other : List Change) : Type 0 where
+  pub stands : ReadsFor tells reads may_leave changes ⊎ ReadsFor tells reads may_leave other
+  pub images : (c : Image) → may_leave c → FilesStandFor c changes ⊎ FilesStandFor c other

@@ -23,7 +23,7 @@ use Rattle.s80_keeper.specs.declared.start.Damage.TheVariants.{NoMark, BadMark, 
 use Rattle.s80_keeper.specs.declared.start.StartFault.{StartFault}
 use Rattle.s80_keeper.specs.declared.start.StartFault.TheVariants as faults
 use Rattle.s80_keeper.specs.Keeper.{KeeperState, Keeps, Knows}
-use Rattle.s80_keeper.specs.Standing.{NamesNoImage, FilesStandFor, StandsFor}
+use Rattle.s80_keeper.specs.Standing.{NamesNoImage, FilesStandFor, ReadsFor, StandsFor}
 
 -- a log holds something, and this is the valid mark, with lawful numbers
 pub record HasMark (files : Image) (mark : MarkState) : Type 0 where
@@ -68,7 +68,7 @@ IsStart files (Err (faults.Disk failed)) = ⊤
 abbrev pub Started : Result KeeperState StartFault → Bool → Image → (Image → Type 0) → List Change → Type 0
 Started (Ok keeper) tells reads may_leave changes = Keeps tells reads may_leave keeper changes changes
 Started (Err faults.Memory) tells reads may_leave changes = StandsFor tells reads may_leave changes
-Started (Err (faults.Disk failed)) tells reads may_leave changes = ⊤
+Started (Err (faults.Disk failed)) tells reads may_leave changes = ReadsFor tells reads may_leave changes
 Started (Err (faults.Damaged damage)) tells reads may_leave changes = ⊥
 
 -- this much is told, and the image is one of those before, or the logs read empty and are empty in it

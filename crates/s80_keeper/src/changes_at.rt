@@ -10,7 +10,7 @@ ghost use Rattle.s80_history.specs.Lists.{set_of, versions_of};
 ghost use Rattle.s80_log.specs.Log.{held_in};
 ghost use Rattle.s80_keeper.specs.Answers.{IfKeepDisk, UnlessKeepDisk};
 ghost use Rattle.s80_keeper.specs.ChangesAt.{ArePlaced, AreReadAt, IsPlacedAt, IsReadAt};
-ghost use Rattle.s80_keeper.specs.Keeper.{Knows};
+ghost use Rattle.s80_keeper.specs.Keeper.{IsSettled, Knows};
 ghost use Rattle.s80_keeper.specs.Source.{IsThis, after_reading};
 
 use crate::keep::KeepFault;
@@ -25,6 +25,7 @@ use std::alloc::Global;
 impl Keeper {
     /// The change set, the oldest change first. No block is read but those of the set. It is damaged where no block begins at the place of one.
     pub fn set_of<D: Disk>(&mut self, alloc: Global, disk: &mut D) -> Result<Changes, KeepFault>
+        requires { IsSettled self.old }
         ensures set { IsTrue (D.tells disk.old) → (changes : List Change) → Knows (D.reads disk.old) self.old changes
             → IsThis (list_map (λ p. p.1) (set_of changes)) result }
         ensures read { IsTrue (D.tells disk.old) → AreReadAt (held_in (D.reads disk.old) self.old.log) (set_places self.old.history) result }
@@ -57,6 +58,7 @@ impl Keeper {
         side: Side,
         selector: &Text,
     ) -> Result<Changes, KeepFault>
+        requires { IsSettled self.old }
         ensures versions { IsTrue (D.tells disk.old) → (changes : List Change) → Knows (D.reads disk.old) self.old changes
             → IsThis (list_map (λ p. p.1) (versions_of changes (record { class_name = class_name.now; side = side; selector = selector.now }))) result }
         ensures read { IsTrue (D.tells disk.old)

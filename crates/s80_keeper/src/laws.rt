@@ -1,11 +1,14 @@
 // Laws of files that stand for a list, for the crates above.
-ghost use Rattle.std.specs.Prelude.{◌≡◌, List};
+ghost use Rattle.std.specs.Prelude.{◌≡◌, ◌++◌, List, length};
 ghost use Rattle.s80_change.specs.declared.change.Change.{Change};
+ghost use Rattle.s80_change.specs.Block.{blocks};
 ghost use Rattle.s80_disk.specs.Image.{Image};
 ghost use Rattle.s80_keeper.specs.declared.start.Damage.{Damage};
+ghost use Rattle.s80_keeper.specs.Keeper.{pending_of, Keeps};
 ghost use Rattle.s80_keeper.specs.Standing.{FilesStandFor, StandsFor, ReadsFor};
 ghost use Rattle.s80_keeper.specs.Start.{IsDamage};
 
+use crate::keeper::Keeper;
 use s80_disk::Disk;
 
 /// Files stand for one list at most.
@@ -30,4 +33,11 @@ pub fn a_disk_that_stands_reads_so<D: Disk>(disk: &D)
     ensures { (changes : List Change)
         → StandsFor (D.tells disk.now) (D.reads disk.now) (D.may_leave disk.now) changes
         → ReadsFor (D.tells disk.now) (D.reads disk.now) (D.may_leave disk.now) changes }
+{}
+
+/// What is pending is as long as the blocks of the changes that aren't committed yet.
+pub fn pending_blocks_are_counted<D: Disk>(disk: &D, keeper: &Keeper)
+    ensures { (kept pending : List Change)
+        → Keeps (D.tells disk.now) (D.reads disk.now) (D.may_leave disk.now) keeper.now kept (kept ++ pending)
+        → pending_of keeper.now ≡ length (blocks pending) }
 {}

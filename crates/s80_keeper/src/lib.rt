@@ -14,7 +14,7 @@ pub use keep::KeepFault;
 pub use keeper::{Keeper, Prepared};
 pub use laws::{
     a_disk_that_stands_reads_so, damaged_files_stand_for_no_list, files_have_one_damage,
-    files_stand_for_one_list,
+    files_stand_for_one_list, pending_blocks_are_counted,
 };
 pub use source_at::read_source;
 pub use start::{Damage, StartFault};

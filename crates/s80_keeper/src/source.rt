@@ -11,7 +11,7 @@ ghost use Rattle.s80_dict.specs.Table.{methods_at};
 ghost use Rattle.s80_disk.specs.Untouched.{IsUntouched};
 ghost use Rattle.s80_apply.specs.List.{state_of};
 ghost use Rattle.s80_keeper.specs.Answers.{IfKeepDisk, UnlessKeepDisk};
-ghost use Rattle.s80_keeper.specs.Keeper.{Knows};
+ghost use Rattle.s80_keeper.specs.Keeper.{IsSettled, Knows};
 ghost use Rattle.s80_keeper.specs.Source.{IsPlaced, IsReadBy, IsThis, after_reading};
 
 use crate::keep::KeepFault;
@@ -35,7 +35,8 @@ impl Keeper {
         side: Side,
         selector: &Text,
     ) -> Result<Option<Text>, KeepFault>
-        requires { class < length self.old.system.methods.sides }
+        requires class { class < length self.old.system.methods.sides }
+        requires settled { IsSettled self.old }
         ensures source { IsTrue (D.tells disk.old) → (changes : List Change) → Knows (D.reads disk.old) self.old changes
             → (name : Name) → IsNumberOf self.old.system.table.names class name
             → IsThis (option_map (λ row. row.source) (map.get ((state_of changes).methods name side) selector.now)) result }

@@ -16,7 +16,8 @@ ghost use Rattle.s80_apply.specs.Placed.{PlacedState, placed_after};
 ghost use Rattle.s80_apply.specs.System.{HasPlaces, IsSystemOf};
 ghost use Rattle.s80_history.specs.History.{IsHistoryOf};
 ghost use Rattle.s80_log.specs.Log.{log_file, held_in};
-ghost use Rattle.s80_keeper.specs.Standing.{NamesNoImage, ReadsFor, StandsFor, LeavesFor};
+ghost use Rattle.s80_keeper.specs.Keeper.{pending_of};
+ghost use Rattle.s80_keeper.specs.Standing.{NamesNoImage, FilesStandFor, ReadsFor, StandsFor, LeavesEither, LeavesFor};
 ghost use Rattle.s80_keeper.specs.Start.{HasMark, IsStart, Started, StartLeaves, IfStartDisk, UnlessStartDisk};
 ghost use Rattle.s80_keeper.specs.Reading.{IsFound, IsLengthChecked, IsCountChecked, AreReplayed, Accepts};
 
@@ -122,6 +123,7 @@ impl Keeper {
         ensures started { (changes : List Change) → ReadsFor (D.tells disk.old) (D.reads disk.old) (D.may_leave disk.old) changes
             → Started result (D.tells disk.new) (D.reads disk.new) (D.may_leave disk.new) changes }
         ensures faultless { IfOk result (λ keeper. keeper.fault ≡ None) }
+        ensures settled { IfOk result (λ keeper. pending_of keeper ≡ 0) }
 
         // A crash at any moment leaves what it might have left before; but where the logs read empty, they may be so for certain.
         ensures any_moment { IsTrue (D.tells disk.old) → LeavesOnly D.moment D.left_since disk.old disk.new
@@ -129,6 +131,10 @@ impl Keeper {
         // So where the disk stands for a list, the files do so at every moment.
         ensures stands { (changes : List Change) → StandsFor (D.tells disk.old) (D.reads disk.old) (D.may_leave disk.old) changes
             → LeavesOnly D.moment D.left_since disk.old disk.new (LeavesFor (D.beside disk.old).told changes) }
+        // And where it reads for a list, as a run leaves it that was killed in a commit, and a crash leaves files that stand for it or for another.
+        ensures killed { (changes was : List Change) → ReadsFor (D.tells disk.old) (D.reads disk.old) (D.may_leave disk.old) changes
+            → ((c : FileId → List ℕ) → D.may_leave disk.old c → FilesStandFor c changes ⊎ FilesStandFor c was)
+            → LeavesOnly D.moment D.left_since disk.old disk.new (LeavesEither (D.beside disk.old).told changes was) }
 
         ensures untouched { IsTrue (D.tells disk.old) → 0 < longer_log (D.reads disk.old)
             → (file : FileId) → D.reads disk.new file ≡ D.reads disk.old file }

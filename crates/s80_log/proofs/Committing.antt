@@ -10,8 +10,8 @@ use Rattle.s80_mark.specs.declared.mark.MarkState.{MarkState}
 use Rattle.s80_mark.specs.Mark.{valid_mark}
 use Rattle.s80_mark.specs.Commit.{CanCommit, HasEither}
 use Rattle.s80_log.specs.Log.{LogEnd, log_file}
-use Rattle.s80_log.specs.Standing.{marked_part, FilesStandFor}
-use Rattle.s80_log.specs.Commit.{next_mark, Holds, LeavesBeside, StandForEither}
+use Rattle.s80_log.specs.Standing.{marked_part, FilesStandFor, ReadsFor}
+use Rattle.s80_log.specs.Commit.{next_mark, Holds, LeavesBeside, ReadForEither, StandForEither}
 use Rattle.s80_log.proofs.Files.{log_is_no_mark, stands_on}
 
 -- from one disk, and another that reads the same and of which a crash leaves no more
@@ -74,6 +74,16 @@ module _ {D : Type 0} (moment : D → ℕ) (left_since : D → ℕ → ℕ → I
     pub lists_synced : ((told : ℕ) (c : Image) → left_since d (moment d) told c → may_leave d c × (told ≡ (beside d).told)) → Elapses moment left_since may_leave beside d mid → LeavesOnly moment left_since d mid Lists
     lists_synced only_now time = goes_on moment left_since may_leave beside d d mid Lists (started moment left_since d Lists (λ told c left. lists_still told c (only_now told c left))) time lists_mid
 
+    -- where no mark was written it reads for what is kept
+    pub reads_kept : ReadsFor (tells mid) (reads mid) (may_leave mid) old kept
+    reads_kept =
+        let same_part : marked_part old (reads mid) ≡ marked_part old (reads d) = ap (take old.log_length) (same_reads (log_file old.log)) in
+        record {
+          told = same_tells ∙ holds.stands.told;
+          files = stands_on (reads d) (reads mid) old kept holds.stands.files (same_reads Mark) same_part;
+          log_stays = λ c left. holds.stands.log_stays c (crash c left) ∙ sym same_part;
+        }
+
     module _ (count : ℕ) (is : next ≡ next_mark old log count) (counts : count ≡ length all) (durable : Only (log_file log.number) (reads d (log_file log.number)) (may_leave mid)) where
       -- the files stand for what is kept where they have the old mark
       stands_old : (c : Image) → valid_mark (c Mark) ≡ Some old → c (log_file log.number) ≡ reads d (log_file log.number) → FilesStandFor c old kept
@@ -130,3 +140,16 @@ module _ {D : Type 0} (moment : D → ℕ) (left_since : D → ℕ → ℕ → I
             whole = holds.whole;
             bytes = ap (take log.end) read_all ∙ holds.bytes;
           }
+
+      -- whatever became of the mark, it reads for the one list or for the other
+      pub reads_either : (new : D) → tells new ≡ tells mid → may_leave new (reads new) → reads new (log_file log.number) ≡ reads mid (log_file log.number) → ((c : Image) → may_leave new c → Either mid (beside new).told c) → ReadForEither (tells new) (reads new) (may_leave new) old kept next all
+      reads_either new told here read left =
+          let read_all : reads new (log_file log.number) ≡ reads d (log_file log.number) = read ∙ same_reads (log_file log.number) in
+          let stays : (m : MarkState) → m.log ≡ log.number → (c : Image) → may_leave new c → marked_part m c ≡ marked_part m (reads new) = λ m named c now.
+          let P : ℕ → Type 0 = λ n. take m.log_length (c (log_file n)) ≡ take m.log_length (reads new (log_file n)) in
+          subst P (sym named) (ap (take m.log_length) (same_log _ c (left c now) ∙ sym read_all)) in
+          let tells_new = told ∙ same_tells ∙ holds.stands.told in
+          ⊎_elim
+          (λ h. inl (record { told = tells_new; files = h; log_stays = stays old holds.named }))
+          (λ h. inr (record { told = tells_new; files = h; log_stays = stays next (ap (λ (m : MarkState). m.log) is) }))
+          (lists_on _ (reads new) (left (reads new) here)).here

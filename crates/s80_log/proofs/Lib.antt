@@ -2,5 +2,4 @@ mod OneList
 mod Files
 mod Appending
 mod Committing
-mod Keeping
 mod Reading

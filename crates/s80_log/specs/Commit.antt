@@ -8,7 +8,7 @@ use Rattle.s80_disk.specs.Image.{Image}
 use Rattle.s80_mark.specs.declared.mark.MarkState.{MarkState}
 use Rattle.s80_mark.specs.Mark.{format_two}
 use Rattle.s80_log.specs.Log.{LogEnd, held_in}
-use Rattle.s80_log.specs.Standing.{FilesStandFor, StandsFor}
+use Rattle.s80_log.specs.Standing.{FilesStandFor, ReadsFor, StandsFor}
 
 -- the mark after this one, which takes the log to its end and counts so many changes; what it says of an image stays
 abbrev pub next_mark : MarkState → LogEnd → ℕ → MarkState
@@ -40,3 +40,7 @@ pub record LeavesBeside (before : Image → Type 0) (told_before : ℕ) (log : F
 -- the files stand for the one list by the one mark, or for the other by the other
 abbrev pub StandForEither : MarkState → List Change → MarkState → List Change → Image → Type 0
 StandForEither mark kept next all c = FilesStandFor c mark kept ⊎ FilesStandFor c next all
+
+-- the disk reads for the one list by the one mark, or for the other by the other
+abbrev pub ReadForEither : Bool → Image → (Image → Type 0) → MarkState → List Change → MarkState → List Change → Type 0
+ReadForEither tells reads may_leave mark kept next all = ReadsFor tells reads may_leave mark kept ⊎ ReadsFor tells reads may_leave next all

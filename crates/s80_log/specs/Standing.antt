@@ -29,3 +29,10 @@ pub record StandsFor (tells : Bool) (reads : Image) (may_leave : Image → Type 
   pub files : FilesStandFor reads mark changes
   pub mark_stays : Only Mark (reads Mark) may_leave
   pub log_stays : (c : Image) → may_leave c → marked_part mark c ≡ marked_part mark reads
+
+-- What the disk reads stands for the list, and every crash now leaves the marked part of the log as it reads. The mark need not be on the
+-- disk: a commit that broke off leaves such a disk.
+pub record ReadsFor (tells : Bool) (reads : Image) (may_leave : Image → Type 0) (mark : MarkState) (changes : List Change) : Type 0 where
+  pub told : IsTrue tells
+  pub files : FilesStandFor reads mark changes
+  pub log_stays : (c : Image) → may_leave c → marked_part mark c ≡ marked_part mark reads

@@ -12,8 +12,8 @@ ghost use Rattle.s80_mark.specs.declared.mark.MarkState.{MarkState};
 ghost use Rattle.s80_mark.specs.Mark.{valid_mark};
 ghost use Rattle.s80_mark.specs.Commit.{CanCommit, HasEither};
 ghost use Rattle.s80_log.specs.Log.{log_file};
-ghost use Rattle.s80_log.specs.Standing.{FilesStandFor, StandsFor};
-ghost use Rattle.s80_log.specs.Commit.{next_mark, Holds, LeavesBeside, StandForEither};
+ghost use Rattle.s80_log.specs.Standing.{FilesStandFor};
+ghost use Rattle.s80_log.specs.Commit.{next_mark, Holds, LeavesBeside, ReadForEither, StandForEither};
 ghost use Rattle.s80_log.specs.Faults.{IfLogDisk, UnlessLogDisk};
 
 use s80_base::{Failed, Text};
@@ -190,6 +190,11 @@ impl Log {
             → D.may_leave disk.new c
             → LeavesBeside (D.may_leave disk.old) (D.beside disk.old).told (log_file self.old.number)
             (StandForEither mark.old kept (next_mark mark.old self.old count) all) (D.beside disk.new).told c }
+        // Also where a call failed, the disk goes on to read for the one list or for the other.
+        ensures reads { (kept all : List Change)
+            → Holds (D.tells disk.old) (D.reads disk.old) (D.may_leave disk.old) self.old mark.old kept all → count ≡ length all
+            → ReadForEither (D.tells disk.new) (D.reads disk.new) (D.may_leave disk.new) mark.old kept
+            (next_mark mark.old self.old count) all }
 
         // Whatever the log holds, a crash leaves the old mark or the next, and the other files as it might have left them before.
         ensures any_moment { LeavesOnly D.moment D.left_since disk.old disk.new
@@ -221,71 +226,5 @@ impl Log {
         commit_mark(disk, mark, &next)?;
         *mark = next;
         Ok(())
-    }
-
-    /// Keeps one change: appends its block and commits, with the number of changes that there are then. After an `Err` the log and the mark
-    /// are as before.
-    pub fn append_and_commit<D: Disk>(
-        &mut self,
-        disk: &mut D,
-        mark: &mut MarkState,
-        block: &Text,
-        count: u64,
-    ) -> Result<u64, LogFault>
-        // One commit: from a disk that stands for a list by its valid mark, with a lawful change and a log that has the mark's number
-        // and length, a stop at any moment, inside a write too, leaves files that stand for the list or for the list with the change.
-        ensures one_commit { (changes : List Change) (change : Change)
-            → StandsFor (D.tells disk.old) (D.reads disk.old) (D.may_leave disk.old) mark.old changes
-            → mark.old.log ≡ self.old.number → mark.old.log_length ≡ self.old.end → IsLawful change
-            → block.now ≡ block_of change → count ≡ length changes + 1
-            → LeavesOnly D.moment D.left_since disk.old disk.new
-            (LeavesBeside (D.may_leave disk.old) (D.beside disk.old).told (log_file self.old.number)
-            (StandForEither mark.old changes (next_mark mark.old (record self.old { end = self.old.end + length block.now }) count)
-            (changes ++ change ∷ []))) }
-        // After Ok the disk stands for the list with the change; after an Err a crash now leaves one of the two.
-        ensures kept { (changes : List Change) (change : Change)
-            → StandsFor (D.tells disk.old) (D.reads disk.old) (D.may_leave disk.old) mark.old changes
-            → mark.old.log ≡ self.old.number → mark.old.log_length ≡ self.old.end → IsLawful change
-            → block.now ≡ block_of change → count ≡ length changes + 1
-            → OnOk result (StandsFor (D.tells disk.new) (D.reads disk.new) (D.may_leave disk.new) mark.new
-            (changes ++ change ∷ [])) }
-        ensures left { (changes : List Change) (change : Change) (c : FileId → List ℕ)
-            → StandsFor (D.tells disk.old) (D.reads disk.old) (D.may_leave disk.old) mark.old changes
-            → mark.old.log ≡ self.old.number → mark.old.log_length ≡ self.old.end → IsLawful change
-            → block.now ≡ block_of change → count ≡ length changes + 1
-            → D.may_leave disk.new c
-            → StandForEither mark.old changes (next_mark mark.old (record self.old { end = self.old.end + length block.now }) count)
-            (changes ++ change ∷ []) c }
-
-        // Whatever the disk stands for, but for the mark and this log a crash at any moment leaves the files of an image that one might have
-        // left before.
-        ensures elsewhere { LeavesOnly D.moment D.left_since disk.old disk.new
-            (LeavesBeside (D.may_leave disk.old) (D.beside disk.old).told (log_file self.old.number) (λ c. ⊤)) }
-
-        ensures place { IfOk result (λ at. at ≡ self.old.end) }
-        ensures end { MatchResult result (λ _. self.new ≡ record self.old { end = self.old.end + length block.now })
-            (λ _. self.new ≡ self.old) }
-        ensures mark { MatchResult result (λ _. mark.new ≡ next_mark mark.old self.new count) (λ _. mark.new ≡ mark.old) }
-        ensures full { (n : ℕ) → (result ≡ Err (LogFault.Full n))
-            ↔ ((n ≡ self.old.end) × (log_limit < self.old.end + length block.now)) }
-        ensures within { OnOk result (self.new.end ≤ log_limit) }
-        ensures untouched { log_limit < self.old.end + length block.now → disk.new ≡ disk.old }
-        ensures others { (other : FileId) → other ≢ Mark → other ≢ log_file self.old.number
-            → D.reads disk.new other ≡ D.reads disk.old other }
-        ensures tells { D.tells disk.new ≡ D.tells disk.old }
-        ensures beside { D.beside disk.new ≡ D.beside disk.old }
-        ensures later { D.disk_faults disk.old ≤ D.disk_faults disk.new }
-        ensures cause { IfErr result
-            (λ fault. IfLogDisk fault (λ failed. Rose (D.disk_faults disk.old) (D.disk_faults disk.new))) }
-        ensures faults_stay { UnlessLogDisk result (D.disk_faults disk.new ≡ D.disk_faults disk.old) }
-        ensures named { IfErr result
-            (λ fault. IfLogDisk fault (λ failed. (failed.call ≡ Read) ⊎ (failed.call ≡ Write) ⊎ (failed.call ≡ Sync))) }
-    {
-        let at = self.append(disk, block)?;
-        if let Err(failed) = self.commit(disk, mark, count) {
-            self.end = at;
-            return Err(LogFault::from(failed));
-        }
-        Ok(at)
     }
 }

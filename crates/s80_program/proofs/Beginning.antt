@@ -1,5 +1,5 @@
 -- The beginning of a command: the folder is chosen, and a session starts.
-use Rattle.std.proofs.Common.{◌≡◌, ◌≢◌, inl, inr, ⊎_elim, ℕ, List, [], length, refl, sym, ap, subst, ◌∙◌, Err, Option, Some, None, Bool, true, false, take, arith}
+use Rattle.std.proofs.Common.{◌≡◌, ◌≢◌, ◌⊎◌, inl, inr, ⊎_elim, ℕ, ◌≤◌, List, [], length, refl, sym, ap, subst, ◌∙◌, Err, Option, Some, None, Bool, true, false, take, arith}
 use Rattle.std.specs.Prelude.{◌==◌, if◌then◌else◌}
 use Rattle.std.proofs.lemmas.List.{append-nil}
 use Rattle.s80_chunk.specs.Chunks.Reads.{stop}
@@ -13,7 +13,7 @@ use Rattle.s80_disk.specs.declared.disk.FileId.{FileId}
 use Rattle.s80_disk.specs.declared.disk.FileId.TheVariants.{Mark, Log0, Log1}
 use Rattle.s80_log.specs.Log.{log_file}
 use Rattle.s80_keeper.specs.Keeper.{KeeperState, Knows}
-use Rattle.s80_keeper.specs.Standing.{StandsFor, ReadsFor}
+use Rattle.s80_keeper.specs.Standing.{FilesStandFor, LeavesEither, StandsFor, ReadsFor}
 use Rattle.s80_keeper.specs.Start.{IsDamage, StartLeaves}
 use Rattle.s80_keeper.proofs.lemmas.Damages.{damaged_has_log}
 use Rattle.s80_keeper.proofs.OneList.{some_log}
@@ -61,18 +61,20 @@ module _ (old now : Shown) (same : now ≡ old) (was may_leave : Image → Type 
   }
 
 -- the disk fails before the first item
-pub lost_at_start : (item : Option SessionItem) (end : SessionEnd) (may_leave : Image → Type 0) (now : Shown) (changes : List Change) (input before : List ℕ) → IsDiskEnd end → now.left ≡ Some input → now.taken ≡ Some before → LeavesFor item (status_after (Err end)) may_leave now changes input before
-lost_at_start None (ends.Disk failed) may_leave now changes input before is left taken = record {
+pub lost_at_start : (item : Option SessionItem) (end : SessionEnd) (may_leave : Image → Type 0) (now : Shown) (changes : List Change) (input before : List ℕ) → IsDiskEnd end → ReadsFor now.tells now.files may_leave changes → now.left ≡ Some input → now.taken ≡ Some before → LeavesFor item (status_after (Err end)) may_leave now changes input before
+lost_at_start None (ends.Disk failed) may_leave now changes input before is reads left taken = record {
   asks = [];
+  more = [];
   first = ([], inl ([], input, stop refl refl, refl), tt);
   taken = taken ∙ ap Some (sym (append-nil before));
+  reads = reads;
 }
-lost_at_start (Some item) (ends.Disk failed) may_leave now changes input before is left taken = (taken, left)
-lost_at_start item ends.Memory may_leave now changes input before is left taken = absurd is
-lost_at_start item (ends.Read failed) may_leave now changes input before is left taken = absurd is
-lost_at_start item (ends.Write failed) may_leave now changes input before is left taken = absurd is
-lost_at_start item (ends.Damaged damage) may_leave now changes input before is left taken = absurd is
-lost_at_start item ends.TooLong may_leave now changes input before is left taken = absurd is
+lost_at_start (Some item) (ends.Disk failed) may_leave now changes input before is reads left taken = (record { taken = taken; list = changes; is = inl refl; reads = reads }, left)
+lost_at_start item ends.Memory may_leave now changes input before is reads left taken = absurd is
+lost_at_start item (ends.Read failed) may_leave now changes input before is reads left taken = absurd is
+lost_at_start item (ends.Write failed) may_leave now changes input before is reads left taken = absurd is
+lost_at_start item (ends.Damaged damage) may_leave now changes input before is reads left taken = absurd is
+lost_at_start item ends.TooLong may_leave now changes input before is reads left taken = absurd is
 
 -- the session doesn't start
 pub no_session : (item : Option SessionItem) (end : SessionEnd) (may_leave : Image → Type 0) (now : Shown) (changes : List Change) (input before : List ℕ) → Starts (Err end) may_leave now default_settings changes before → now.left ≡ Some input → now.taken ≡ Some before → LeavesFor item (status_after (Err end)) may_leave now changes input before
@@ -82,7 +84,9 @@ no_session None ends.Memory may_leave now changes input before h left taken = in
   answered = record { stands = h; taken = taken ∙ ap Some (sym (append-nil before)) };
 })
 no_session (Some item) ends.Memory may_leave now changes input before h left taken = (inl (record { stands = h; taken = taken ∙ ap Some (sym (append-nil before)) }), left)
-no_session item (ends.Disk failed) may_leave now changes input before h left taken = lost_at_start item (ends.Disk failed) may_leave now changes input before tt left taken
+no_session item (ends.Disk failed) may_leave now changes input before h left taken =
+    let P : List Change → Type 0 = λ l. ReadsFor now.tells now.files may_leave l in
+    lost_at_start item (ends.Disk failed) may_leave now changes input before tt (subst P h.is h.reads) left taken
 no_session item (ends.Read failed) may_leave now changes input before h left taken = absurd h
 no_session item (ends.Write failed) may_leave now changes input before h left taken = absurd h
 no_session item (ends.Damaged damage) may_leave now changes input before h left taken = absurd h
@@ -112,6 +116,26 @@ module _ {D : Type 0} (moment : D → ℕ) (left_since : D → ℕ → ℕ → I
 
   pub goes_on : (old mid new : D) → LeavesOnly moment left_since old mid P → LeavesOnly moment left_since mid new P → LeavesOnly moment left_since old new P
   goes_on old mid new first second = joined moment left_since old mid new P P first second (λ n c h. h)
+
+-- behind a run that was killed: a crash leaves the list that is read, or one before it, until more is told
+module _ {D : Type 0} (moment : D → ℕ) (left_since : D → ℕ → ℕ → Image → Type 0) (item : Option SessionItem) (changes was : List Change) (input before : List ℕ) where
+  abbrev Q : ℕ → Image → Type 0
+  Q told c = HasKept was (length before) told c ⊎ KeepsFor item changes input before told c
+
+  either_kept : (told : ℕ) (c : Image) → told ≤ length before → FilesStandFor c changes ⊎ FilesStandFor c was → Q told c
+  either_kept told c within = ⊎_elim (λ files. inr (kept_at_start item changes input before told c (record { no_more = within; files = files }))) (λ files. inl (record { no_more = within; files = files }))
+
+  -- the folder is chosen
+  pub chosen_either : (may_leave : Image → Type 0) (told : ℕ) (old new : D) → ((c : Image) → may_leave c → FilesStandFor c changes ⊎ FilesStandFor c was) → told ≡ length before → LeavesOnly moment left_since old new (IsAsBefore may_leave told 0) → LeavesOnly moment left_since old new Q
+  chosen_either may_leave told old new either is run = weaker moment left_since old new (IsAsBefore may_leave told 0) Q run (λ n c h. either_kept n c (omega (arith, h.no_more, is)) (either c h.was))
+
+  -- a session starts
+  pub begins_either : (told : ℕ) (old mid new : D) → told ≡ length before → LeavesOnly moment left_since old mid Q → LeavesOnly moment left_since mid new (LeavesEither told changes was) → LeavesOnly moment left_since old new Q
+  begins_either told old mid new is first second = joined moment left_since old mid new Q (LeavesEither told changes was) first second (λ n c h. either_kept n c (omega (arith, h.told_is, is)) h.files)
+
+  -- and the command is done
+  pub goes_on_either : (old mid new : D) → LeavesOnly moment left_since old mid Q → LeavesOnly moment left_since mid new (KeepsFor item changes input before) → LeavesOnly moment left_since old new Q
+  goes_on_either old mid new first second = joined moment left_since old mid new Q (KeepsFor item changes input before) first second (λ n c h. inr h)
 
 -- a log holds something where files are damaged, so a crash leaves what it might have left before, while a session starts on them
 pub damaged_lasts : {D : Type 0} (moment : D → ℕ) (left_since : D → ℕ → ℕ → Image → Type 0) (files : Image) (damage : Damage) (before mid_leaves : Image → Type 0) (told_before told_mid : ℕ) (old mid new : D) → IsDamage files damage → ((c : Image) → mid_leaves c → before c) → told_mid ≡ told_before

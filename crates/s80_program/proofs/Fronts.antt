@@ -14,7 +14,7 @@ use Rattle.s80_model.specs.declared.item.SessionItem.TheVariants.{Chunk, Unended
 use Rattle.s80_model.specs.Asked.{Ask, evaluates}
 use Rattle.s80_model.specs.Replies.{AllAsk, Work, reply_to, reply_text, work_after, work_after_all, replies}
 use Rattle.s80_disk.specs.Shown.{Shown, Faults}
-use Rattle.s80_session.specs.Run.{chunks, ItemsOf, FirstItemsOf, AsksOf, BrokeOff, FirstAsksOf, WholeAsksOf, Finished, Unanswered, Unevaluated, input_limit}
+use Rattle.s80_session.specs.Run.{chunks, ItemsOf, FirstItemsOf, AsksOf, BrokeOff, FirstAsksOf, WholeAsksOf, Finished, LostDisk, Unanswered, Unevaluated, input_limit}
 use Rattle.s80_session.proofs.Taking.{first_of}
 use Rattle.s80_program.specs.declared.status.Status.{Status}
 use Rattle.s80_program.specs.declared.status.Status.TheVariants as status
@@ -74,21 +74,15 @@ first_asks one work input asks all (items, first, asked) (list, whole, all_asked
 front_put : (now : Shown) (changes : List Change) (before : List ℕ) (asks more : List Ask) → now.taken ≡ Some (before ++ replies (beginning changes) asks) → PutsFront now.taken changes before (asks ++ more)
 front_put now changes before asks more taken = (replies (beginning changes) asks, replies (work_after_all (beginning changes) asks) more, taken, replies_append (beginning changes) asks more)
 
--- the last reply was put in part
-part_put : (now : Shown) (changes : List Change) (before : List ℕ) (asks : List Ask) (last : Ask) (count : ℕ) (more : List Ask)
-    → now.taken ≡ Some ((before ++ replies (beginning changes) asks) ++ take count (reply_text (reply_to (work_after_all (beginning changes) asks) last))) → PutsFront now.taken changes before ((asks ++ last ∷ []) ++ more)
-part_put now changes before asks last count more taken =
-    let line = reply_text (reply_to (work_after_all (beginning changes) asks) last) in
-    let after = replies (work_after (work_after_all (beginning changes) asks) last) more in
-    let rest = drop count line ++ after in
-    let whole : replies (beginning changes) ((asks ++ last ∷ []) ++ more) ≡ replies (beginning changes) asks ++ (line ++ after) =
-    ap (replies (beginning changes)) (append_assoc asks (last ∷ []) more) ∙ replies_append (beginning changes) asks (last ∷ more) in
-    let cut : line ++ after ≡ take count line ++ rest =
-    ap (λ (l : List ℕ). l ++ after) (sym (take-append-drop count line)) ∙ append_assoc (take count line) (drop count line) after in (
-      replies (beginning changes) asks ++ take count line,
-      rest,
-      taken ∙ ap Some (append_assoc before (replies (beginning changes) asks) (take count line)),
-      whole ∙ ap (λ (l : List ℕ). replies (beginning changes) asks ++ l) cut ∙ sym (append_assoc (replies (beginning changes) asks) (take count line) rest),
+-- a front of the replies was put
+part_put : (now : Shown) (changes : List Change) (before : List ℕ) (asks : List Ask) (count : ℕ) (more : List Ask) → now.taken ≡ Some (before ++ take count (replies (beginning changes) asks)) → PutsFront now.taken changes before (asks ++ more)
+part_put now changes before asks count more taken =
+    let all = replies (beginning changes) asks in
+    let after = replies (work_after_all (beginning changes) asks) more in (
+      take count all,
+      drop count all ++ after,
+      taken,
+      replies_append (beginning changes) asks more ∙ ap (λ (l : List ℕ). l ++ after) (sym (take-append-drop count all)) ∙ append_assoc (take count all) (drop count all) after,
     )
 
 -- a run that answered the first of its items
@@ -100,9 +94,16 @@ first_front one now changes input before asks all first taken whole =
 
 unanswered_front : OneAsk → (may_leave : Image → Type 0) (now : Shown) (changes : List Change) (input before : List ℕ) (all : List Ask) → Unanswered may_leave now (beginning changes) input before → AsksOf (beginning changes) input all → PutsFront now.taken changes before all
 unanswered_front one may_leave now changes input before all h whole =
-    let rest = first_asks one (beginning changes) input (h.asks ++ h.last ∷ []) all h.first whole in
+    let rest = first_asks one (beginning changes) input h.asks all h.first whole in
     let P : List Ask → Type 0 = λ l. PutsFront now.taken changes before l in
-    subst P (sym rest.1) (part_put now changes before h.asks h.last h.count rest.0 h.taken)
+    subst P (sym rest.1) (part_put now changes before h.asks h.count rest.0 h.taken)
+
+-- more was worked than is answered
+lost_front : OneAsk → (may_leave : Image → Type 0) (now : Shown) (changes : List Change) (input before : List ℕ) (all : List Ask) → LostDisk may_leave now (beginning changes) input before → AsksOf (beginning changes) input all → PutsFront now.taken changes before all
+lost_front one may_leave now changes input before all h whole =
+    let rest = first_asks one (beginning changes) input (h.asks ++ h.more) all h.first whole in
+    let P : List Ask → Type 0 = λ l. PutsFront now.taken changes before l in
+    subst P (sym (rest.1 ∙ append_assoc h.asks h.more rest.0)) (front_put now changes before h.asks (h.more ++ rest.0) h.taken)
 
 -- the last doIt was kept, and not evaluated
 unevaluated_front : OneAsk → (may_leave : Image → Type 0) (now : Shown) (changes : List Change) (input before : List ℕ) (all : List Ask) → Unevaluated may_leave now (beginning changes) input before → AsksOf (beginning changes) input all → PutsFront now.taken changes before all
@@ -126,7 +127,7 @@ run_front one status.DoneWithRefusals may_leave now changes input before all h w
 run_front one status.Usage may_leave now changes input before all h whole = absurd h
 run_front one status.ReadFault may_leave now changes input before all h whole = first_front one now changes input before h.asks all (whole_first (beginning changes) h.got h.left input h.asks h.whole h.input_is) h.answered.taken whole
 run_front one status.WriteFault may_leave now changes input before all h whole = unanswered_front one may_leave now changes input before all h whole
-run_front one status.DiskFault may_leave now changes input before all h whole = first_front one now changes input before h.asks all h.first h.taken whole
+run_front one status.DiskFault may_leave now changes input before all h whole = lost_front one may_leave now changes input before all h whole
 run_front one status.Damaged may_leave now changes input before all h whole = absurd h
 run_front one status.OutOfMemory may_leave now changes input before all h whole = broke_off_front one may_leave now changes input before all h whole
 run_front one status.InputTooLong may_leave now changes input before all h whole = first_front one now changes input before h.asks all (whole_first (beginning changes) h.got (h.next ∷ h.left) input h.asks h.whole h.input_is) h.answered.taken whole
@@ -159,7 +160,7 @@ item_front one status.DoneWithRefusals may_leave now changes item before all (as
 item_front one status.Usage may_leave now changes item before all h whole = absurd h
 item_front one status.ReadFault may_leave now changes item before all h whole = absurd h
 item_front one status.WriteFault may_leave now changes item before all (ask, asked, count, stands, taken) whole = part_front one now changes item ask count before all asked taken whole
-item_front one status.DiskFault may_leave now changes item before all h whole = nothing_put now changes before all h
+item_front one status.DiskFault may_leave now changes item before all h whole = nothing_put now changes before all h.taken
 item_front one status.Damaged may_leave now changes item before all h whole = absurd h
 item_front one status.OutOfMemory may_leave now changes item before all (inl h) whole = nothing_put now changes before all (h.taken ∙ ap Some (append-nil before))
 item_front one status.OutOfMemory may_leave now changes item before all (inr (text, told, stopped, asked, stands, taken)) whole = nothing_put now changes before all taken

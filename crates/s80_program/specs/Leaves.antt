@@ -9,8 +9,8 @@ use Rattle.s80_machine.specs.Came.{RanValue}
 use Rattle.s80_model.specs.declared.item.SessionItem.{SessionItem}
 use Rattle.s80_model.specs.Asked.{Ask, evaluates}
 use Rattle.s80_model.specs.Replies.{AllAsk, AsksIn, Work, begun, is_trouble, replies, reply_text, reply_to, work_after}
-use Rattle.s80_session.specs.Run.{ShownFor, Answered, Finished, CutOff, TooLong, BrokeOff, Unanswered, Unevaluated, LostDisk, Keeps, AsksOf, input_limit}
-use Rattle.s80_session.specs.Working.{StepLeaves}
+use Rattle.s80_session.specs.Run.{HasKept, ShownFor, Answered, Finished, CutOff, TooLong, BrokeOff, Unanswered, Unevaluated, LostDisk, Keeps, AsksOf, input_limit}
+use Rattle.s80_session.specs.Working.{IsLost, IsPast, StepLeaves}
 use Rattle.s80_program.specs.declared.status.Status.{Status}
 use Rattle.s80_program.specs.declared.status.Status.TheVariants as status
 use Rattle.s80_program.specs.Command.{Command, Run, Do, Tell, default_settings, item_for}
@@ -33,7 +33,7 @@ RunLeaves status.DoneWithRefusals may_leave now changes input before = (ran : Op
 RunLeaves status.Usage may_leave now changes input before = ⊥
 RunLeaves status.ReadFault may_leave now changes input before = CutOff may_leave now (beginning changes) input before
 RunLeaves status.WriteFault may_leave now changes input before = Unanswered may_leave now (beginning changes) input before
-RunLeaves status.DiskFault may_leave now changes input before = LostDisk now (beginning changes) input before
+RunLeaves status.DiskFault may_leave now changes input before = LostDisk may_leave now (beginning changes) input before
 RunLeaves status.Damaged may_leave now changes input before = ⊥
 RunLeaves status.OutOfMemory may_leave now changes input before = BrokeOff may_leave now (beginning changes) input before ⊎ Unevaluated may_leave now (beginning changes) input before
 RunLeaves status.InputTooLong may_leave now changes input before = TooLong may_leave now (beginning changes) input before
@@ -70,7 +70,7 @@ ItemLeaves status.ReadFault may_leave now changes item before = ⊥
 ItemLeaves status.WriteFault may_leave now changes item before =
     (ask : Ask) × AsksFirst changes item ask × (count : ℕ) × ShownFor may_leave now (list_after changes ask)
     × (now.taken ≡ Some (before ++ take count (reply_text (first_reply changes ask))))
-ItemLeaves status.DiskFault may_leave now changes item before = now.taken ≡ Some before
+ItemLeaves status.DiskFault may_leave now changes item before = IsLost may_leave now before (IsPast (beginning changes) item)
 ItemLeaves status.Damaged may_leave now changes item before = ⊥
 ItemLeaves status.OutOfMemory may_leave now changes item before = Answered may_leave now (beginning changes) before [] ⊎ IsUnevaluated may_leave now changes item before
 ItemLeaves status.InputTooLong may_leave now changes item before = ⊥
@@ -91,6 +91,10 @@ KeepsFor (Some item) changes input before told c = StepLeaves (beginning changes
 
 abbrev pub CommandKeeps : Command → List Change → List ℕ → List ℕ → ℕ → Image → Type 0
 CommandKeeps command = KeepsFor (item_for command)
+
+-- the same behind a run that was killed: until a byte more is told a crash may leave files that stand for the list before its last commit
+abbrev pub KilledKeeps : Command → List Change → List Change → List ℕ → List ℕ → ℕ → Image → Type 0
+KilledKeeps command changes was input before told c = HasKept was (length before) told c ⊎ CommandKeeps command changes input before told c
 
 -- all that a command asks
 abbrev pub AllAsksFor : Option SessionItem → List Change → List ℕ → List Ask → Type 0

@@ -1,5 +1,5 @@
 // What the program does with its words.
-ghost use Rattle.std.specs.Prelude.{◌≡◌, ◌≢◌, ◌<◌, ◌++◌, ℕ, List, [], length, IsTrue, false, None, Some, IfOk, IfErr, IfSome};
+ghost use Rattle.std.specs.Prelude.{◌≡◌, ◌≢◌, ◌⊎◌, ◌<◌, ◌++◌, ℕ, List, [], length, IsTrue, false, None, Some, IfOk, IfErr, IfSome};
 ghost use Rattle.s80_change.specs.declared.change.Change.{Change};
 ghost use Rattle.s80_chunk.specs.Chunks.{item_of};
 ghost use Rattle.s80_disk.specs.declared.disk.FileId.{FileId};
@@ -10,14 +10,15 @@ ghost use Rattle.s80_disk.specs.Moments.{LeavesOnly};
 ghost use Rattle.s80_keeper.specs.declared.start.Damage.{Damage};
 ghost use Rattle.s80_keeper.specs.Start.{IsDamage};
 ghost use Rattle.s80_keeper.specs.Keeper.{Knows};
+ghost use Rattle.s80_keeper.specs.Standing.{FilesStandFor};
 ghost use Rattle.s80_model.specs.Asked.{Ask};
 ghost use Rattle.s80_session.specs.Ending.{Counts, MeetsNoDamage, SourceCounts};
 ghost use Rattle.s80_session.specs.Putting.{IsAsBefore};
 ghost use Rattle.s80_session.specs.Run.{Keeps, ShownFor};
-ghost use Rattle.s80_session.specs.Session.{keeper_of, last_run_of, troubled_of, IsFaultless};
+ghost use Rattle.s80_session.specs.Session.{keeper_of, last_run_of, troubled_of, IsResting};
 ghost use Rattle.s80_session.specs.Working.{IsAt, IsReadable, StepLeaves};
 ghost use Rattle.s80_program.specs.Ending.{IsDiskEnd, NoFault, StatusHasReason, status_after, IsWhole};
-ghost use Rattle.s80_program.specs.Leaves.{StartsWith, Leaves, RunLeaves, ItemLeaves, CommandKeeps, AllAsks, IsWithin, PutsFront, TellsDamage, beginning};
+ghost use Rattle.s80_program.specs.Leaves.{StartsWith, Leaves, RunLeaves, ItemLeaves, CommandKeeps, KilledKeeps, AllAsks, IsWithin, PutsFront, TellsDamage, beginning};
 ghost use Rattle.s80_program.specs.Command.{Command, IsAskingCommand, IsUseful, behind_separators, item_for};
 ghost use Rattle.s80_program.specs.Words.{Asks};
 ghost use Rattle.s80_program.specs.Task.{command_of};
@@ -61,6 +62,13 @@ pub fn st80<O: Outside>(alloc: Global, words: &[Text], outside: &mut O) -> Statu
         → StartsWith (O.may_leave outside.old) (O.shown outside.old) changes input before
         → ShownFor (O.may_leave outside.old) (O.shown outside.old) changes
         → LeavesOnly O.moment O.left_since outside.old outside.new (CommandKeeps command changes input before) }
+
+    // So it is behind a run that was killed as it committed: its disk reads for the list, and a crash might leave that list or the one before.
+    ensures killed { (folder : List ℕ) (command : Command) (changes was : List Change) (input before : List ℕ)
+        → Asks words.now folder command
+        → StartsWith (O.may_leave outside.old) (O.shown outside.old) changes input before
+        → ((c : FileId → List ℕ) → O.may_leave outside.old c → FilesStandFor c changes ⊎ FilesStandFor c was)
+        → LeavesOnly O.moment O.left_since outside.old outside.new (KilledKeeps command changes was input before) }
 
     // However it ends, what it wrote is a front of the replies to all that the command asks.
     ensures front { (folder : List ℕ) (command : Command) (changes : List Change) (input before : List ℕ) (asks : List Ask)
@@ -115,6 +123,10 @@ fn work<O: Outside>(
         → StartsWith (O.may_leave outside.old) (O.shown outside.old) changes input before
         → ShownFor (O.may_leave outside.old) (O.shown outside.old) changes
         → LeavesOnly O.moment O.left_since outside.old outside.new (CommandKeeps (command_of task.entry) changes input before) }
+    ensures killed { (changes was : List Change) (input before : List ℕ)
+        → StartsWith (O.may_leave outside.old) (O.shown outside.old) changes input before
+        → ((c : FileId → List ℕ) → O.may_leave outside.old c → FilesStandFor c changes ⊎ FilesStandFor c was)
+        → LeavesOnly O.moment O.left_since outside.old outside.new (KilledKeeps (command_of task.entry) changes was input before) }
     ensures asked { IsAskingCommand (command_of task.entry)
         → (file : FileId) → file ≢ Mark → (O.shown outside.new).files file ≡ (O.shown outside.old).files file }
     ensures marked { IsAskingCommand (command_of task.entry) → IsTrue (O.shown outside.old).tells → 0 < longer_log (O.shown outside.old).files
@@ -152,7 +164,7 @@ fn do_task<O: Outside>(
     task: Task<'_>,
     outside: &mut O,
 ) -> Result<bool, SessionEnd>
-    requires faultless { IsFaultless session.old }
+    requires resting { IsResting session.old }
     requires useful { IsUseful (command_of task) }
     ensures worked { (changes : List Change) (input before : List ℕ) → (O.shown outside.old).left ≡ Some input
         → troubled_of session.old ≡ false → last_run_of session.old ≡ None
@@ -213,7 +225,7 @@ fn run_input<O: Outside>(
     alloc: Global,
     outside: &mut O,
 ) -> Result<bool, SessionEnd>
-    requires faultless { IsFaultless session.old }
+    requires resting { IsResting session.old }
     ensures worked { (changes : List Change) (input before : List ℕ) → (O.shown outside.old).left ≡ Some input
         → troubled_of session.old ≡ false → last_run_of session.old ≡ None
         → IsAt (O.may_leave outside.old) (O.shown outside.old) session.old (beginning changes) before
@@ -234,7 +246,7 @@ fn answer_item<O: Outside>(
     item: SessionItem,
     outside: &mut O,
 ) -> Result<bool, SessionEnd>
-    requires faultless { IsFaultless session.old }
+    requires resting { IsResting session.old }
     requires readable { IsReadable item }
     ensures worked { (changes : List Change) (before : List ℕ) → troubled_of session.old ≡ false
         → IsAt (O.may_leave outside.old) (O.shown outside.old) session.old (beginning changes) before

@@ -6,8 +6,6 @@ use Rattle.s80_change.specs.declared.change.Change.{Change}
 use Rattle.s80_form.specs.declared.refusal.Refusal.{Refusal}
 use Rattle.s80_change.specs.Block.{block, blocks, log_limit, IsLawful}
 use Rattle.s80_disk.specs.Image.{Image}
-use Rattle.s80_disk.specs.Moments.{LeavesOnly}
-use Rattle.s80_disk.proofs.lemmas.Run.{weaker}
 use Rattle.s80_apply.specs.Accept.{accept}
 use Rattle.s80_apply.specs.List.{IsAccepted, state_of, refusal_to, added, add}
 use Rattle.s80_apply.specs.State.{State}
@@ -17,13 +15,13 @@ use Rattle.s80_history.specs.History.{IsHistoryOf}
 use Rattle.s80_disk.specs.Shown.{Shown}
 use Rattle.s80_keeper.specs.Keeper.{Keeps}
 use Rattle.s80_keeper.specs.Answers.{PreparedChange, IsFor}
-use Rattle.s80_keeper.specs.Standing.{FilesStandFor, LeavesEither}
+use Rattle.s80_keeper.specs.Standing.{StandsFor}
+use Rattle.s80_keeper.proofs.lemmas.Standing.{reads_so}
 use Rattle.s80_model.specs.declared.reply.Reply.TheVariants.{Accepted, Refused}
 use Rattle.s80_model.specs.Replies.{Work, reply_to_adding}
 use Rattle.s80_session.specs.declared.session.Session.{Session}
-use Rattle.s80_session.specs.Run.{HasKept}
-use Rattle.s80_session.specs.Session.{budget_of, keeper_of, section_of}
-use Rattle.s80_session.specs.Working.{IsAt, IsLawfulFor, KeepLeaves, adding}
+use Rattle.s80_session.specs.Session.{budget_of, held_of, keeper_of, section_of}
+use Rattle.s80_session.specs.Working.{Ground, IsAmid, IsLawfulFor, IsLost, adding}
 use Rattle.s80_session.proofs.lemmas.Keeping.{keeps_prepared}
 
 -- the model takes what is accepted and fits
@@ -35,24 +33,25 @@ add_refuses : (changes : List Change) (change : Change) (refusal : Refusal) → 
 add_refuses changes change refusal is = ap (λ r. added r (changes ++ change ∷ [])) is
 
 -- a keeper's log is as long as the blocks of its list
-log_is : (may_leave : Image → Type 0) (o : Shown) (session : Session) (work : Work) (put : List ℕ) → IsAt may_leave o session work put → (keeper_of session).log.end ≡ length (blocks work.changes)
-log_is may_leave o session work put h = h.keeps.holds.whole
+log_is : (may_leave : Image → Type 0) (o : Shown) (session : Session) (work : Work) (ground : Ground) → IsAmid may_leave o session work ground → (keeper_of session).log.end ≡ length (blocks work.changes)
+log_is may_leave o session work ground h = h.keeps.holds.whole
 
 -- a session before and after its keeper prepared a change
-module _ (may_leave : Image → Type 0) (o : Shown) (before now : Session) (work : Work) (put : List ℕ) (change : Change) (same : keeper_of now ≡ record (keeper_of before) { system = (keeper_of now).system; history = (keeper_of now).history }) (system : IsSystemOf (keeper_of now).system (state_of work.changes)) (places : HasPlaces (keeper_of now).system (placed_of work.changes)) (history : IsHistoryOf (keeper_of now).history work.changes) (rest : now ≡ record before { keeper = keeper_of now }) (at : IsAt may_leave o before work put) where
-  pub still_at : IsAt may_leave o now work put
+module _ (may_leave : Image → Type 0) (o : Shown) (before now : Session) (work : Work) (ground : Ground) (change : Change) (same : keeper_of now ≡ record (keeper_of before) { system = (keeper_of now).system; history = (keeper_of now).history }) (system : IsSystemOf (keeper_of now).system (state_of work.changes)) (places : HasPlaces (keeper_of now).system (placed_of work.changes)) (history : IsHistoryOf (keeper_of now).history work.changes) (rest : now ≡ record before { keeper = keeper_of now }) (at : IsAmid may_leave o before work ground) where
+  pub still_at : IsAmid may_leave o now work ground
   still_at = record {
-    keeps = keeps_prepared o.tells o.files may_leave (keeper_of before) work.changes (keeper_of now) same system places history at.keeps;
+    keeps = keeps_prepared o.tells o.files may_leave (keeper_of before) ground.kept (keeper_of now) same system places history at.keeps;
     section = ap section_of rest ∙ at.section;
     brief = at.brief;
     budget = ap budget_of rest ∙ at.budget;
     taken = at.taken;
     told = at.told;
+    held = ap held_of rest ∙ at.held;
   }
 
-  pub refused : (refusal : Refusal) → refusal_to (state_of work.changes) (keeper_of before).log.end change ≡ Some refusal → (Refused refusal ≡ reply_to_adding (add work.changes change)) × IsAt may_leave o now (adding work change) put
+  pub refused : (refusal : Refusal) → refusal_to (state_of work.changes) (keeper_of before).log.end change ≡ Some refusal → (Refused refusal ≡ reply_to_adding (add work.changes change)) × IsAmid may_leave o now (adding work change) ground
   refused refusal is =
-      let end = log_is may_leave o before work put at in
+      let end = log_is may_leave o before work ground at in
       let refuses = add_refuses work.changes change refusal (ap (λ n. refusal_to (state_of work.changes) n change) (sym end) ∙ is) in
       rw refuses (refl, still_at)
 
@@ -63,7 +62,7 @@ module _ (may_leave : Image → Type 0) (o : Shown) (before now : Session) (work
         (makes.0, ap (λ x. accept x (state_of work.changes)) (sym is) ∙ makes.1)
 
     pub takes : (keeper_of before).log.end + length (block change) ≤ log_limit → add work.changes change ≡ Ok (work.changes ++ change ∷ [])
-    takes fits = let end = log_is may_leave o before work put at in add_takes work.changes change accepts.0 accepts.1 (omega (arith, fits, end))
+    takes fits = let end = log_is may_leave o before work ground at in add_takes work.changes change accepts.0 accepts.1 (omega (arith, fits, end))
 
     pub lawful_on : IsLawfulFor work.changes change → IsLawful prepared.change
     lawful_on lawful =
@@ -71,32 +70,32 @@ module _ (may_leave : Image → Type 0) (o : Shown) (before now : Session) (work
         let Q : Result State Refusal → Type 0 = λ r. IsAccepted r in
         subst P (sym is) (lawful (subst Q (sym accepts.1) tt))
 
+-- a session whose keeper has kept or committed something stands on another ground, or at work behind another list
+pub stands_on : (was may_leave : Image → Type 0) (o now : Shown) (before session : Session) (work : Work) (ground : Ground) (front all : List Change) → Keeps now.tells now.files may_leave (keeper_of session) front all → session ≡ record before { keeper = keeper_of session } → now ≡ record o { files = now.files } → IsAmid was o before work ground
+    → IsAmid may_leave now session (record work { changes = all }) (record ground { kept = front })
+stands_on was may_leave o now before session work ground front all keeps rest shown at = record {
+  keeps = keeps;
+  section = ap section_of rest ∙ at.section;
+  brief = at.brief;
+  budget = ap budget_of rest ∙ at.budget;
+  taken = ap (λ (s : Shown). s.taken) shown ∙ at.taken;
+  told = ap (λ (s : Shown). s.told) shown ∙ at.told;
+  held = ap held_of rest ∙ at.held;
+}
+
 -- what was kept
-pub kept : (was may_leave : Image → Type 0) (o now : Shown) (before session : Session) (work : Work) (put : List ℕ) (change : Change) → add work.changes change ≡ Ok (work.changes ++ change ∷ []) → Keeps now.tells now.files may_leave (keeper_of session) (work.changes ++ change ∷ []) (work.changes ++ change ∷ []) → session ≡ record before { keeper = keeper_of session } → now ≡ record o { files = now.files } → IsAt was o before work put
-    → (Accepted ≡ reply_to_adding (add work.changes change)) × IsAt may_leave now session (adding work change) put
-kept was may_leave o now before session work put change takes keeps rest shown at = rw takes (
-  refl,
-  record {
-    keeps = keeps;
-    section = ap section_of rest ∙ at.section;
-    brief = at.brief;
-    budget = ap budget_of rest ∙ at.budget;
-    taken = ap (λ (s : Shown). s.taken) shown ∙ at.taken;
-    told = ap (λ (s : Shown). s.told) shown ∙ at.told;
-  },
-)
+pub kept : (was may_leave : Image → Type 0) (o now : Shown) (before session : Session) (work : Work) (ground : Ground) (change : Change) → add work.changes change ≡ Ok (work.changes ++ change ∷ []) → Keeps now.tells now.files may_leave (keeper_of session) ground.kept (work.changes ++ change ∷ []) → session ≡ record before { keeper = keeper_of session } → now ≡ record o { files = now.files } → IsAmid was o before work ground
+    → (Accepted ≡ reply_to_adding (add work.changes change)) × IsAmid may_leave now session (adding work change) ground
+kept was may_leave o now before session work ground change takes keeps rest shown at = rw takes (refl, stands_on was may_leave o now before session work ground ground.kept (work.changes ++ change ∷ []) keeps rest shown at)
 
--- each moment of the keeping
-keep_leaves : (work : Work) (put : List ℕ) (change : Change) (told_before : ℕ) → add work.changes change ≡ Ok (work.changes ++ change ∷ []) → told_before ≡ length put → (told : ℕ) (c : Image) → LeavesEither told_before work.changes (work.changes ++ change ∷ []) told c → KeepLeaves work put change told c
-keep_leaves work put change told_before takes is told c h =
-    ⊎_elim (λ (files : FilesStandFor c work.changes). inl (record { no_more = omega (arith, h.told_is, is); files = files })) (λ (files : FilesStandFor c (work.changes ++ change ∷ [])). inr (rw takes (record { no_more = omega (arith, h.told_is, is); files = files }))) h.files
-
-module _ {D : Type 0} (moment : D → ℕ) (left_since : D → ℕ → ℕ → Image → Type 0) where
-  pub keep_lasts : (old new : D) (work : Work) (put : List ℕ) (change : Change) (told_before : ℕ) → add work.changes change ≡ Ok (work.changes ++ change ∷ []) → told_before ≡ length put → LeavesOnly moment left_since old new (LeavesEither told_before work.changes (work.changes ++ change ∷ [])) → LeavesOnly moment left_since old new (KeepLeaves work put change)
-  keep_lasts old new work put change told_before takes is run = weaker moment left_since old new (LeavesEither told_before work.changes (work.changes ++ change ∷ [])) (KeepLeaves work put change) run (keep_leaves work put change told_before takes is)
-
-  pub keep_still : (now : D) (work : Work) (put : List ℕ) (change : Change) → LeavesOnly moment left_since now now (HasKept work.changes (length put)) → LeavesOnly moment left_since now now (KeepLeaves work put change)
-  keep_still now work put change run = weaker moment left_since now now (HasKept work.changes (length put)) (KeepLeaves work put change) run (λ told c h. inl h)
+-- a call of the disk failed as a change was to be kept: the disk goes on to stand for what is kept
+pub lost_keeping : (was may_leave : Image → Type 0) (o now : Shown) (session : Session) (work : Work) (ground : Ground) → StandsFor now.tells now.files may_leave ground.kept → now ≡ record o { files = now.files } → IsAmid was o session work ground → IsLost may_leave now ground.put (λ list. list ≡ ground.kept)
+lost_keeping was may_leave o now session work ground stands shown at = record {
+  taken = ap (λ (s : Shown). s.taken) shown ∙ at.taken;
+  list = ground.kept;
+  is = refl;
+  reads = reads_so now.tells now.files may_leave ground.kept stands;
+}
 
 -- no fault is met where one is
 pub not_both : (o : Option Failed) (failed : Failed) → o ≡ None → o ≡ Some failed → ⊥

@@ -1,5 +1,5 @@
--- The items that a reader holds, worked and answered one after another.
-use Rattle.std.proofs.Common.{◌≡◌, inl, inr, ℕ, List, [], ◌∷◌, ◌++◌, take, refl, sym, ap, subst, ◌∙◌, Ok, Err, Option, Some, Bool, append_assoc, arith, IfSome, IfNone}
+-- The items that a reader holds, worked one after another, and their groups.
+use Rattle.std.proofs.Common.{◌≡◌, inl, ℕ, List, [], ◌∷◌, ◌++◌, refl, sym, ap, subst, ◌∙◌, Ok, Option, Some, Bool, arith, IfSome, IfNone}
 use Rattle.std.specs.Prelude.{◌||◌, false, true, option_to_list, None}
 use Rattle.std.proofs.lemmas.List.{append-nil}
 use Rattle.s80_chunk.specs.declared.item.Item.{Item}
@@ -11,16 +11,15 @@ use Rattle.s80_disk.specs.Shown.{Shown, Faults}
 use Rattle.s80_session.specs.declared.session.Session.{Session}
 use Rattle.s80_model.specs.declared.item.SessionItem.{SessionItem}
 use Rattle.s80_model.specs.declared.item.SessionItem.TheVariants.{Chunk}
-use Rattle.s80_session.specs.declared.end.SessionEnd.{SessionEnd}
-use Rattle.s80_session.specs.declared.end.SessionEnd.TheVariants as ends
 use Rattle.s80_session.specs.Ending.{NoFewer}
-use Rattle.s80_model.specs.Asked.{Ask, evaluates}
-use Rattle.s80_model.specs.Replies.{Work, AsksIn, AllAsk, reply_to, reply_text, is_trouble, work_after, work_after_all, replies, any_trouble}
+use Rattle.s80_model.specs.Asked.{Ask}
+use Rattle.s80_model.specs.Replies.{Work, AsksIn, AllAsk, reply_to, is_trouble, work_after, work_after_all, replies, any_trouble}
 use Rattle.s80_machine.specs.Came.{RanValue}
 use Rattle.s80_session.specs.LastRun.{RunBehind, RunBehindAll}
 use Rattle.s80_session.specs.Run.{chunks}
-use Rattle.s80_session.specs.Session.{Was, last_run_of, troubled_of, was_of}
-use Rattle.s80_session.specs.Working.{IsAt, IsReadable, Stepped, IsWorking, BeginsWith, BreaksOff}
+use Rattle.s80_session.specs.Session.{Was, HasSameRest, last_run_of, RunSince, troubled_of, was_of}
+use Rattle.s80_session.specs.Working.{at_rest, BeginsAsking, BeginsWith, Flushed, IsAt, IsDone, IsReadable, IsWorking, Worked}
+use Rattle.s80_session.proofs.Grouping.{behind_done, stands_more}
 
 -- one item more, in the work behind the others
 pub asks_more : (work : Work) (items : List SessionItem) (asks : List Ask) (item : SessionItem) (ask : Ask) → AllAsk work items asks → AsksIn (work_after_all work asks) item ask → AllAsk work (items ++ item ∷ []) (asks ++ ask ∷ [])
@@ -34,20 +33,6 @@ given_asks_more work [] [] item ask all one = (one, tt)
 given_asks_more work [] (other ∷ asks) item ask all one = absurd all
 given_asks_more work (first ∷ given) [] item ask all one = absurd all
 given_asks_more work (first ∷ given) (other ∷ asks) item ask all one = (all.0, given_asks_more (work_after work other) given asks item ask all.1 one)
-
--- the work behind two lists of asks
-pub work_after_both : (work : Work) (asks others : List Ask) → work_after_all work (asks ++ others) ≡ work_after_all (work_after_all work asks) others
-work_after_both work [] others = refl
-work_after_both work (first ∷ asks) others = work_after_both (work_after work first) asks others
-
-pub work_after_more : (work : Work) (asks : List Ask) (ask : Ask) → work_after_all work (asks ++ ask ∷ []) ≡ work_after (work_after_all work asks) ask
-work_after_more work asks ask = work_after_both work asks (ask ∷ [])
-
-pub replies_more : (work : Work) (asks : List Ask) (ask : Ask) → replies work (asks ++ ask ∷ []) ≡ replies work asks ++ reply_text (reply_to (work_after_all work asks) ask)
-replies_more work [] ask = append-nil (reply_text (reply_to work ask))
-replies_more work (first ∷ asks) ask =
-    ap (λ l. reply_text (reply_to work first) ++ l) (replies_more (work_after work first) asks ask)
-    ∙ sym (append_assoc (reply_text (reply_to work first)) (replies (work_after work first) asks) (reply_text (reply_to (work_after_all (work_after work first) asks) ask)))
 
 or_false : (a : Bool) → (a || false) ≡ a
 or_false true = refl
@@ -63,19 +48,6 @@ trouble_more work (first ∷ asks) ask =
     ap (λ b. is_trouble (reply_to work first) || b) (trouble_more (work_after work first) asks ask)
     ∙ or_assoc (is_trouble (reply_to work first)) (any_trouble (work_after work first) asks) (is_trouble (reply_to (work_after_all (work_after work first) asks) ask))
 
--- after one ask more, what stands after all of them
-pub is_at_more : (may_leave : Image → Type 0) (now : Shown) (session : Session) (work : Work) (before : List ℕ) (asks : List Ask) (ask : Ask)
-    → IsAt may_leave now session (work_after (work_after_all work asks) ask) ((before ++ replies work asks) ++ reply_text (reply_to (work_after_all work asks) ask))
-    → IsAt may_leave now session (work_after_all work (asks ++ ask ∷ [])) (before ++ replies work (asks ++ ask ∷ []))
-is_at_more may_leave now session work before asks ask h =
-    let P : Work → Type 0 = λ w. IsAt may_leave now session w (before ++ replies work (asks ++ ask ∷ [])) in
-    let Q : List ℕ → Type 0 = λ l. IsAt may_leave now session (work_after (work_after_all work asks) ask) l in
-    subst P (sym (work_after_more work asks ask))
-    (subst Q (append_assoc before (replies work asks) (reply_text (reply_to (work_after_all work asks) ask)) ∙ ap (λ l. before ++ l) (sym (replies_more work asks ask))) h)
-
-pub list_more : (may_leave : Image → Type 0) (now : Shown) (session : Session) (work : Work) (put : List ℕ) (asks : List Ask) (ask : Ask) → IsAt may_leave now session (work_after (work_after_all work asks) ask) put → IsAt may_leave now session (work_after_all work (asks ++ ask ∷ [])) put
-list_more may_leave now session work put asks ask h = let P : Work → Type 0 = λ w. IsAt may_leave now session w put in subst P (sym (work_after_more work asks ask)) h
-
 -- whether something was refused or stopped by then
 pub troubled_by_now : (past : Bool) (work : Work) (asks : List Ask) (ask : Ask) (was troubled : Bool) → was ≡ (past || any_trouble work asks) → troubled ≡ (was || is_trouble (reply_to (work_after_all work asks) ask)) → troubled ≡ (past || any_trouble work (asks ++ ask ∷ []))
 troubled_by_now past work asks ask was troubled before is =
@@ -87,35 +59,54 @@ pub run_by_now : (work : Work) (asks : List Ask) (ask : Ask) (before mid now : O
 run_by_now work [] ask before mid now all one = (now, (let P : Option RanValue → Type 0 = λ o. RunBehind work ask o now in subst P all one), refl)
 run_by_now work (first ∷ asks) ask before mid now all one = (all.0, all.1, run_by_now (work_after work first) asks ask all.0 mid now all.2 one)
 
--- an item more that a reader gave is worked and answered
+-- an item more that a reader gave is worked
 pub worked_on : (was_left may_leave : Image → Type 0) (mid now : Shown) (at_work session : Session) (had reader : Held) (was : Was) (work : Work) (before bytes : List ℕ) (given : List Item) (item : Item) → (w : IsWorking was_left mid at_work had was work before bytes given) → HasRead reader bytes (given ++ item ∷ [])
-    → Stepped {T = Unit {0}} (Ok tt) may_leave now session (was_of at_work) (work_after_all work w.asks) (before ++ replies work w.asks) (Chunk item)
+    → Worked {T = Unit {0}} (Ok tt) may_leave now session (was_of at_work) (work_after_all work w.asks) w.ground (Chunk item)
     → IsWorking may_leave now session reader was work before bytes (given ++ item ∷ [])
-worked_on was_left may_leave mid now at_work session had reader was work before bytes given item w read h = record {
-  asks = w.asks ++ h.0 ∷ [];
-  read = read;
-  asked = given_asks_more work given w.asks item h.0 w.asked h.1;
-  at = is_at_more may_leave now session work before w.asks h.0 h.4;
-  troubled = troubled_by_now was.troubled work w.asks h.0 (troubled_of at_work) (troubled_of session) w.troubled h.2;
-  last_run = run_by_now work w.asks h.0 was.last_run (last_run_of at_work) (last_run_of session) w.last_run h.3;
+worked_on was_left may_leave mid now at_work session had reader was work before bytes given item w read h =
+    let stands = stands_more work before w.asks h.0 w.ground w.behind may_leave now session h.4 in
+    record {
+      asks = w.asks ++ h.0 ∷ [];
+      read = read;
+      asked = given_asks_more work given w.asks item h.0 w.asked h.1;
+      ground = stands.0;
+      behind = stands.1;
+      at = stands.2;
+      troubled = troubled_by_now was.troubled work w.asks h.0 (troubled_of at_work) (troubled_of session) w.troubled h.2;
+      last_run = run_by_now work w.asks h.0 was.last_run (last_run_of at_work) (last_run_of session) w.last_run h.3;
+    }
+
+-- all that was worked is flushed
+pub flushed_on : (was_left may_leave : Image → Type 0) (mid now : Shown) (at_work session : Session) (reader : Held) (was : Was) (work : Work) (before bytes : List ℕ) (given : List Item) → (w : IsWorking was_left mid at_work reader was work before bytes given) → Flushed {T = Unit {0}} (Ok tt) may_leave now session (work_after_all work w.asks) w.ground → HasSameRest at_work session
+    → IsDone may_leave now session reader was work before bytes given
+flushed_on was_left may_leave mid now at_work session reader was work before bytes given w h same =
+    let P : List ℕ → Type 0 = λ l. IsAt may_leave now session (work_after_all work w.asks) l in
+    let Q : Option RanValue → Type 0 = λ o. RunBehindAll work w.asks was.last_run o in
+    record { asks = w.asks; read = w.read; asked = w.asked; at = subst P w.behind.held h; troubled = same.troubled ∙ w.troubled; last_run = subst Q (sym same.last_run) w.last_run }
+
+-- and more may be worked
+abbrev pub done_on : (may_leave : Image → Type 0) (o : Shown) (session : Session) (reader : Held) (was : Was) (work : Work) (before bytes : List ℕ) (given : List Item) → IsDone may_leave o session reader was work before bytes given → IsWorking may_leave o session reader was work before bytes given
+done_on may_leave o session reader was work before bytes given d = record {
+  asks = d.asks;
+  read = d.read;
+  asked = d.asked;
+  ground = at_rest (work_after_all work d.asks) (before ++ replies work d.asks);
+  behind = behind_done work before d.asks;
+  at = d.at;
+  troubled = d.troubled;
+  last_run = d.last_run;
 }
 
 pub begins : (reader : Held) (ended : Bool) (bytes : List ℕ) (given : List Item) → reader.ended ≡ ended → HasRead reader bytes given → BeginsWith ended bytes given
 begins reader ended bytes given is h = let P : Bool → Type 0 = λ b. BeginsWith b bytes given in subst P is (h.rest, h.reads)
 
--- a step that broke off
-pub broke_off : (T : Type 0) (end : SessionEnd) (may_leave : Image → Type 0) (now : Shown) (session : Session) (was : Was) (ended : Bool) (work : Work) (before bytes : List ℕ) (given : List Item) (asks : List Ask) (item : Item) → BeginsWith ended bytes given → AllAsk work (chunks given) asks → BeginsWith ended bytes (given ++ item ∷ [])
-    → Stepped {T = T} (Err end) may_leave now session was (work_after_all work asks) (before ++ replies work asks) (Chunk item) → BreaksOff end may_leave now session ended work before bytes
-broke_off T ends.Memory may_leave now session was ended work before bytes given asks item had asked has (inl at) = inl (asks, (given, had, asked), at)
-broke_off T ends.Memory may_leave now session was ended work before bytes given asks item had asked has (inr (text, told, stopped, one, at)) =
-    inr (asks, text, told, stopped, (given ++ item ∷ [], has, given_asks_more work given asks item (evaluates text told stopped) asked one), at)
-broke_off T (ends.Disk failed) may_leave now session was ended work before bytes given asks item had asked has h = (asks, (given, had, asked), h)
-broke_off T (ends.Write failed) may_leave now session was ended work before bytes given asks item had asked has h =
-    let put = (before ++ replies work asks) ++ take h.2 (reply_text (reply_to (work_after_all work asks) h.0)) in
-    (asks, h.0, h.2, (given ++ item ∷ [], has, given_asks_more work given asks item h.0 asked h.1), list_more may_leave now session work put asks h.0 h.3)
-broke_off T (ends.Read failed) may_leave now session was ended work before bytes given asks item had asked has h = absurd h
-broke_off T ends.TooLong may_leave now session was ended work before bytes given asks item had asked has h = absurd h
-broke_off T (ends.Damaged damage) may_leave now session was ended work before bytes given asks item had asked has h = absurd h
+-- and what they ask
+pub begins_so : (reader : Held) (ended : Bool) (work : Work) (bytes : List ℕ) (given : List Item) (asks : List Ask) → reader.ended ≡ ended → HasRead reader bytes given → AllAsk work (chunks given) asks → BeginsAsking work ended bytes asks
+begins_so reader ended work bytes given asks is h asked = (given, begins reader ended bytes given is h, asked)
+
+-- one item more asks one thing more
+pub grows : (ended : Bool) (work : Work) (bytes : List ℕ) (given : List Item) (asks : List Ask) (item : Item) → AllAsk work (chunks given) asks → BeginsWith ended bytes (given ++ item ∷ []) → (ask : Ask) → AsksIn (work_after_all work asks) (Chunk item) ask → BeginsAsking work ended bytes (asks ++ ask ∷ [])
+grows ended work bytes given asks item asked has ask one = (given ++ item ∷ [], has, given_asks_more work given asks item ask asked one)
 
 -- an item that a reader gave
 pub read_some : (reader : Held) (bytes : List ℕ) (given : List Item) (o : Option Item) (item : Item) → o ≡ Some item → HasRead reader bytes (given ++ option_to_list o) → HasRead reader bytes (given ++ item ∷ [])
@@ -146,3 +137,7 @@ holds_none o held ended bytes given is h read same =
 
 pub no_fewer_on : (a b c : Faults) → NoFewer a b → NoFewer b c → NoFewer a c
 no_fewer_on a b c p q = record { read = omega (arith, p.read, q.read); write = omega (arith, p.write, q.write); disk = omega (arith, p.disk, q.disk) }
+
+-- what leaves the last run and the budget
+pub run_of_rest : (before now : Session) → HasSameRest before now → RunSince before now
+run_of_rest before now same = record { budget = same.budget; last_run = inl same.last_run }

@@ -1,5 +1,5 @@
 -- A doIt that is kept and evaluated.
-use Rattle.std.proofs.Common.{◌≡◌, ℕ, Bool, false, List, [], ◌∷◌, ◌++◌, length, refl, sym, ap, subst, ◌∙◌, Result, Ok, Err, Option, Some}
+use Rattle.std.proofs.Common.{◌≡◌, inl, ℕ, Bool, false, List, [], ◌∷◌, ◌++◌, length, refl, sym, ap, subst, ◌∙◌, Result, Ok, Err, Option, Some}
 use Rattle.std.specs.Prelude.{None}
 use Rattle.s80_chunk.specs.declared.item.Item.TheVariants as items
 use Rattle.s80_change.specs.declared.change.Change.{Change}
@@ -8,7 +8,6 @@ use Rattle.s80_change.specs.Block.{blocks}
 use Rattle.s80_form.specs.declared.refusal.Refusal.{Refusal}
 use Rattle.s80_form.specs.Form.{IsNoFormText}
 use Rattle.s80_disk.specs.Image.{Image}
-use Rattle.s80_disk.specs.Moments.{LeavesOnly}
 use Rattle.s80_doit.specs.Answer.{EvaluatesTo}
 use Rattle.s80_doit.specs.DoIt.{AreGiven, Fits, IsRunOf, is_stopped}
 use Rattle.s80_disk.specs.Shown.{Shown}
@@ -27,9 +26,8 @@ use Rattle.s80_model.specs.Replies.{Work, AsksIn, IsEvaluated, list_or, reply_to
 use Rattle.s80_model.specs.Settings.{Settings}
 use Rattle.s80_session.specs.declared.session.Session.{Session}
 use Rattle.s80_session.specs.LastRun.{RunBehindAdding}
-use Rattle.s80_session.specs.Session.{Was, budget_of, keeper_of, last_run_of, section_of}
-use Rattle.s80_session.specs.Working.{IsAt, IsUnevaluated, Kept, KeepLeaves, Evaluates, Replied, WorkLeaves, adding}
-use Rattle.s80_session.proofs.Stepping.{kept_lasts}
+use Rattle.s80_session.specs.Session.{Was, budget_of, held_of, keeper_of, last_run_of, section_of}
+use Rattle.s80_session.specs.Working.{Ground, IsAmid, IsUnevaluated, Kept, Evaluates, Replied, adding}
 
 -- ---- what a doIt asks
 
@@ -77,30 +75,31 @@ run_refused (Ok changes) text settings refusal before now e same = absurd (cc)
 run_refused (Err other) text settings refusal before now e same = same
 
 -- a doIt that isn't kept isn't evaluated
-pub replied_unkept : (may_leave : Image → Type 0) (now : Shown) (session : Session) (was : Was) (work : Work) (put text : List ℕ) (refusal : Refusal) → Fits text → IsNoFormText text → last_run_of session ≡ was.last_run → Kept (Ok (Some refusal)) may_leave now session work put (DoIt text) → Replied (Ok (Refused refusal)) may_leave now session was work put (Chunk (items.Plain text))
-replied_unkept may_leave now session was work put text refusal fits none same h =
+pub replied_unkept : (may_leave : Image → Type 0) (now : Shown) (session : Session) (was : Was) (work : Work) (ground : Ground) (text : List ℕ) (refusal : Refusal) → Fits text → IsNoFormText text → last_run_of session ≡ was.last_run → Kept (Ok (Some refusal)) may_leave now session work ground (DoIt text) → Replied (Ok (Refused refusal)) may_leave now session was work ground (Chunk (items.Plain text))
+replied_unkept may_leave now session was work ground text refusal fits none same h =
     let r : Result (List Change) Refusal = add work.changes (DoIt text) in (
       evaluates text [] false,
       ((fits, refl, none), evaluated_refused r text work.settings refusal h.0),
       evaluating_refused r refusal h.0,
       run_refused r text work.settings refusal was.last_run (last_run_of session) h.0 same,
-      h.1,
+      inl h.1,
     )
 
 -- a doIt that is kept
-module _ (may_leave : Image → Type 0) (now : Shown) (mid session : Session) (work : Work) (put text : List ℕ) (fits : Fits text) (none : IsNoFormText text) (rest : session ≡ record mid { last_run = last_run_of session }) (h : Kept (Ok None) may_leave now mid work put (DoIt text)) where
-  is_at : IsAt may_leave now session (adding work (DoIt text)) put
+module _ (may_leave : Image → Type 0) (now : Shown) (mid session : Session) (work : Work) (ground : Ground) (text : List ℕ) (fits : Fits text) (none : IsNoFormText text) (rest : session ≡ record mid { last_run = last_run_of session; held = session.held }) (held : held_of session ≡ held_of mid) (h : Kept (Ok None) may_leave now mid work ground (DoIt text)) where
+  is_at : IsAmid may_leave now session (adding work (DoIt text)) ground
   is_at = record {
-    keeps = let P : KeeperState → Type 0 = λ k. Keeps now.tells now.files may_leave k (adding work (DoIt text)).changes (adding work (DoIt text)).changes in subst P (sym (ap keeper_of rest)) h.1.keeps;
+    keeps = let P : KeeperState → Type 0 = λ k. Keeps now.tells now.files may_leave k ground.kept (adding work (DoIt text)).changes in subst P (sym (ap keeper_of rest)) h.1.keeps;
     section = ap section_of rest ∙ h.1.section;
     brief = h.1.brief;
     budget = ap budget_of rest ∙ h.1.budget;
     taken = h.1.taken;
     told = h.1.told;
+    held = held ∙ h.1.held;
   }
 
   -- and is evaluated
-  pub replied_evaluated : (was : Was) (reply : Reply) → Evaluates {E = Unit {0}} (Ok reply) mid session text → Replied (Ok reply) may_leave now session was work put (Chunk (items.Plain text))
+  pub replied_evaluated : (was : Was) (reply : Reply) → Evaluates {E = Unit {0}} (Ok reply) mid session text → Replied (Ok reply) may_leave now session was work ground (Chunk (items.Plain text))
   replied_evaluated was reply (ran, given, run, evaluated, reply_is, last) =
       let r : Result (List Change) Refusal = add work.changes (DoIt text) in
       let system : SystemState = (keeper_of mid).system in
@@ -112,15 +111,9 @@ module _ (may_leave : Image → Type 0) (now : Shown) (mid session : Session) (w
         ((fits, refl, none), evaluated_added r work.changes text work.settings told stopped h.0 (subst Q h.1.budget (evaluated (state_of (list_or r work.changes)) h.1.keeps.system))),
         reply_is ∙ evaluating_added r told stopped h.0,
         run_added r work.changes text work.settings was.last_run (last_run_of session) system ran h.0 h.1.keeps.system given (subst P h.1.budget run) last,
-        is_at,
+        inl is_at,
       )
 
   -- or memory was wanting for that
-  pub unevaluated : (told : List ℕ) (stopped : Bool) → AsksIn work (Chunk (items.Plain text)) (evaluates text told stopped) → IsUnevaluated may_leave now session work put (Chunk (items.Plain text))
+  pub unevaluated : (told : List ℕ) (stopped : Bool) → AsksIn work (Chunk (items.Plain text)) (evaluates text told stopped) → IsUnevaluated work (Chunk (items.Plain text)) (λ w. IsAmid may_leave now session w ground)
   unevaluated told stopped asks = (text, told, stopped, asks, is_at)
-
--- ---- each moment of the keeping
-
-module _ {D : Type 0} (moment : D → ℕ) (left_since : D → ℕ → ℕ → Image → Type 0) where
-  pub doit_lasts : (old new : D) (work : Work) (put text told : List ℕ) (stopped : Bool) → AsksIn work (Chunk (items.Plain text)) (evaluates text told stopped) → LeavesOnly moment left_since old new (KeepLeaves work put (DoIt text)) → LeavesOnly moment left_since old new (WorkLeaves work put (Chunk (items.Plain text)))
-  doit_lasts old new work put text told stopped asks run = kept_lasts moment left_since old new work put (Chunk (items.Plain text)) (evaluates text told stopped) (DoIt text) asks refl run

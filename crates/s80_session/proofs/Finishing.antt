@@ -1,6 +1,5 @@
 -- The end of an input.
-use Rattle.std.proofs.Common.{◌≡◌, inl, inr, ℕ, ◌≤◌, List, [], ◌∷◌, ◌++◌, length, refl, subst, Result, Ok, Err, Some}
-use Rattle.std.specs.Prelude.{◌||◌}
+use Rattle.std.proofs.Common.{◌≡◌, inl, inr, ℕ, ◌≤◌, List, [], ◌∷◌, ◌++◌, length, refl, sym, subst, ◌∙◌, Result, Ok, Err, Option, Some}
 use Rattle.s80_chunk.specs.declared.item.Item.{Item}
 use Rattle.s80_chunk.specs.declared.rest.Rest.{Rest}
 use Rattle.s80_chunk.specs.declared.rest.Rest.TheVariants as rests
@@ -8,89 +7,96 @@ use Rattle.s80_chunk.specs.Held.{Held, EndsWith}
 use Rattle.s80_chunk.proofs.lemmas.Spelling.{blank_only}
 use Rattle.s80_disk.specs.Image.{Image}
 use Rattle.s80_disk.specs.Shown.{Shown}
+use Rattle.s80_machine.specs.Came.{RanValue}
 use Rattle.s80_session.specs.declared.session.Session.{Session}
 use Rattle.s80_model.specs.declared.item.SessionItem.TheVariants.{Unended}
 use Rattle.s80_session.specs.declared.end.SessionEnd.{SessionEnd}
-use Rattle.s80_session.specs.declared.end.SessionEnd.TheVariants as ends
-use Rattle.s80_model.specs.Asked.{Ask, evaluates}
-use Rattle.s80_model.specs.Replies.{Work, AllAsk, list_after_all, work_after_all, replies, any_trouble}
+use Rattle.s80_model.specs.Asked.{Ask}
+use Rattle.s80_model.specs.Replies.{Work, AllAsk, AsksIn, work_after_all, any_trouble}
 use Rattle.s80_session.specs.LastRun.{RunBehindAll}
-use Rattle.s80_session.specs.Run.{chunks, ItemsOf, FirstItemsOf, Ends, input_limit}
-use Rattle.s80_session.specs.Session.{Was, keeper_of, last_run_of, troubled_of, was_of}
-use Rattle.s80_session.specs.Working.{IsWorking, Stepped}
-use Rattle.s80_session.proofs.Answering.{asks_more, is_at_more, list_more, run_by_now, troubled_by_now}
-use Rattle.s80_session.proofs.lemmas.Keeping.{keeps_stands}
-use Rattle.s80_session.proofs.Taking.{answered_all, unevaluated}
+use Rattle.s80_session.specs.Run.{chunks, ItemsOf, FirstAsksOf, Ends, input_limit}
+use Rattle.s80_session.specs.Session.{Was, HasSameRest, last_run_of, troubled_of, was_of}
+use Rattle.s80_session.specs.Working.{Finishes, Flushed, IsAt, IsFinished, IsWorking, Worked}
+use Rattle.s80_session.proofs.Answering.{asks_more, run_by_now, troubled_by_now}
+use Rattle.s80_session.proofs.Fronts.{first_front, first_of_all}
+use Rattle.s80_session.proofs.Grouping.{broke_by_flush, broke_by_work, stands_more}
+use Rattle.s80_session.proofs.Taking.{answered_all, breaks}
 
 -- behind the last item stand separators alone
-clean_end : (may_leave : Image → Type 0) (now : Shown) (session : Session) (reader : Held) (was : Was) (work : Work) (input before : List ℕ) (given : List Item) → EndsWith rests.Clean input given → IsWorking may_leave now session reader was work before input given → now.left ≡ Some [] → length input ≤ input_limit → Ends {T = Unit {0}} (Ok tt) may_leave now was (was_of session) work input before
-clean_end may_leave now session reader was work input before given h working left within = (
-  any_trouble work working.asks,
-  working.troubled,
-  record {
-    asks = working.asks;
-    all = (chunks given, (given, h.0, h.1, inl (h.2, refl)), working.asked);
-    within = within;
-    left = left;
-    answered = answered_all may_leave now session work before working.asks working.at;
-    troubled = refl;
-    last_run = working.last_run;
-  },
-)
+clean_end : (may_leave : Image → Type 0) (now : Shown) (session : Session) (reader : Held) (was : Was) (work : Work) (input before : List ℕ) (given : List Item) → EndsWith rests.Clean input given → IsWorking may_leave now session reader was work before input given → now.left ≡ Some [] → length input ≤ input_limit → IsFinished may_leave now session was work input before
+clean_end may_leave now session reader was work input before given h w left within = record {
+  asks = w.asks;
+  all = (chunks given, (given, h.0, h.1, inl (h.2, refl)), w.asked);
+  within = within;
+  left = left;
+  ground = w.ground;
+  behind = w.behind;
+  at = w.at;
+  troubled = w.troubled;
+  last_run = w.last_run;
+}
 
-pub ends_clean : (rest : Rest) (may_leave : Image → Type 0) (now : Shown) (session : Session) (reader : Held) (was : Was) (work : Work) (input before : List ℕ) (given : List Item) → rest ≡ rests.Clean → EndsWith rest input given → IsWorking may_leave now session reader was work before input given → now.left ≡ Some [] → length input ≤ input_limit → Ends {T = Unit {0}} (Ok tt) may_leave now was (was_of session) work input before
-ends_clean rest may_leave now session reader was work input before given is h = let P : Rest → Type 0 = λ r. EndsWith r input given in clean_end may_leave now session reader was work input before given (subst P is h)
+pub finished_clean : (rest : Rest) (may_leave : Image → Type 0) (now : Shown) (session : Session) (reader : Held) (was : Was) (work : Work) (input before : List ℕ) (given : List Item) → rest ≡ rests.Clean → EndsWith rest input given → IsWorking may_leave now session reader was work before input given → now.left ≡ Some [] → length input ≤ input_limit → IsFinished may_leave now session was work input before
+finished_clean rest may_leave now session reader was work input before given is h = let P : Rest → Type 0 = λ r. EndsWith r input given in clean_end may_leave now session reader was work input before given (subst P is h)
 
+-- within an item
 unended_items : (input : List ℕ) (given : List Item) (place : ℕ) → EndsWith (rests.Unended place) input given → ItemsOf input (chunks given ++ Unended ∷ [])
 unended_items input given place h = (given, h.0, h.1, inr (λ blank. blank_only h.0 h.2.blank h.2.first h.2.others blank h.2.is_none h.2.whole, refl))
 
--- within an item
-unended_end : {T : Type 0} (r : Result T SessionEnd) (may_leave : Image → Type 0) (now : Shown) (session : Session) (was mid : Was) (work : Work) (input before : List ℕ) (given : List Item) (asks : List Ask) (place : ℕ) → EndsWith (rests.Unended place) input given → AllAsk work (chunks given) asks → mid.troubled ≡ (was.troubled || any_trouble work asks) → RunBehindAll work asks was.last_run mid.last_run
-    → Stepped r may_leave now session mid (work_after_all work asks) (before ++ replies work asks) Unended → now.left ≡ Some [] → length input ≤ input_limit → Ends r may_leave now was (was_of session) work input before
-unended_end (Ok done) may_leave now session was mid work input before given asks place h asked calm run stepped left within = (
-  any_trouble work (asks ++ stepped.0 ∷ []),
-  troubled_by_now was.troubled work asks stepped.0 mid.troubled (troubled_of session) calm stepped.2,
-  record {
-    asks = asks ++ stepped.0 ∷ [];
-    all = (chunks given ++ Unended ∷ [], unended_items input given place h, asks_more work (chunks given) asks Unended stepped.0 asked stepped.1);
-    within = within;
-    left = left;
-    answered = answered_all may_leave now session work before (asks ++ stepped.0 ∷ []) (is_at_more may_leave now session work before asks stepped.0 stepped.4);
-    troubled = refl;
-    last_run = run_by_now work asks stepped.0 was.last_run mid.last_run (last_run_of session) run stepped.3;
-  },
-)
-unended_end (Err ends.Memory) may_leave now session was mid work input before given asks place h asked calm run (inl at) left within = inl (record {
-  asks = asks;
-  first = (chunks given, inl (given, h.0, h.1.reads, refl), asked);
-  answered = answered_all may_leave now session work before asks at;
-})
-unended_end (Err ends.Memory) may_leave now session was mid work input before given asks place h asked calm run (inr (text, told, stopped, one, at)) left within =
-    inr (unevaluated may_leave now session work before input asks text told stopped (chunks given ++ Unended ∷ [], inr (unended_items input given place h), asks_more work (chunks given) asks Unended (evaluates text told stopped) asked one) at)
-unended_end (Err (ends.Disk failed)) may_leave now session was mid work input before given asks place h asked calm run stepped left within = record {
-  asks = asks;
-  first = (chunks given, inl (given, h.0, h.1.reads, refl), asked);
-  taken = stepped;
-}
-unended_end (Err (ends.Write failed)) may_leave now session was mid work input before given asks place h asked calm run stepped left within = record {
-  asks = asks;
-  last = stepped.0;
-  count = stepped.2;
-  first = (chunks given ++ Unended ∷ [], inr (unended_items input given place h), asks_more work (chunks given) asks Unended stepped.0 asked stepped.1);
-  stands = keeps_stands now.tells now.files may_leave (keeper_of session) (list_after_all work (asks ++ stepped.0 ∷ [])) (list_more may_leave now session work _ asks stepped.0 stepped.3).keeps;
-  taken = stepped.3.taken;
-}
-unended_end (Err (ends.Read failed)) may_leave now session was mid work input before given asks place h asked calm run stepped left within = absurd stepped
-unended_end (Err ends.TooLong) may_leave now session was mid work input before given asks place h asked calm run stepped left within = absurd stepped
-unended_end (Err (ends.Damaged damage)) may_leave now session was mid work input before given asks place h asked calm run stepped left within = absurd stepped
+-- what the items before an unended one ask, and what it asks behind them
+pub record IsUnendedInput (work : Work) (input : List ℕ) (given : List Item) (asks : List Ask) : Type 0 where
+  pub first : FirstAsksOf work input asks
+  pub items : ItemsOf input (chunks given ++ Unended ∷ [])
+  pub grows : (ask : Ask) → AsksIn (work_after_all work asks) Unended ask → FirstAsksOf work input (asks ++ ask ∷ [])
 
-pub ends_unended : {T : Type 0} (rest : Rest) (r : Result T SessionEnd) (may_leave : Image → Type 0) (now : Shown) (session : Session) (was mid : Was) (work : Work) (input before : List ℕ) (given : List Item) (asks : List Ask) (place : ℕ) → rest ≡ rests.Unended place → EndsWith rest input given → AllAsk work (chunks given) asks → mid.troubled ≡ (was.troubled || any_trouble work asks) → RunBehindAll work asks was.last_run mid.last_run
-    → Stepped r may_leave now session mid (work_after_all work asks) (before ++ replies work asks) Unended → now.left ≡ Some [] → length input ≤ input_limit → Ends r may_leave now was (was_of session) work input before
-ends_unended rest r may_leave now session was mid work input before given asks place is h = let P : Rest → Type 0 = λ x. EndsWith x input given in unended_end r may_leave now session was mid work input before given asks place (subst P is h)
-
--- the items up to an unended one, and with it
-pub unended_whole : (rest : Rest) (input : List ℕ) (given : List Item) (place : ℕ) → rest ≡ rests.Unended place → EndsWith rest input given → FirstItemsOf input (chunks given) × FirstItemsOf input (chunks given ++ Unended ∷ [])
-unended_whole rest input given place is h =
+pub unended_input : (rest : Rest) (work : Work) (input : List ℕ) (given : List Item) (asks : List Ask) (place : ℕ) → rest ≡ rests.Unended place → EndsWith rest input given → AllAsk work (chunks given) asks → IsUnendedInput work input given asks
+unended_input rest work input given asks place is h asked =
     let P : Rest → Type 0 = λ x. EndsWith x input given in
     let e = subst P is h in
-    (inl (given, e.0, e.1.reads, refl), inr (unended_items input given place e))
+    let items = unended_items input given place e in
+    record {
+      first = (chunks given, inl (given, e.0, e.1.reads, refl), asked);
+      items = items;
+      grows = λ ask one. (chunks given ++ Unended ∷ [], inr items, asks_more work (chunks given) asks Unended ask asked one);
+    }
+
+pub finished_unended : {T : Type 0} (r : Result T SessionEnd) (was_left may_leave : Image → Type 0) (mid now : Shown) (at_work session : Session) (reader : Held) (was : Was) (work : Work) (input before : List ℕ) (given : List Item) → (w : IsWorking was_left mid at_work reader was work before input given) → IsUnendedInput work input given w.asks
+    → Worked r may_leave now session (was_of at_work) (work_after_all work w.asks) w.ground Unended → now.left ≡ Some [] → length input ≤ input_limit → Finishes r may_leave now session was work input before
+finished_unended (Ok done) was_left may_leave mid now at_work session reader was work input before given w u h left within =
+    let stands = stands_more work before w.asks h.0 w.ground w.behind may_leave now session h.4 in
+    record {
+      asks = w.asks ++ h.0 ∷ [];
+      all = (chunks given ++ Unended ∷ [], u.items, asks_more work (chunks given) w.asks Unended h.0 w.asked h.1);
+      within = within;
+      left = left;
+      ground = stands.0;
+      behind = stands.1;
+      at = stands.2;
+      troubled = troubled_by_now was.troubled work w.asks h.0 (troubled_of at_work) (troubled_of session) w.troubled h.2;
+      last_run = run_by_now work w.asks h.0 was.last_run (last_run_of at_work) (last_run_of session) w.last_run h.3;
+    }
+finished_unended (Err end) was_left may_leave mid now at_work session reader was work input before given w u h left within =
+    breaks (Unit {0}) end may_leave now session (FirstAsksOf work input) was (was_of session) work before input (λ asks first. first)
+    (broke_by_work (FirstAsksOf work input) (first_front work input) work before w.asks w.ground u.first w.behind Unended u.grows (Unit {0}) end may_leave now session (was_of at_work) h)
+
+-- all of it is flushed
+pub finished_ends : {T : Type 0} (r : Result T SessionEnd) (was_left may_leave : Image → Type 0) (mid now : Shown) (at_work session : Session) (was : Was) (work : Work) (input before : List ℕ) → (f : IsFinished was_left mid at_work was work input before) → Flushed r may_leave now session (work_after_all work f.asks) f.ground → HasSameRest at_work session → now.left ≡ mid.left
+    → Ends r may_leave now was (was_of session) work input before
+finished_ends (Ok done) was_left may_leave mid now at_work session was work input before f h same left =
+    let P : List ℕ → Type 0 = λ l. IsAt may_leave now session (work_after_all work f.asks) l in
+    let Q : Option RanValue → Type 0 = λ o. RunBehindAll work f.asks was.last_run o in (
+      any_trouble work f.asks,
+      same.troubled ∙ f.troubled,
+      record {
+        asks = f.asks;
+        all = f.all;
+        within = f.within;
+        left = left ∙ f.left;
+        answered = answered_all may_leave now session work before f.asks (subst P f.behind.held h);
+        troubled = refl;
+        last_run = subst Q (sym same.last_run) f.last_run;
+      },
+    )
+finished_ends (Err end) was_left may_leave mid now at_work session was work input before f h same left =
+    breaks (Unit {0}) end may_leave now session (FirstAsksOf work input) was (was_of session) work before input (λ asks first. first)
+    (broke_by_flush (FirstAsksOf work input) (first_front work input) work before f.asks f.ground (first_of_all work input f.asks f.all) f.behind (Unit {0}) end may_leave now session h)

@@ -2,9 +2,15 @@ pub mod lemmas
 pub mod Adding
 pub mod Answering
 pub mod Asking
+pub mod Breaking
 pub mod Brief
 pub mod Evaluating
 pub mod Finishing
+pub mod Flushing
+pub mod Fronts
+pub mod Grouped
+pub mod Grouping
+pub mod Holding
 pub mod Lawful
 pub mod Marking
 pub mod Noting
@@ -14,3 +20,4 @@ pub mod Taking
 pub mod Telling
 pub mod UnderWay
 pub mod Unmarked
+pub mod Works

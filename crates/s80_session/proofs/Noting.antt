@@ -1,7 +1,10 @@
--- The note of a snapshot is a lawful doIt: its text is one comment, so its tree has no statement, and none of the forms.
-use Rattle.std.proofs.Common.{◌≡◌, inl, inr, ◌+◌, [], Ok, length, codes, false, refl, ap, subst, arith, length-append}
+-- The note of a snapshot is a lawful doIt: its text is one comment, so its tree has no statement, and none of the forms. It is kept behind a
+-- flush, and committed.
+use Rattle.std.proofs.Common.{◌≡◌, ◌⊎◌, inl, inr, ⊎_elim, ◌+◌, ◌++◌, ℕ, List, [], Ok, Err, length, codes, false, refl, ap, sym, subst, arith, length-append}
+use Rattle.std.proofs.lemmas.List.{append-nil}
 use Rattle.s80_chunk.specs.Chunks.{IsPlainText}
 use Rattle.s80_change.specs.Block.{IsLawful}
+use Rattle.s80_change.specs.declared.change.Change.{Change}
 use Rattle.s80_change.specs.declared.change.Change.TheVariants.{DoIt}
 use Rattle.s80_change.proofs.lemmas.TextOf.{no_form_text}
 use Rattle.s80_form.specs.declared.form.Form.{Form}
@@ -16,7 +19,20 @@ use Rattle.s80_lex.proofs.lemmas.Standing.{comment_stands}
 use Rattle.s80_tree.specs.declared.name.NameAt.{NameAt}
 use Rattle.s80_tree.specs.Tree.{DoItParts, MessageTrees, no_stmts, stmts}
 use Rattle.s80_syntax.specs.Text.{IsDoItOf}
-use Rattle.s80_model.specs.Asked.{snapshot_note}
+use Rattle.s80_disk.specs.Image.{Image}
+use Rattle.s80_disk.specs.Moments.{LeavesOnly}
+use Rattle.s80_disk.specs.Shown.{Shown}
+use Rattle.s80_disk.proofs.lemmas.Run.{joined}
+use Rattle.s80_model.specs.declared.item.SessionItem.{SessionItem}
+use Rattle.s80_model.specs.Asked.{adds, snapshot_note, Asks}
+use Rattle.s80_model.specs.Replies.{Work}
+use Rattle.s80_session.specs.declared.end.SessionEnd.{SessionEnd}
+use Rattle.s80_session.specs.declared.end.SessionEnd.TheVariants as ends
+use Rattle.s80_session.specs.declared.session.Session.{Session}
+use Rattle.s80_session.specs.Run.{HasKept}
+use Rattle.s80_session.specs.Working.{Ground, Committed, Flushed, IsPast, Noted, Unworked, adding, flushed, CommitLeaves, FlushLeaves, WorkLeaves}
+use Rattle.s80_session.proofs.Stepping.{lost_among}
+use Rattle.s80_session.proofs.lemmas.Grounds.{flushed_works, work_still}
 
 -- a doIt that does nothing
 abbrev nothing : DoItParts
@@ -65,3 +81,51 @@ note_plain = (λ blank. cc, λ e. cc, omega arith)
 
 pub note_lawful : IsLawful (DoIt snapshot_note)
 note_lawful = (note_plain, no_form_text snapshot_note nothing note_tree no_form)
+
+-- ---- what keeping it leaves
+
+-- the flush before it failed
+pub flush_unnoted : (end : SessionEnd) (may_leave : Image → Type 0) (now : Shown) (session : Session) (work : Work) (ground : Ground) (item : SessionItem) → Flushed {T = Unit {0}} (Err end) may_leave now session work ground → Noted (Err end) may_leave now session work ground item
+flush_unnoted ends.Memory may_leave now session work ground item h = absurd h
+flush_unnoted (ends.Disk failed) may_leave now session work ground item h = inl (lost_among may_leave now ground.put (λ list. (list ≡ ground.kept) ⊎ (list ≡ work.changes)) (λ list. (list ≡ ground.kept) ⊎ IsPast work item list) (λ list. ⊎_elim (λ same. inl same) (λ same. inr (inl same))) h)
+flush_unnoted (ends.Write failed) may_leave now session work ground item h = h
+flush_unnoted (ends.Read failed) may_leave now session work ground item h = h
+flush_unnoted ends.TooLong may_leave now session work ground item h = h
+flush_unnoted (ends.Damaged damage) may_leave now session work ground item h = h
+
+-- it wasn't kept
+pub unkept_unnoted : (end : SessionEnd) (may_leave : Image → Type 0) (now : Shown) (session : Session) (work : Work) (ground : Ground) (item : SessionItem) → Unworked end may_leave now session work (flushed work ground) → Noted (Err end) may_leave now session work ground item
+unkept_unnoted ends.Memory may_leave now session work ground item h = inr h
+unkept_unnoted (ends.Disk failed) may_leave now session work ground item h = inr (lost_among may_leave now (ground.put ++ ground.held) (λ list. list ≡ work.changes) (IsPast work item) (λ list same. inl same) h)
+unkept_unnoted (ends.Write failed) may_leave now session work ground item h = absurd h
+unkept_unnoted (ends.Read failed) may_leave now session work ground item h = h
+unkept_unnoted ends.TooLong may_leave now session work ground item h = h
+unkept_unnoted (ends.Damaged damage) may_leave now session work ground item h = h
+
+-- or it wasn't committed
+pub uncommitted_unnoted : (end : SessionEnd) (may_leave : Image → Type 0) (now : Shown) (session : Session) (work : Work) (ground : Ground) (item : SessionItem) → Asks item (adds (DoIt snapshot_note)) → Committed {T = Unit {0}} (Err end) may_leave now session (adding work (DoIt snapshot_note)) (flushed work ground) → Noted (Err end) may_leave now session work ground item
+uncommitted_unnoted (ends.Disk failed) may_leave now session work ground item asks h =
+    let w : Work = adding work (DoIt snapshot_note) in
+    inr (lost_among may_leave now (ground.put ++ ground.held) (λ list. (list ≡ work.changes) ⊎ (list ≡ w.changes)) (IsPast work item) (λ list. ⊎_elim (λ same. inl same) (λ same. inr (adds (DoIt snapshot_note), (asks, tt), same))) h)
+uncommitted_unnoted ends.Memory may_leave now session work ground item asks h = absurd h
+uncommitted_unnoted (ends.Write failed) may_leave now session work ground item asks h = absurd h
+uncommitted_unnoted (ends.Read failed) may_leave now session work ground item asks h = h
+uncommitted_unnoted ends.TooLong may_leave now session work ground item asks h = h
+uncommitted_unnoted (ends.Damaged damage) may_leave now session work ground item asks h = h
+
+-- what a crash leaves while it is committed
+commit_works : (work : Work) (ground : Ground) (item : SessionItem) (told : ℕ) (c : Image) → Asks item (adds (DoIt snapshot_note)) → CommitLeaves (adding work (DoIt snapshot_note)) (flushed work ground) told c → WorkLeaves work (flushed work ground) item told c
+commit_works work ground item told c asks (inl h) = inl (inl h)
+commit_works work ground item told c asks (inr h) =
+    let w : Work = adding work (DoIt snapshot_note) in
+    let P : List ℕ → Type 0 = λ l. HasKept w.changes (length l) told c in
+    inr (adds (DoIt snapshot_note), (asks, tt), subst P (sym (append-nil (ground.put ++ ground.held))) h)
+
+module _ {D : Type 0} (moment : D → ℕ) (left_since : D → ℕ → ℕ → Image → Type 0) where
+  -- behind a flush
+  pub keeping_lasts : (old mid new : D) (work : Work) (ground : Ground) (item : SessionItem) → LeavesOnly moment left_since old mid (FlushLeaves work ground) → LeavesOnly moment left_since mid new (HasKept work.changes (length (ground.put ++ ground.held))) → LeavesOnly moment left_since old new (WorkLeaves work ground item)
+  keeping_lasts old mid new work ground item first second = flushed_works moment left_since old mid new work ground item first (work_still moment left_since mid new work (flushed work ground) item second)
+
+  pub noting_lasts : (old mid kept new : D) (work : Work) (ground : Ground) (item : SessionItem) → Asks item (adds (DoIt snapshot_note)) → LeavesOnly moment left_since old mid (FlushLeaves work ground) → LeavesOnly moment left_since mid kept (HasKept work.changes (length (ground.put ++ ground.held))) → LeavesOnly moment left_since kept new (CommitLeaves (adding work (DoIt snapshot_note)) (flushed work ground)) → LeavesOnly moment left_since old new (WorkLeaves work ground item)
+  noting_lasts old mid kept new work ground item asks first second third =
+      flushed_works moment left_since old mid new work ground item first (joined moment left_since mid kept new (WorkLeaves work (flushed work ground) item) (CommitLeaves (adding work (DoIt snapshot_note)) (flushed work ground)) (work_still moment left_since mid kept work (flushed work ground) item second) third (λ told c h. commit_works work ground item told c asks h))

@@ -1,3 +1,6 @@
+pub mod Amid
 pub mod Elsewhere
+pub mod Grounds
+pub mod Groups
 pub mod Keeping
 pub mod Lasting

@@ -37,14 +37,44 @@ abbrev pub MeetsNoDamage : {T : Type 0} → Result T SessionEnd → Type 0
 MeetsNoDamage (Err (ends.Damaged damage)) = ⊥
 MeetsNoDamage _ = Unit {0}
 
--- work ends so before its answer: no byte was to be taken or put
+-- where a call of the disk failed, and where one of the output did
+abbrev pub IsDiskEnd : SessionEnd → Type 0
+IsDiskEnd (ends.Disk failed) = Unit {0}
+IsDiskEnd _ = ⊥
+
+abbrev pub IsWriteEnd : SessionEnd → Type 0
+IsWriteEnd (ends.Write failed) = Unit {0}
+IsWriteEnd _ = ⊥
+
+-- a flush ends so
+abbrev pub IsFlushEnd : SessionEnd → Type 0
+IsFlushEnd (ends.Disk failed) = Unit {0}
+IsFlushEnd (ends.Write failed) = Unit {0}
+IsFlushEnd _ = ⊥
+
+-- what keeps or reads ends so: no byte was to be taken or put
+abbrev pub IsKeepEnd : SessionEnd → Type 0
+IsKeepEnd ends.Memory = Unit {0}
+IsKeepEnd (ends.Disk failed) = Unit {0}
+IsKeepEnd (ends.Damaged damage) = Unit {0}
+IsKeepEnd (ends.Read failed) = ⊥
+IsKeepEnd (ends.Write failed) = ⊥
+IsKeepEnd ends.TooLong = ⊥
+
+-- work ends so: no byte was to be taken
 abbrev pub IsWorkEnd : SessionEnd → Type 0
 IsWorkEnd ends.Memory = Unit {0}
 IsWorkEnd (ends.Disk failed) = Unit {0}
 IsWorkEnd (ends.Damaged damage) = Unit {0}
+IsWorkEnd (ends.Write failed) = Unit {0}
 IsWorkEnd (ends.Read failed) = ⊥
-IsWorkEnd (ends.Write failed) = ⊥
 IsWorkEnd ends.TooLong = ⊥
+
+-- this holds where all went well, or memory was wanting
+abbrev pub OnOkOrMemory : {T : Type 0} → Result T SessionEnd → Type 0 → Type 0
+OnOkOrMemory (Ok value) P = P
+OnOkOrMemory (Err ends.Memory) P = P
+OnOkOrMemory (Err _) P = Unit {0}
 
 -- the same where the log is read again: it may be damaged
 abbrev pub EndsForReasonOrDamage : {T : Type 0} → Faults → Faults → Result T SessionEnd → Type 0

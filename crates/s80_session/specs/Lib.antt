@@ -1,3 +1,4 @@
+pub mod Replies
 pub mod Plain
 pub mod Ending
 pub mod Ends

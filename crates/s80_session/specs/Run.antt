@@ -1,12 +1,12 @@
 -- What a run leaves: on its disk, of its input and in its output.
-use Rattle.std.specs.Prelude.{◌≡◌, ◌⊎◌, ℕ, ◌^◌, ◌≤◌, ◌||◌, Bool, true, false, List, [], ◌∷◌, ◌++◌, length, map, take, Option, Some, Result, Ok, Err}
+use Rattle.std.specs.Prelude.{◌≡◌, ◌⊎◌, ℕ, ◌^◌, ◌<◌, ◌≤◌, ◌||◌, Bool, true, false, List, [], ◌∷◌, ◌++◌, length, map, take, Option, Some, Result, Ok, Err}
 use Rattle.s80_chunk.specs.declared.item.Item.{Item}
 use Rattle.s80_chunk.specs.Chunks.{Reads, IsReading, IsBlank}
 use Rattle.s80_chunk.specs.Held.{HoldsNoMore}
 use Rattle.s80_change.specs.declared.change.Change.{Change}
 use Rattle.s80_disk.specs.Image.{Image}
 use Rattle.s80_disk.specs.Shown.{Shown}
-use Rattle.s80_keeper.specs.Standing.{FilesStandFor, StandsFor}
+use Rattle.s80_keeper.specs.Standing.{FilesStandFor, ReadsFor, StandsFor}
 use Rattle.s80_model.specs.declared.item.SessionItem.{SessionItem}
 use Rattle.s80_model.specs.declared.item.SessionItem.TheVariants.{Chunk, Unended}
 use Rattle.s80_session.specs.declared.end.SessionEnd.{SessionEnd}
@@ -101,14 +101,14 @@ pub record BrokeOff (may_leave : Image → Type 0) (now : Shown) (work : Work) (
   pub first : FirstAsksOf work input asks
   pub answered : Answered may_leave now work before asks
 
--- a run whose output failed within the reply to an item that it had worked
+-- a run whose output failed within the replies to what it had worked and kept
 pub record Unanswered (may_leave : Image → Type 0) (now : Shown) (work : Work) (input before : List ℕ) : Type 0 where
   pub asks : List Ask
-  pub last : Ask
   pub count : ℕ
-  pub first : FirstAsksOf work input (asks ++ last ∷ [])
-  pub stands : ShownFor may_leave now (list_after_all work (asks ++ last ∷ []))
-  pub taken : now.taken ≡ Some ((before ++ replies work asks) ++ take count (reply_text (reply_to (work_after_all work asks) last)))
+  pub short : count < length (replies work asks)
+  pub first : FirstAsksOf work input asks
+  pub stands : ShownFor may_leave now (list_after_all work asks)
+  pub taken : now.taken ≡ Some (before ++ take count (replies work asks))
 
 -- a run that kept a doIt, and had no memory to evaluate it
 pub record Unevaluated (may_leave : Image → Type 0) (now : Shown) (work : Work) (input before : List ℕ) : Type 0 where
@@ -120,11 +120,13 @@ pub record Unevaluated (may_leave : Image → Type 0) (now : Shown) (work : Work
   pub stands : ShownFor may_leave now (list_after_all work (asks ++ evaluates text told stopped ∷ []))
   pub taken : now.taken ≡ Some (before ++ replies work asks)
 
--- a run whose disk failed: nothing is said of the disk
-pub record LostDisk (now : Shown) (work : Work) (input before : List ℕ) : Type 0 where
+-- a run whose disk failed: the disk reads for the list after the first items, up to one at least whose reply was put
+pub record LostDisk (may_leave : Image → Type 0) (now : Shown) (work : Work) (input before : List ℕ) : Type 0 where
   pub asks : List Ask
-  pub first : FirstAsksOf work input asks
+  pub more : List Ask
+  pub first : FirstAsksOf work input (asks ++ more)
   pub taken : now.taken ≡ Some (before ++ replies work asks)
+  pub reads : ReadsFor now.tells now.files may_leave (list_after_all work (asks ++ more))
 
 -- what a run leaves, by how it ends, with what the session held before it and holds now
 abbrev pub Ends : {T : Type 0} → Result T SessionEnd → (Image → Type 0) → Shown → Was → Was → Work → List ℕ → List ℕ → Type 0
@@ -133,7 +135,7 @@ Ends (Ok done) may_leave now was is work input before =
 Ends (Err ends.Memory) may_leave now was is work input before = BrokeOff may_leave now work input before ⊎ Unevaluated may_leave now work input before
 Ends (Err (ends.Read failed)) may_leave now was is work input before = CutOff may_leave now work input before
 Ends (Err (ends.Write failed)) may_leave now was is work input before = Unanswered may_leave now work input before
-Ends (Err (ends.Disk failed)) may_leave now was is work input before = LostDisk now work input before
+Ends (Err (ends.Disk failed)) may_leave now was is work input before = LostDisk may_leave now work input before
 Ends (Err (ends.Damaged damage)) may_leave now was is work input before = ⊥
 Ends (Err ends.TooLong) may_leave now was is work input before = TooLong may_leave now work input before
 

@@ -1,11 +1,11 @@
 -- What a session holds.
-use Rattle.std.specs.Prelude.{◌≡◌, ◌⊎◌, ◌||◌, ℕ, Bool, List, Option, None, Some, Result, Ok, Err, take}
+use Rattle.std.specs.Prelude.{◌≡◌, ◌⊎◌, ◌<◌, ◌||◌, ◌++◌, ℕ, Bool, List, [], length, Option, None, Some, Result, Ok, Err, take}
 use Rattle.std.specs.Io.KnownBytes.{Appends}
 use Rattle.s80_form.specs.Form.{IsNoFormText}
 use Rattle.s80_chunk.specs.declared.item.Item.TheVariants as items
 use Rattle.s80_apply.specs.System.{SystemState}
 use Rattle.s80_doit.specs.DoIt.{AreGiven, Fits, IsRunOf}
-use Rattle.s80_keeper.specs.Keeper.{KeeperState}
+use Rattle.s80_keeper.specs.Keeper.{KeeperState, pending_of}
 use Rattle.s80_machine.specs.Came.{RanValue}
 use Rattle.s80_model.specs.declared.item.SessionItem.{SessionItem}
 use Rattle.s80_model.specs.declared.item.SessionItem.TheVariants.{Chunk}
@@ -38,6 +38,14 @@ last_run_of session = session.last_run
 abbrev pub troubled_of : Session → Bool
 troubled_of session = session.troubled
 
+-- the replies that are held
+abbrev pub held_of : Session → List ℕ
+held_of session = session.held.bytes
+
+-- for how many bytes more there is room among them
+abbrev pub room_of : Session → ℕ
+room_of session = session.held.room
+
 -- what a session held before: whether something was refused or stopped, and its last run
 pub record Was : Type 0 where
   pub troubled : Bool
@@ -49,6 +57,23 @@ was_of session = record { troubled = session.troubled; last_run = session.last_r
 -- no call of the disk has failed in it
 abbrev pub IsFaultless : Session → Type 0
 IsFaultless session = session.keeper.fault ≡ None
+
+-- its section, budget, last run and trouble are as before
+pub record HasSameRest (before now : Session) : Type 0 where
+  pub section : section_of now ≡ section_of before
+  pub troubled : troubled_of now ≡ troubled_of before
+  pub budget : budget_of now ≡ budget_of before
+  pub last_run : last_run_of now ≡ last_run_of before
+
+-- with so many bytes pending or held they are flushed
+abbrev pub group_limit : ℕ
+group_limit = 65536
+
+-- no call of the disk has failed in it, nothing is pending, and no reply is held
+pub record IsResting (session : Session) : Type 0 where
+  pub faultless : IsFaultless session
+  pub settled : pending_of session.keeper ≡ 0
+  pub silent : held_of session ≡ []
 
 -- it stands at the top level of its input, a doIt may take so many ticks in it, and none was evaluated yet
 pub record HasBegun (ticks : ℕ) (session : Session) : Type 0 where
@@ -87,9 +112,9 @@ RunAfterWork (Err end) item before now = last_run_of now ≡ last_run_of before
 abbrev pub RunAfter : {T : Type 0} → Result T SessionEnd → SessionItem → Session → Session → Type 0
 RunAfter (Ok done) item before now = (last_run_of now ≡ last_run_of before) ⊎ HasRun item now
 RunAfter (Err (ends.Write failed)) item before now = (last_run_of now ≡ last_run_of before) ⊎ HasRun item now
+RunAfter (Err (ends.Disk failed)) item before now = (last_run_of now ≡ last_run_of before) ⊎ HasRun item now
 RunAfter (Err ends.Memory) item before now = last_run_of now ≡ last_run_of before
 RunAfter (Err (ends.Read failed)) item before now = last_run_of now ≡ last_run_of before
-RunAfter (Err (ends.Disk failed)) item before now = last_run_of now ≡ last_run_of before
 RunAfter (Err (ends.Damaged damage)) item before now = last_run_of now ≡ last_run_of before
 RunAfter (Err ends.TooLong) item before now = last_run_of now ≡ last_run_of before
 
@@ -117,17 +142,41 @@ TakesLine (Err (ends.Disk failed)) before now line = ⊥
 TakesLine (Err (ends.Damaged damage)) before now line = ⊥
 TakesLine (Err ends.TooLong) before now line = ⊥
 
+-- after what was held was to be put: the output took it, or a front of it, or nothing where the disk failed before
+abbrev pub TakesHeld : {T : Type 0} → Result T SessionEnd → Option (List ℕ) → Option (List ℕ) → List ℕ → Type 0
+TakesHeld (Ok done) before now held = Appends before now held
+TakesHeld (Err (ends.Write failed)) before now held = (count : ℕ) × (count < length held) × Appends before now (take count held)
+TakesHeld (Err (ends.Disk failed)) before now held = now ≡ before
+TakesHeld (Err ends.Memory) before now held = ⊥
+TakesHeld (Err (ends.Read failed)) before now held = ⊥
+TakesHeld (Err (ends.Damaged damage)) before now held = ⊥
+TakesHeld (Err ends.TooLong) before now held = ⊥
+
+-- a reply more is held, alone or behind others, and something was refused or stopped if it was so before, or this reply says so
+abbrev pub HasHeld : Session → Session → Type 0
+HasHeld before now =
+    (reply : Reply) × ((held_of now ≡ held_of before ++ reply_text reply) ⊎ (held_of now ≡ reply_text reply)) × (troubled_of now ≡ (troubled_of before || is_trouble reply))
+
+-- after the work on an item: where it breaks off no trouble is noted
+abbrev pub TroubleWhile : {T : Type 0} → Result T SessionEnd → Session → Session → Type 0
+TroubleWhile (Ok done) before now = HasHeld before now
+TroubleWhile (Err end) before now = troubled_of now ≡ troubled_of before
+
 -- a reply was put, and something was refused or stopped if it was so before, or this reply says so
 abbrev pub HasReplied : {T : Type 0} → Result T SessionEnd → Option (List ℕ) → Option (List ℕ) → Session → Session → Type 0
 HasReplied result taken_before taken_now before now =
     (reply : Reply) × TakesLine result taken_before taken_now (reply_text reply) × (troubled_of now ≡ (troubled_of before || is_trouble reply))
 
--- after an item, with what the output took: where none is put, no trouble is noted
+-- something was refused or stopped if it was so before, or a reply says so
+abbrev pub HasMet : Session → Session → Type 0
+HasMet before now = (reply : Reply) × (troubled_of now ≡ (troubled_of before || is_trouble reply))
+
+-- after an item, with what the output took: where the work breaks off no trouble is noted, and where the disk fails behind it that of its reply
 abbrev pub TroubleAfter : {T : Type 0} → Result T SessionEnd → Option (List ℕ) → Option (List ℕ) → Session → Session → Type 0
 TroubleAfter (Ok done) taken_before taken_now before now = HasReplied (Ok done) taken_before taken_now before now
 TroubleAfter (Err (ends.Write failed)) taken_before taken_now before now = HasReplied {T = Unit {0}} (Err (ends.Write failed)) taken_before taken_now before now
 TroubleAfter (Err ends.Memory) taken_before taken_now before now = troubled_of now ≡ troubled_of before
 TroubleAfter (Err (ends.Read failed)) taken_before taken_now before now = troubled_of now ≡ troubled_of before
-TroubleAfter (Err (ends.Disk failed)) taken_before taken_now before now = troubled_of now ≡ troubled_of before
+TroubleAfter (Err (ends.Disk failed)) taken_before taken_now before now = (taken_now ≡ taken_before) × HasMet before now
 TroubleAfter (Err (ends.Damaged damage)) taken_before taken_now before now = troubled_of now ≡ troubled_of before
 TroubleAfter (Err ends.TooLong) taken_before taken_now before now = troubled_of now ≡ troubled_of before

@@ -1,5 +1,5 @@
 // How a session ends before its work is done.
-ghost use Rattle.std.specs.Prelude.{◌≡◌};
+ghost use Rattle.std.specs.Prelude.{◌≡◌, ◌≢◌, MatchBool};
 
 use s80_base::{Failed, OutOfMemory};
 use s80_keeper::{Damage, StartFault};
@@ -20,6 +20,22 @@ pub enum SessionEnd {
     Damaged(Damage),
     #[error("input too long")]
     TooLong,
+}
+
+impl SessionEnd {
+    /// Whether memory was wanting.
+    pub(crate) fn is_memory(&self) -> bool
+        ensures { MatchBool result (self.now ≡ SessionEnd.Memory) (self.now ≢ SessionEnd.Memory) }
+    {
+        match self {
+            SessionEnd::Memory => true,
+            SessionEnd::Read(_) => false,
+            SessionEnd::Write(_) => false,
+            SessionEnd::Disk(_) => false,
+            SessionEnd::Damaged(_) => false,
+            SessionEnd::TooLong => false,
+        }
+    }
 }
 
 impl From<OutOfMemory> for SessionEnd {

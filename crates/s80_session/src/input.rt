@@ -1,20 +1,23 @@
 // The input of a run, taken in pieces and worked item by item.
-ghost use Rattle.std.specs.Prelude.{◌≡◌, ◌+◌, ◌≤◌, ◌<◌, ℕ, List, [], false, true, length, Some, IfOk, OnOk};
+ghost use Rattle.std.specs.Prelude.{◌≡◌, ◌+◌, ◌^◌, ◌≤◌, ◌<◌, ◌++◌, ◌||◌, nat_le, ℕ, List, [], false, true, length, Some, IfErr, IfNone, IfOk, IfSome, OnOk, OnSome, option_to_list};
 ghost use Rattle.s80_chunk.specs.declared.item.Item.{Item};
-ghost use Rattle.s80_chunk.specs.Held.{HasRead, IsSpent, fed};
+ghost use Rattle.s80_chunk.specs.Chunks.{IsSound};
+ghost use Rattle.s80_chunk.specs.Held.{HasRead, HoldsNoMore, IsSpent, fed, work_of};
 ghost use Rattle.s80_session.specs.Ending.{Counts};
 ghost use Rattle.s80_disk.specs.declared.disk.FileId.{FileId};
 ghost use Rattle.s80_disk.specs.Moments.{LeavesOnly};
+ghost use Rattle.s80_keeper.specs.Keeper.{pending_of};
 ghost use Rattle.s80_session.specs.Putting.{IsAsBefore};
 ghost use Rattle.s80_session.specs.Run.{input_limit, Ends, Keeps};
 ghost use Rattle.s80_model.specs.Replies.{Work};
-ghost use Rattle.s80_session.specs.Session.{was_of, IsFaultless, RunSince, Was};
-ghost use Rattle.s80_session.specs.Working.{HasReadSome, IsAt, IsWorking, AnswersAll, AnswersLeave, Takes, TakesAll};
+ghost use Rattle.s80_session.specs.Session.{group_limit, held_of, keeper_of, was_of, HasSameRest, IsFaultless, IsResting, RunSince, Was};
+ghost use Rattle.s80_session.specs.Working.{AnswersLeave, AtEnd, EndsForMemory, Finishes, FlushLeaves, Ground, HasReadSome, IsAmid, IsAt, IsDone, IsWorking, PieceWorked, Takes, TakesAll, WorksAll};
 
 use crate::end::SessionEnd;
 use crate::outside::take_some;
 use crate::session::Session;
-use s80_chunk::{ChunkReader, Rest};
+use s80_base::OutOfMemory;
+use s80_chunk::{ChunkReader, Item, Rest};
 use s80_disk::Outside;
 use s80_model::SessionItem;
 use std::alloc::Global;
@@ -22,44 +25,80 @@ use std::alloc::Global;
 /// The greatest length of an input.
 const INPUT_LIMIT: u64 = 1 << 30;
 
-/// How many bytes are taken at once.
-const PIECE: usize = 4096;
+/// How many bytes are taken at once, and how many bytes of blocks or of replies wait for a flush.
+const GROUP: usize = 65_536;
 
-/// Takes the next piece of the input and feeds it. Says how many bytes it has: none at the end of the input.
-fn take_piece<O: Outside>(
-    reader: &mut ChunkReader,
-    taken: u64,
-    outside: &mut O,
-) -> Result<usize, SessionEnd>
-    requires open { reader.old.ended ≡ false }
-    requires room { reader.old.room ≡ 4096 }
-    requires counted { fed reader.old ≡ taken }
+/// A buffer of this size.
+fn zeros(alloc: Global, size: usize) -> Result<Vec<u8>, OutOfMemory>
+    ensures { IfOk result (λ buf. length buf.items ≡ size) }
+{
+    Ok(vec![in alloc; 0; size]?)
+}
+
+/// Takes the next piece of the input into the front of a buffer. Says how many bytes it has: none at the end of the input.
+fn take_piece<O: Outside>(buf: &mut [u8], taken: u64, outside: &mut O) -> Result<usize, SessionEnd>
+    requires room { length buf.old ≡ 65536 }
     requires within { taken ≤ input_limit }
-    ensures took { (left bytes : List ℕ) (given : List Item) → (O.shown outside.old).left ≡ Some left → HasRead reader.old bytes given
-        → Takes result (O.shown outside.new) taken reader.new left bytes given }
+    ensures took { (left : List ℕ) → (O.shown outside.old).left ≡ Some left → Takes result (O.shown outside.new) taken buf.new left }
+    ensures bound { IfOk result (λ count. count ≤ length buf.new) }
+    ensures room { length buf.new ≡ length buf.old }
     ensures shown { O.shown outside.new ≡ record (O.shown outside.old) { left = (O.shown outside.new).left } }
     ensures counts { Counts (O.faults outside.old) (O.faults outside.new) result }
     ensures images { (c : FileId → List ℕ) → O.may_leave outside.new c → O.may_leave outside.old c }
     ensures any_moment { LeavesOnly O.moment O.left_since outside.old outside.new
         (IsAsBefore (O.may_leave outside.old) (O.shown outside.old).told 0) }
-    ensures open { reader.new.ended ≡ false }
-    ensures reading { HasReadSome reader.old → HasReadSome reader.new }
-    ensures counted { IfOk result (λ count. fed reader.new ≡ taken + count) }
     ensures within { IfOk result (λ count. taken + count ≤ input_limit) }
 {
-    let mut buf = [0; PIECE];
-    let wanted = (INPUT_LIMIT - taken).clamp(1, PIECE as u64) as usize;
+    let wanted = (INPUT_LIMIT - taken).clamp(1, GROUP as u64) as usize;
     let count = take_some(outside, &mut buf[..wanted]).map_err(SessionEnd::Read)?;
     if taken == INPUT_LIMIT && count > 0 {
         return Err(SessionEnd::TooLong);
     }
-    reader.feed(&buf[..count]);
     Ok(count)
 }
 
 impl Session {
-    /// Works and answers all whole items that the reader holds.
-    fn answer_items<O: Outside>(
+    /// Whether so much is pending or held that it is flushed.
+    fn is_full(&self) -> bool
+        ensures { result ≡ (nat_le group_limit (pending_of (keeper_of self.now)) || nat_le group_limit (length (held_of self.now))) }
+    {
+        self.keeper.pending() >= GROUP as u64 || self.held.bytes().len() >= GROUP
+    }
+
+    /// The next whole item that the reader holds. Where memory is wanting, what is pending and held is flushed.
+    fn next_item<O: Outside>(
+        &mut self,
+        alloc: Global,
+        reader: &mut ChunkReader,
+        outside: &mut O,
+    ) -> Result<Option<Item>, SessionEnd>
+        requires faultless { IsFaultless self.old }
+        ensures item { IfOk result (λ item. (bytes : List ℕ) (given : List Item) → HasRead reader.old bytes given → HasRead reader.new bytes (given ++ option_to_list item)) }
+        ensures sound { IfOk result (λ item. IfSome item (λ found. (bytes : List ℕ) (given : List Item) → HasRead reader.old bytes given → IsSound found)) }
+        ensures none { IfOk result (λ item. IfNone item ((bytes : List ℕ) (given : List Item) → HasRead reader.old bytes given → HoldsNoMore reader.old.ended bytes given)) }
+        ensures spent { IfOk result (λ item. IfNone item (IsSpent reader.new × (reader.new.room ≡ 4096))) }
+        ensures progress { IfOk result (λ item. OnSome item (work_of reader.new < work_of reader.old)) }
+        ensures fed { fed reader.new ≡ fed reader.old }
+        ensures ended { reader.new.ended ≡ reader.old.ended }
+        ensures same { IfOk result (λ item. (self.new ≡ self.old) × (outside.new ≡ outside.old)) }
+        ensures ends { (work : Work) (ground : Ground)
+            → IsAmid (O.may_leave outside.old) (O.shown outside.old) self.old work ground
+            → IfErr result (λ end. EndsForMemory end (O.may_leave outside.new) (O.shown outside.new) self.new work ground) }
+        ensures any_moment { (work : Work) (ground : Ground)
+            → IsAmid (O.may_leave outside.old) (O.shown outside.old) self.old work ground
+            → LeavesOnly O.moment O.left_since outside.old outside.new (FlushLeaves work ground) }
+        ensures rest { HasSameRest self.old self.new }
+        ensures left { (O.shown outside.new).left ≡ (O.shown outside.old).left }
+        ensures counts { Counts (O.faults outside.old) (O.faults outside.new) result }
+    {
+        match reader.next_item(alloc) {
+            Ok(item) => Ok(item),
+            Err(OutOfMemory) => Err(self.end_for_memory(outside)),
+        }
+    }
+
+    /// Works all whole items that the reader holds. What is pending and held is flushed as often as it fills a group.
+    fn work_items<O: Outside>(
         &mut self,
         alloc: Global,
         reader: &mut ChunkReader,
@@ -67,9 +106,9 @@ impl Session {
     ) -> Result<(), SessionEnd>
         requires faultless { IsFaultless self.old }
         requires reading { HasReadSome reader.old }
-        ensures answered { (was : Was) (work : Work) (before bytes : List ℕ) (given : List Item)
+        ensures worked { (was : Was) (work : Work) (before bytes : List ℕ) (given : List Item)
             → IsWorking (O.may_leave outside.old) (O.shown outside.old) self.old reader.old was work before bytes given
-            → AnswersAll result (O.may_leave outside.new) (O.shown outside.new) self.new reader.new was work before bytes }
+            → WorksAll result (O.may_leave outside.new) (O.shown outside.new) self.new reader.new was work before bytes }
         ensures any_moment { (was : Was) (work : Work) (before bytes : List ℕ) (given : List Item)
             → IsWorking (O.may_leave outside.old) (O.shown outside.old) self.old reader.old was work before bytes given
             → LeavesOnly O.moment O.left_since outside.old outside.new (AnswersLeave reader.old.ended work before bytes) }
@@ -82,8 +121,50 @@ impl Session {
         ensures fed { fed reader.new ≡ fed reader.old }
         ensures ended { reader.new.ended ≡ reader.old.ended }
     {
-        while let Some(item) = reader.next_item(alloc)? {
-            self.step(alloc, SessionItem::Chunk(item), outside)?;
+        while let Some(item) = self.next_item(alloc, reader, outside)? {
+            self.work(alloc, SessionItem::Chunk(item), outside)?;
+            if self.is_full() {
+                self.flush(outside)?;
+            }
+        }
+        Ok(())
+    }
+
+    /// Feeds a piece of the input, part by part, and works what is whole of it.
+    fn work_piece<O: Outside>(
+        &mut self,
+        alloc: Global,
+        reader: &mut ChunkReader,
+        piece: &[u8],
+        outside: &mut O,
+    ) -> Result<(), SessionEnd>
+        requires faultless { IsFaultless self.old }
+        requires reading { HasReadSome reader.old }
+        requires open { reader.old.ended ≡ false }
+        requires room { reader.old.room ≡ 4096 }
+        requires bounded { fed reader.old + length piece.now < 2 ^ 64 }
+        ensures worked { (was : Was) (work : Work) (before bytes : List ℕ) (given : List Item)
+            → IsWorking (O.may_leave outside.old) (O.shown outside.old) self.old reader.old was work before bytes given
+            → HoldsNoMore false bytes given → (input left : List ℕ) → input ≡ (bytes ++ piece.now) ++ left
+            → PieceWorked result (O.may_leave outside.new) (O.shown outside.new) self.new reader.new was work input before (bytes ++ piece.now) }
+        ensures any_moment { (was : Was) (work : Work) (before bytes : List ℕ) (given : List Item)
+            → IsWorking (O.may_leave outside.old) (O.shown outside.old) self.old reader.old was work before bytes given
+            → (input left : List ℕ) → input ≡ (bytes ++ piece.now) ++ left
+            → LeavesOnly O.moment O.left_since outside.old outside.new (Keeps work input before) }
+        ensures left { (O.shown outside.new).left ≡ (O.shown outside.old).left }
+        ensures counts { Counts (O.faults outside.old) (O.faults outside.new) result }
+        ensures last_run { RunSince self.old self.new }
+        ensures faultless { OnOk result (IsFaultless self.new) }
+        ensures reading { OnOk result (HasReadSome reader.new) }
+        ensures room { OnOk result (reader.new.room ≡ 4096) }
+        ensures fed { OnOk result (fed reader.new ≡ fed reader.old + length piece.now) }
+        ensures open { reader.new.ended ≡ false }
+    {
+        let mut done = 0;
+        while done < piece.len() {
+            let count = reader.feed(&piece[done..]);
+            self.work_items(alloc, reader, outside)?;
+            done += count;
         }
         Ok(())
     }
@@ -93,46 +174,48 @@ impl Session {
         &mut self,
         alloc: Global,
         reader: &mut ChunkReader,
+        buf: &mut [u8],
         outside: &mut O,
     ) -> Result<(), SessionEnd>
-        requires faultless { IsFaultless self.old }
+        requires resting { IsResting self.old }
         requires reading { HasReadSome reader.old }
         requires open { reader.old.ended ≡ false }
         requires room { reader.old.room ≡ 4096 }
         requires counted { fed reader.old ≡ 0 }
+        requires buffer { length buf.old ≡ 65536 }
         ensures took { (was : Was) (work : Work) (input before : List ℕ) → (O.shown outside.old).left ≡ Some input
-            → IsWorking (O.may_leave outside.old) (O.shown outside.old) self.old reader.old was work before [] []
+            → IsDone (O.may_leave outside.old) (O.shown outside.old) self.old reader.old was work before [] []
             → TakesAll result (O.may_leave outside.new) (O.shown outside.new) self.new reader.new was work input before }
         ensures any_moment { (was : Was) (work : Work) (input before : List ℕ) → (O.shown outside.old).left ≡ Some input
-            → IsWorking (O.may_leave outside.old) (O.shown outside.old) self.old reader.old was work before [] []
+            → IsDone (O.may_leave outside.old) (O.shown outside.old) self.old reader.old was work before [] []
             → LeavesOnly O.moment O.left_since outside.old outside.new (Keeps work input before) }
         ensures counts { Counts (O.faults outside.old) (O.faults outside.new) result }
         ensures last_run { RunSince self.old self.new }
-        ensures faultless { OnOk result (IsFaultless self.new) }
+        ensures resting { OnOk result (IsResting self.new) }
         ensures reading { OnOk result (HasReadSome reader.new) }
         ensures ended { OnOk result (reader.new.ended ≡ true) }
     {
         let mut taken = 0;
-        self.answer_items(alloc, reader, outside)?;
         'pieces: loop {
-            let count = take_piece(reader, taken, outside)?;
+            let count = take_piece(buf, taken, outside)?;
             if count == 0 {
                 break;
             }
             taken += count as u64;
-            self.answer_items(alloc, reader, outside)?;
+            self.work_piece(alloc, reader, &buf[..count], outside)?;
+            self.flush(outside)?;
         }
         reader.end_input();
         Ok(())
     }
 
-    /// Works and answers the items of the input, to its end.
+    /// Works the items of the input to its end, and answers each before more of the input is taken than holds it.
     pub fn run_items<O: Outside>(
         &mut self,
         alloc: Global,
         outside: &mut O,
     ) -> Result<(), SessionEnd>
-        requires faultless { IsFaultless self.old }
+        requires resting { IsResting self.old }
         ensures ran { (work : Work) (input before : List ℕ) → (O.shown outside.old).left ≡ Some input
             → IsAt (O.may_leave outside.old) (O.shown outside.old) self.old work before
             → Ends result (O.may_leave outside.new) (O.shown outside.new) (was_of self.old) (was_of self.new) work input before }
@@ -142,14 +225,40 @@ impl Session {
         // The last run is the one before, or that of a doIt, whatever the outside tells.
         ensures last_run { RunSince self.old self.new }
         ensures counts { Counts (O.faults outside.old) (O.faults outside.new) result }
+        ensures resting { OnOk result (IsResting self.new) }
+    {
+        let mut buf = zeros(alloc, GROUP)?;
+        let mut reader = ChunkReader::make(alloc)?;
+        self.take_all(alloc, &mut reader, &mut buf, outside)?;
+        self.finish(alloc, &mut reader, outside)?;
+        self.flush(outside)
+    }
+
+    /// Works what is left at the end of the input.
+    fn finish<O: Outside>(
+        &mut self,
+        alloc: Global,
+        reader: &mut ChunkReader,
+        outside: &mut O,
+    ) -> Result<(), SessionEnd>
+        requires faultless { IsFaultless self.old }
+        requires reading { HasReadSome reader.old }
+        requires ended { reader.old.ended ≡ true }
+        ensures finished { (was : Was) (work : Work) (input before : List ℕ)
+            → AtEnd (O.may_leave outside.old) (O.shown outside.old) self.old reader.old was work input before
+            → Finishes result (O.may_leave outside.new) (O.shown outside.new) self.new was work input before }
+        ensures any_moment { (was : Was) (work : Work) (input before : List ℕ)
+            → AtEnd (O.may_leave outside.old) (O.shown outside.old) self.old reader.old was work input before
+            → LeavesOnly O.moment O.left_since outside.old outside.new (Keeps work input before) }
+        ensures left { (O.shown outside.new).left ≡ (O.shown outside.old).left }
+        ensures counts { Counts (O.faults outside.old) (O.faults outside.new) result }
+        ensures last_run { RunSince self.old self.new }
         ensures faultless { OnOk result (IsFaultless self.new) }
     {
-        let mut reader = ChunkReader::make(alloc)?;
-        self.take_all(alloc, &mut reader, outside)?;
-        self.answer_items(alloc, &mut reader, outside)?;
+        self.work_items(alloc, reader, outside)?;
         match reader.rest() {
             Rest::Clean => Ok(()),
-            Rest::Unended(_) => self.step(alloc, SessionItem::Unended, outside),
+            Rest::Unended(_) => self.work(alloc, SessionItem::Unended, outside),
         }
     }
 }

@@ -1,10 +1,11 @@
-//! A session: it works the items of an input one after another, and answers each when what it changes is on the disk.
+//! A session: it works the items of an input one after another, and answers them in groups, each once what it changes is on the disk.
 #![tactic(auto)]
 
 mod end;
 mod input;
 mod outside;
 mod plain;
+mod replies;
 mod reply;
 mod session;
 mod told;

@@ -1,5 +1,5 @@
 // The calls on the outside that a run makes, each with all that it leaves.
-ghost use Rattle.std.specs.Prelude.{◌≡◌, ◌≢◌, ◌↔◌, ◌≤◌, ◌<◌, ◌+◌, ◌∷◌, [], ◌++◌, ℕ, List, length, map as list_map, option_map, Some, None, Err, IsTrue, IfOk, OnOk, ⊤};
+ghost use Rattle.std.specs.Prelude.{◌≡◌, ◌≢◌, ◌⊎◌, ◌↔◌, ◌≤◌, ◌<◌, ◌+◌, ◌∷◌, [], ◌++◌, ℕ, List, length, map as list_map, option_map, Some, None, Ok, Err, IsTrue, IfOk, OnErr, OnOk, ⊤};
 ghost use Rattle.std.specs.FinMap as map;
 ghost use Rattle.std.specs.Io.{ReadsAtMost};
 ghost use Rattle.std.specs.Io.KnownBytes.{ReadConsumes};
@@ -13,10 +13,10 @@ ghost use Rattle.s80_disk.specs.declared.disk.FileId.{FileId};
 ghost use Rattle.s80_disk.specs.declared.disk.FileId.TheVariants.{Mark};
 ghost use Rattle.s80_disk.specs.Moments.{LeavesOnly};
 ghost use Rattle.s80_mark.specs.Found.{longer_log};
-ghost use Rattle.s80_keeper.specs.Keeper.{Keeps, Knows};
-ghost use Rattle.s80_keeper.specs.Standing.{ReadsFor, LeavesEither};
+ghost use Rattle.s80_keeper.specs.Keeper.{pending_of, IsSettled, Keeps, Knows};
+ghost use Rattle.s80_keeper.specs.Standing.{FilesStandFor, LeavesEither, ReadsFor};
 ghost use Rattle.s80_keeper.specs.Start.{IsStart, Started, StartLeaves, IfStartDisk, UnlessStartDisk};
-ghost use Rattle.s80_keeper.specs.Answers.{AfterKeeping, CanKeep, IsFor, Kept, IfKeepDisk, PlacesFor, UnlessKeepDisk};
+ghost use Rattle.s80_keeper.specs.Answers.{AfterCommit, AfterKeepingLater, CanKeep, Committed, IfKeepDisk, IsFor, KeptLater, PlacesFor, UnlessKeepDisk};
 ghost use Rattle.s80_keeper.specs.Source.{IsThis, after_reading};
 ghost use Rattle.s80_apply.specs.List.{state_of};
 ghost use Rattle.s80_apply.specs.Placed.{placed_of};
@@ -38,6 +38,7 @@ pub(crate) fn start_keeper<O: Outside>(alloc: Global, outside: &mut O) -> Result
     ensures started { (changes : List Change) → ReadsFor (O.shown outside.old).tells (O.shown outside.old).files (O.may_leave outside.old) changes
         → Started result (O.shown outside.new).tells (O.shown outside.new).files (O.may_leave outside.new) changes }
     ensures faultless { IfOk result (λ keeper. keeper.fault ≡ None) }
+    ensures settled { IfOk result (λ keeper. pending_of keeper ≡ 0) }
     ensures untouched { IsTrue (O.shown outside.old).tells → 0 < longer_log (O.shown outside.old).files
         → (file : FileId) → (O.shown outside.new).files file ≡ (O.shown outside.old).files file }
     ensures others { (other : FileId) → other ≢ Mark → (O.shown outside.new).files other ≡ (O.shown outside.old).files other }
@@ -45,6 +46,9 @@ pub(crate) fn start_keeper<O: Outside>(alloc: Global, outside: &mut O) -> Result
     ensures faults { O.faults outside.new ≡ record (O.faults outside.old) { disk = (O.faults outside.new).disk } }
     ensures any_moment { (changes : List Change) → ShownFor (O.may_leave outside.old) (O.shown outside.old) changes
         → LeavesOnly O.moment O.left_since outside.old outside.new (HasKept changes (O.shown outside.old).told) }
+    ensures killed { (changes was : List Change) → ReadsFor (O.shown outside.old).tells (O.shown outside.old).files (O.may_leave outside.old) changes
+        → ((c : FileId → List ℕ) → O.may_leave outside.old c → FilesStandFor c changes ⊎ FilesStandFor c was)
+        → LeavesOnly O.moment O.left_since outside.old outside.new (LeavesEither (O.shown outside.old).told changes was) }
     ensures leaves { IsTrue (O.shown outside.old).tells → LeavesOnly O.moment O.left_since outside.old outside.new
         (StartLeaves (O.shown outside.old).files (O.may_leave outside.old) (O.shown outside.old).told) }
     ensures later { (O.faults outside.old).disk ≤ (O.faults outside.new).disk }
@@ -54,27 +58,25 @@ pub(crate) fn start_keeper<O: Outside>(alloc: Global, outside: &mut O) -> Result
     Keeper::start(alloc, outside)
 }
 
-/// Has a keeper keep a change.
-pub(crate) fn keep_change<O: Outside>(
+/// Has a keeper keep a change, to be committed later.
+pub(crate) fn keep_later<O: Outside>(
     keeper: &mut Keeper,
     outside: &mut O,
     prepared: Prepared,
 ) -> Result<u64, KeepFault>
     requires { CanKeep keeper.old prepared }
-    ensures after { AfterKeeping result prepared keeper.old keeper.new }
-    ensures kept { (changes : List Change)
-        → Keeps (O.shown outside.old).tells (O.shown outside.old).files (O.may_leave outside.old) keeper.old changes changes → IsLawful prepared.change → IsFor (state_of changes) keeper.old.system prepared
-        → PlacesFor (placed_of changes) keeper.old.system prepared
-        → Kept result (O.shown outside.new).tells (O.shown outside.new).files (O.may_leave outside.new) keeper.new changes prepared.change }
-    ensures any_moment { (changes : List Change)
-        → Keeps (O.shown outside.old).tells (O.shown outside.old).files (O.may_leave outside.old) keeper.old changes changes → IsLawful prepared.change → IsFor (state_of changes) keeper.old.system prepared
-        → PlacesFor (placed_of changes) keeper.old.system prepared
-        → LeavesOnly O.moment O.left_since outside.old outside.new
-        (LeavesEither (O.shown outside.old).told changes (changes ++ prepared.change ∷ [])) }
+    ensures after { AfterKeepingLater result prepared keeper.old keeper.new }
+    ensures kept { (kept all : List Change)
+        → Keeps (O.shown outside.old).tells (O.shown outside.old).files (O.may_leave outside.old) keeper.old kept all → IsLawful prepared.change → IsFor (state_of all) keeper.old.system prepared
+        → PlacesFor (placed_of all) keeper.old.system prepared
+        → KeptLater result (O.shown outside.new).tells (O.shown outside.new).files (O.may_leave outside.new) keeper.new kept all prepared.change }
+    ensures any_moment { (kept all : List Change)
+        → Keeps (O.shown outside.old).tells (O.shown outside.old).files (O.may_leave outside.old) keeper.old kept all
+        → LeavesOnly O.moment O.left_since outside.old outside.new (HasKept kept (O.shown outside.old).told) }
     // Whatever the disk stands for.
     ensures elsewhere { LeavesOnly O.moment O.left_since outside.old outside.new
         (LeavesBeside (O.may_leave outside.old) (O.shown outside.old).told (log_file keeper.old.log.number) (λ c. ⊤)) }
-    ensures others { (other : FileId) → other ≢ Mark → other ≢ log_file keeper.old.log.number → (O.shown outside.new).files other ≡ (O.shown outside.old).files other }
+    ensures others { (other : FileId) → other ≢ log_file keeper.old.log.number → (O.shown outside.new).files other ≡ (O.shown outside.old).files other }
     ensures closed { (failed : Failed) → (result ≡ Err (KeepFault.Closed failed)) ↔ (keeper.old.fault ≡ Some failed) }
     ensures full { (n : ℕ) → (result ≡ Err (KeepFault.Full n))
         ↔ ((keeper.old.fault ≡ None) × (n ≡ keeper.old.log.end) × (log_limit < keeper.old.log.end + length (block prepared.change))) }
@@ -84,7 +86,32 @@ pub(crate) fn keep_change<O: Outside>(
     ensures cause { IfKeepDisk result (λ failed. Rose (O.faults outside.old).disk (O.faults outside.new).disk) }
     ensures faults_stay { UnlessKeepDisk result ((O.faults outside.new).disk ≡ (O.faults outside.old).disk) }
 {
-    keeper.keep(outside, prepared)
+    keeper.keep_later(outside, prepared)
+}
+
+/// Has a keeper commit what is pending.
+pub(crate) fn commit<O: Outside>(keeper: &mut Keeper, outside: &mut O) -> Result<(), KeepFault>
+    ensures after { AfterCommit result keeper.old keeper.new }
+    ensures committed { (kept all : List Change)
+        → Keeps (O.shown outside.old).tells (O.shown outside.old).files (O.may_leave outside.old) keeper.old kept all
+        → Committed result (O.shown outside.new).tells (O.shown outside.new).files (O.may_leave outside.new) keeper.new kept all }
+    ensures any_moment { (kept all : List Change)
+        → Keeps (O.shown outside.old).tells (O.shown outside.old).files (O.may_leave outside.old) keeper.old kept all
+        → LeavesOnly O.moment O.left_since outside.old outside.new (LeavesEither (O.shown outside.old).told kept all) }
+    // Whatever the disk stands for.
+    ensures elsewhere { LeavesOnly O.moment O.left_since outside.old outside.new
+        (LeavesBeside (O.may_leave outside.old) (O.shown outside.old).told (log_file keeper.old.log.number) (λ c. ⊤)) }
+    ensures others { (other : FileId) → other ≢ Mark → (O.shown outside.new).files other ≡ (O.shown outside.old).files other }
+    ensures unpending { pending_of keeper.old ≡ 0 → outside.new ≡ outside.old }
+    ensures idle { keeper.old.fault ≡ None → pending_of keeper.old ≡ 0 → result ≡ Ok tt }
+    ensures closed { (failed : Failed) → (result ≡ Err (KeepFault.Closed failed)) ↔ (keeper.old.fault ≡ Some failed) }
+    ensures shown { O.shown outside.new ≡ record (O.shown outside.old) { files = (O.shown outside.new).files } }
+    ensures faults { O.faults outside.new ≡ record (O.faults outside.old) { disk = (O.faults outside.new).disk } }
+    ensures later { (O.faults outside.old).disk ≤ (O.faults outside.new).disk }
+    ensures cause { IfKeepDisk result (λ failed. Rose (O.faults outside.old).disk (O.faults outside.new).disk) }
+    ensures faults_stay { UnlessKeepDisk result ((O.faults outside.new).disk ≡ (O.faults outside.old).disk) }
+{
+    keeper.commit(outside)
 }
 
 /// The source of a method, read by a keeper. It changes no file, and a crash leaves what it might have left before.
@@ -96,7 +123,8 @@ pub(crate) fn read_source<O: Outside>(
     side: Side,
     selector: &Text,
 ) -> Result<Option<Text>, KeepFault>
-    requires { class < length keeper.old.system.methods.sides }
+    requires class { class < length keeper.old.system.methods.sides }
+    requires settled { IsSettled keeper.old }
     ensures source { IsTrue (O.shown outside.old).tells → (changes : List Change) → Knows (O.shown outside.old).files keeper.old changes
         → (name : Name) → IsNumberOf keeper.old.system.table.names class name
         → IsThis (option_map (λ row. row.source) (map.get ((state_of changes).methods name side) selector.now)) result }
@@ -120,6 +148,7 @@ pub(crate) fn read_set<O: Outside>(
     alloc: Global,
     outside: &mut O,
 ) -> Result<Changes, KeepFault>
+    requires { IsSettled keeper.old }
     ensures set { IsTrue (O.shown outside.old).tells → (changes : List Change) → Knows (O.shown outside.old).files keeper.old changes
         → IsThis (list_map (λ p. p.1) (set_of changes)) result }
     ensures after { keeper.new ≡ after_reading result keeper.old }
@@ -145,6 +174,7 @@ pub(crate) fn read_versions<O: Outside>(
     side: Side,
     selector: &Text,
 ) -> Result<Changes, KeepFault>
+    requires { IsSettled keeper.old }
     ensures versions { IsTrue (O.shown outside.old).tells → (changes : List Change) → Knows (O.shown outside.old).files keeper.old changes
         → IsThis (list_map (λ p. p.1) (versions_of changes (record { class_name = class_name.now; side = side; selector = selector.now }))) result }
     ensures after { keeper.new ≡ after_reading result keeper.old }
@@ -179,6 +209,7 @@ pub(crate) fn take_some<O: Outside>(outside: &mut O, buf: &mut [u8]) -> Result<u
 pub fn put_all<O: Outside>(outside: &mut O, piece: &[u8]) -> Result<(), Failed>
     ensures bytes { PutsFront (O.shown outside.old).taken (O.shown outside.new).taken (O.shown outside.old).told (O.shown outside.new).told piece.now }
     ensures whole { OnOk result ((O.shown outside.new).told ≡ (O.shown outside.old).told + length piece.now) }
+    ensures cut { OnErr result ((O.shown outside.new).told < (O.shown outside.old).told + length piece.now) }
     ensures images { (c : FileId → List ℕ) → O.may_leave outside.new c → O.may_leave outside.old c }
     ensures shown { O.shown outside.new ≡ record (O.shown outside.old) { taken = (O.shown outside.new).taken; told = (O.shown outside.new).told } }
     ensures faults { O.faults outside.new ≡ record (O.faults outside.old) { write = (O.faults outside.new).write } }

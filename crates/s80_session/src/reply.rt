@@ -11,6 +11,9 @@ use s80_model::Reply;
 use s80_print::refusal_text;
 use std::alloc::Global;
 
+/// The line that answers an accepted item.
+pub(crate) const ACCEPTED: &[u8] = b"ok\n";
+
 /// The line that answers a refused item.
 pub(crate) fn refusal_line(alloc: Global, refusal: &Refusal) -> Result<Text, OutOfMemory>
     ensures { IfOk result (λ line. line ≡ refusal_text refusal.now ++ 10 ∷ []) }

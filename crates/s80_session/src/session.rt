@@ -1,5 +1,5 @@
 // A session works items: it keeps what they change, and answers them.
-ghost use Rattle.std.specs.Prelude.{◌≡◌, ◌≢◌, ◌<◌, ◌≤◌, ℕ, false, List, ◌++◌, length, option_map, Some, IsTrue, IfErr, IfOk, OnOk};
+ghost use Rattle.std.specs.Prelude.{◌≡◌, ◌≢◌, ◌⊎◌, ◌||◌, ◌<◌, ◌≤◌, ℕ, false, List, [], ◌++◌, length, option_map, Some, Ok, IsTrue, IfErr, IfOk, OnErr, OnOk};
 ghost use Rattle.s80_change.specs.declared.change.Change.{Change};
 ghost use Rattle.s80_chunk.specs.declared.item.Item.TheVariants as items;
 ghost use Rattle.s80_disk.specs.declared.disk.FileId.{FileId};
@@ -7,23 +7,27 @@ ghost use Rattle.s80_disk.specs.declared.disk.FileId.TheVariants.{Mark};
 ghost use Rattle.s80_disk.specs.Moments.{LeavesOnly};
 ghost use Rattle.s80_mark.specs.Found.{longer_log};
 ghost use Rattle.s80_log.specs.Log.{log_file};
-ghost use Rattle.s80_keeper.specs.Keeper.{Knows};
-ghost use Rattle.s80_keeper.specs.Standing.{FilesStandFor, ReadsFor};
+ghost use Rattle.s80_keeper.specs.Answers.{HasCommitted};
+ghost use Rattle.s80_keeper.specs.Keeper.{pending_of, Knows};
+ghost use Rattle.s80_keeper.specs.Standing.{FilesStandFor, LeavesEither, ReadsFor};
 ghost use Rattle.s80_keeper.specs.Start.{StartLeaves};
-ghost use Rattle.s80_model.specs.Asked.{snapshot_note};
-ghost use Rattle.s80_model.specs.Replies.{Work};
+ghost use Rattle.s80_model.specs.Asked.{adds, snapshot_note, Asks};
+ghost use Rattle.s80_model.specs.Replies.{is_trouble, reply_text, Work};
 ghost use Rattle.s80_model.specs.Section.{section_or};
 ghost use Rattle.s80_model.specs.Settings.{Settings};
-ghost use Rattle.s80_session.specs.Ending.{Counts, CountsFor, MeetsNoDamage, NoFewer, SourceCounts, StartsForReason};
+ghost use Rattle.s80_session.specs.Ending.{Counts, CountsFor, MeetsNoDamage, NoFewer, OnOkOrMemory, SourceCounts, StartsForReason};
 ghost use Rattle.s80_session.specs.Files.{IsAsking, IsAsLeft, IsElsewhere, IsQuestion};
+ghost use Rattle.s80_session.specs.Putting.{IsAsBefore};
+ghost use Rattle.s80_session.specs.Replies.{HasRoom, HasRoomFor, LacksRoom};
 ghost use Rattle.s80_session.specs.Run.{HasKept, ShownFor};
-ghost use Rattle.s80_session.specs.Session.{TakesLine};
-ghost use Rattle.s80_session.specs.Working.{AnswerPut};
 
 use crate::end::SessionEnd;
-use crate::outside::{keep_change, put_all, read_set, read_source, read_versions, start_keeper};
+use crate::outside::{
+    commit, keep_later, put_all, read_set, read_source, read_versions, start_keeper,
+};
 use crate::plain::{Plain, plain_of};
-use crate::reply::{refusal_at_fault, refusal_line, reply_to_keeping};
+use crate::replies::Replies;
+use crate::reply::{ACCEPTED, refusal_at_fault, refusal_line, reply_to_keeping};
 use crate::told::{has_method, tell_browsed, tell_classes, tell_recovered, tell_versions};
 use s80_apply::{accepted_forms_are_lawful, classes_are_named};
 use s80_base::{OutOfMemory, Text};
@@ -54,15 +58,17 @@ pub struct Session {
     pub(crate) budget: u64,
     /// The run of the doIt that was evaluated last.
     pub(crate) last_run: Option<Ran>,
+    /// The replies to items whose changes aren't committed yet.
+    pub(crate) held: Replies,
 }
 
 impl Session {
     ghost use Rattle.s80_form.specs.Form.{IsNoFormText};
     ghost use Rattle.s80_chunk.specs.Chunks.{IsChunkText, longest};
     ghost use Rattle.s80_doit.specs.DoIt.{IsDoItCode, IsMethodOfDoIt};
-    ghost use Rattle.s80_session.specs.Ending.{IsWorkEnd};
-    ghost use Rattle.s80_session.specs.Session.{budget_of, keeper_of, last_run_of, section_of, troubled_of, was_of, HasBegun, IsFaultless, RunAfter, RunAfterText, RunAfterWork, TroubleAfter};
-    ghost use Rattle.s80_session.specs.Working.{Evaluates, IsAt, IsLawfulFor, IsReadable, IsSessionStart, Kept, KeepLeaves, Noted, Replied, Starts, Worked, WorkLeaves, Stepped, StepLeaves};
+    ghost use Rattle.s80_session.specs.Ending.{IsDiskEnd, IsFlushEnd, IsKeepEnd, IsWorkEnd, IsWriteEnd};
+    ghost use Rattle.s80_session.specs.Session.{budget_of, held_of, keeper_of, last_run_of, room_of, section_of, troubled_of, was_of, HasBegun, HasSameRest, IsFaultless, IsResting, RunAfter, RunAfterText, RunAfterWork, TakesHeld, TroubleAfter, TroubleWhile};
+    ghost use Rattle.s80_session.specs.Working.{at_rest, Answers, Committed, CommitLeaves, EndsForMemory, Evaluates, Flushed, FlushLeaves, Ground, HeldPut, IsAmid, IsAt, IsGrouped, IsLawfulFor, IsReadable, IsSessionStart, ItemWorked, Kept, Noted, QueryWorked, Replied, Starts, Stepped, StepLeaves, Worked, WorkLeaves};
 
     /// A session on the folder that was attached, at the top level of its input. A doIt may take at most `budget` ticks.
     pub fn start<O: Outside>(
@@ -78,6 +84,11 @@ impl Session {
         ensures any_moment { (changes : List Change)
             → ShownFor (O.may_leave outside.old) (O.shown outside.old) changes
             → LeavesOnly O.moment O.left_since outside.old outside.new (HasKept changes (O.shown outside.old).told) }
+        // Also where a run that was killed left the disk so that it reads for the list, and a crash might leave that or another.
+        ensures killed { (changes was : List Change)
+            → ReadsFor (O.shown outside.old).tells (O.shown outside.old).files (O.may_leave outside.old) changes
+            → ((c : FileId → List ℕ) → O.may_leave outside.old c → FilesStandFor c changes ⊎ FilesStandFor c was)
+            → LeavesOnly O.moment O.left_since outside.old outside.new (LeavesEither (O.shown outside.old).told changes was) }
         // Also where the files are damaged: only of logs that read empty a crash may leave more than before, and then empty ones.
         ensures leaves { IsTrue (O.shown outside.old).tells → LeavesOnly O.moment O.left_since outside.old outside.new
             (StartLeaves (O.shown outside.old).files (O.may_leave outside.old) (O.shown outside.old).told) }
@@ -85,7 +96,7 @@ impl Session {
             → (file : FileId) → (O.shown outside.new).files file ≡ (O.shown outside.old).files file }
         ensures others { (other : FileId) → other ≢ Mark → (O.shown outside.new).files other ≡ (O.shown outside.old).files other }
         ensures shown { O.shown outside.new ≡ record (O.shown outside.old) { files = (O.shown outside.new).files } }
-        ensures faultless { IfOk result IsFaultless }
+        ensures resting { IfOk result IsResting }
         ensures untroubled { IfOk result (λ session. troubled_of session ≡ false) }
         ensures begun { IfOk result (HasBegun budget) }
         ensures later { NoFewer (O.faults outside.old) (O.faults outside.new) }
@@ -98,6 +109,7 @@ impl Session {
             troubled: false,
             budget,
             last_run: None,
+            held: Replies::none(alloc),
         })
     }
 
@@ -122,7 +134,7 @@ impl Session {
         item: SessionItem,
         outside: &mut O,
     ) -> Result<(), SessionEnd>
-        requires faultless { IsFaultless self.old }
+        requires resting { IsResting self.old }
         ensures stepped { (work : Work) (put : List ℕ) → IsReadable item
             → IsAt (O.may_leave outside.old) (O.shown outside.old) self.old work put
             → Stepped result (O.may_leave outside.new) (O.shown outside.new) self.new (was_of self.old) work put item }
@@ -140,36 +152,247 @@ impl Session {
         ensures troubled { TroubleAfter result (O.shown outside.old).taken (O.shown outside.new).taken self.old self.new }
         ensures last_run { RunAfter result item self.old self.new }
         ensures budget { budget_of self.new ≡ budget_of self.old }
-        ensures faultless { OnOk result (IsFaultless self.new) }
+        ensures resting { OnOk result (IsResting self.new) }
         ensures left { (O.shown outside.new).left ≡ (O.shown outside.old).left }
         ensures counts { CountsFor item (O.faults outside.old) (O.faults outside.new) result }
     {
-        let Answer { reply, section } = self.work(alloc, item, outside)?;
+        self.work(alloc, item, outside)?;
+        self.flush(outside)
+    }
+
+    /// Works one item, and holds its reply until a flush. What a chunk changes is pending until then; before a query, and the form of a
+    /// snapshot, all that is pending and held is flushed. So it is where memory is wanting.
+    pub fn work<O: Outside>(
+        &mut self,
+        alloc: Global,
+        item: SessionItem,
+        outside: &mut O,
+    ) -> Result<(), SessionEnd>
+        requires faultless { IsFaultless self.old }
+        ensures worked { (work : Work) (ground : Ground) → IsReadable item
+            → IsAmid (O.may_leave outside.old) (O.shown outside.old) self.old work ground
+            → Worked result (O.may_leave outside.new) (O.shown outside.new) self.new (was_of self.old) work ground item }
+        ensures any_moment { (work : Work) (ground : Ground) → IsReadable item
+            → IsAmid (O.may_leave outside.old) (O.shown outside.old) self.old work ground
+            → LeavesOnly O.moment O.left_since outside.old outside.new (WorkLeaves work ground item) }
+        // Nothing is put and the mark stays where a chunk is worked that asks for no snapshot, and at any moment a crash leaves the list that was
+        // kept before.
+        ensures grouped { (work : Work) (ground : Ground) → IsReadable item → IsGrouped item
+            → IsAmid (O.may_leave outside.old) (O.shown outside.old) self.old work ground
+            → OnOk result (LeavesOnly O.moment O.left_since outside.old outside.new (HasKept ground.kept (length ground.put))) }
+        ensures unmarked { IsReadable item → IsGrouped item → OnOk result ((O.shown outside.new).files Mark ≡ (O.shown outside.old).files Mark) }
+        ensures silent { IsReadable item → IsGrouped item → OnOk result ((O.shown outside.new).taken ≡ (O.shown outside.old).taken) }
+        // Whatever the disk stands for, but for the mark and the log the files stay, in what is read and at any moment.
+        ensures others { (other : FileId) → other ≢ Mark → other ≢ log_file (keeper_of self.old).log.number → (O.shown outside.new).files other ≡ (O.shown outside.old).files other }
+        ensures elsewhere { LeavesOnly O.moment O.left_since outside.old outside.new (IsElsewhere (O.may_leave outside.old) (log_file (keeper_of self.old).log.number)) }
+        // At rest a query changes no file, and at any moment a crash leaves what it might have left before.
+        ensures asked { IsAsking item → IsResting self.old → (file : FileId) → (O.shown outside.new).files file ≡ (O.shown outside.old).files file }
+        ensures images { IsAsking item → IsResting self.old → (c : FileId → List ℕ) → O.may_leave outside.new c → O.may_leave outside.old c }
+        ensures no_more { IsAsking item → IsResting self.old → LeavesOnly O.moment O.left_since outside.old outside.new (IsAsLeft (O.may_leave outside.old)) }
+        ensures sound { IsTrue (O.shown outside.old).tells → (changes : List Change) → Knows (O.shown outside.old).files (keeper_of self.old) changes → MeetsNoDamage result }
+        ensures troubled { TroubleWhile result self.old self.new }
+        ensures last_run { RunAfter result item self.old self.new }
+        ensures budget { budget_of self.new ≡ budget_of self.old }
+        ensures faultless { OnOk result (IsFaultless self.new) }
+        ensures log { (keeper_of self.new).log.number ≡ (keeper_of self.old).log.number }
+        ensures unput { IsResting self.old → (O.shown outside.new).taken ≡ (O.shown outside.old).taken }
+        ensures settled { IsAsking item → IsResting self.old → OnOk result (pending_of (keeper_of self.new) ≡ 0) }
+        ensures left { (O.shown outside.new).left ≡ (O.shown outside.old).left }
+        ensures counts { CountsFor item (O.faults outside.old) (O.faults outside.new) result }
+    {
+        let Err(end) = self.work_item(alloc, item, outside) else {
+            return Ok(());
+        };
+        if end.is_memory() {
+            return Err(self.end_for_memory(outside));
+        }
+        Err(end)
+    }
+
+    /// How the session ends where memory is wanting, once what is pending and held is flushed: so, or by the fault of that flush.
+    pub(crate) fn end_for_memory<O: Outside>(&mut self, outside: &mut O) -> SessionEnd
+        requires faultless { IsFaultless self.old }
+        ensures ends { (work : Work) (ground : Ground)
+            → IsAmid (O.may_leave outside.old) (O.shown outside.old) self.old work ground
+            → EndsForMemory result (O.may_leave outside.new) (O.shown outside.new) self.new work ground }
+        ensures any_moment { (work : Work) (ground : Ground)
+            → IsAmid (O.may_leave outside.old) (O.shown outside.old) self.old work ground
+            → LeavesOnly O.moment O.left_since outside.old outside.new (FlushLeaves work ground) }
+        // Whatever the disk stands for, but for the mark the files stay, in what is read and at any moment.
+        ensures others { (other : FileId) → other ≢ Mark → (O.shown outside.new).files other ≡ (O.shown outside.old).files other }
+        ensures elsewhere { LeavesOnly O.moment O.left_since outside.old outside.new (IsElsewhere (O.may_leave outside.old) (log_file (keeper_of self.old).log.number)) }
+        ensures idle { IsResting self.old → (outside.new ≡ outside.old) × (result ≡ SessionEnd.Memory) }
+        ensures rest { HasSameRest self.old self.new }
+        ensures log { (keeper_of self.new).log ≡ (keeper_of self.old).log }
+        ensures unheld { held_of self.old ≡ [] → (O.shown outside.new).taken ≡ (O.shown outside.old).taken }
+        ensures left { (O.shown outside.new).left ≡ (O.shown outside.old).left }
+        ensures counts { Counts {T = Unit {0}} (O.faults outside.old) (O.faults outside.new) (Err result) }
+    {
+        match self.flush(outside) {
+            Ok(()) => SessionEnd::Memory,
+            Err(end) => end,
+        }
+    }
+
+    /// Commits what is pending, with one mark at most, and then puts the replies that are held, in their order. Takes no memory. Behind a fault
+    /// of the output none is held any more.
+    pub fn flush<O: Outside>(&mut self, outside: &mut O) -> Result<(), SessionEnd>
+        requires faultless { IsFaultless self.old }
+        ensures flushed { (work : Work) (ground : Ground)
+            → IsAmid (O.may_leave outside.old) (O.shown outside.old) self.old work ground
+            → Flushed result (O.may_leave outside.new) (O.shown outside.new) self.new work ground }
+        ensures any_moment { (work : Work) (ground : Ground)
+            → IsAmid (O.may_leave outside.old) (O.shown outside.old) self.old work ground
+            → LeavesOnly O.moment O.left_since outside.old outside.new (FlushLeaves work ground) }
+        ensures one_mark { OnOk result (HasCommitted (keeper_of self.old) (keeper_of self.new)) }
+        ensures put { TakesHeld result (O.shown outside.old).taken (O.shown outside.new).taken (held_of self.old) }
+        // Whatever the disk stands for, but for the mark the files stay, in what is read and at any moment.
+        ensures others { (other : FileId) → other ≢ Mark → (O.shown outside.new).files other ≡ (O.shown outside.old).files other }
+        ensures elsewhere { LeavesOnly O.moment O.left_since outside.old outside.new (IsElsewhere (O.may_leave outside.old) (log_file (keeper_of self.old).log.number)) }
+        // At rest no call is made.
+        ensures idle { IsResting self.old → (outside.new ≡ outside.old) × (result ≡ Ok tt) }
+        ensures unheld { held_of self.old ≡ [] → (O.shown outside.new).taken ≡ (O.shown outside.old).taken }
+        // With nothing pending no call of the disk is made.
+        ensures unpending { pending_of (keeper_of self.old) ≡ 0 → (file : FileId) → (O.shown outside.new).files file ≡ (O.shown outside.old).files file }
+        ensures images { pending_of (keeper_of self.old) ≡ 0 → (c : FileId → List ℕ) → O.may_leave outside.new c → O.may_leave outside.old c }
+        ensures no_more { pending_of (keeper_of self.old) ≡ 0 → LeavesOnly O.moment O.left_since outside.old outside.new (IsAsLeft (O.may_leave outside.old)) }
+        ensures rest { HasSameRest self.old self.new }
+        ensures system { (keeper_of self.new).system ≡ (keeper_of self.old).system }
+        ensures held { (held_of self.new ≡ held_of self.old) ⊎ (held_of self.new ≡ []) }
+        ensures room { room_of self.old ≤ room_of self.new }
+        ensures resting { OnOk result (IsResting self.new) }
+        ensures log { (keeper_of self.new).log ≡ (keeper_of self.old).log }
+        ensures shown { O.shown outside.new ≡ record (O.shown outside.old) { files = (O.shown outside.new).files; taken = (O.shown outside.new).taken; told = (O.shown outside.new).told } }
+        ensures left { (O.shown outside.new).left ≡ (O.shown outside.old).left }
+        ensures ends { IfErr result IsFlushEnd }
+        ensures counts { Counts (O.faults outside.old) (O.faults outside.new) result }
+    {
+        self.commit(outside)?;
+        self.put_held(outside)
+    }
+
+    /// Commits what is pending.
+    fn commit<O: Outside>(&mut self, outside: &mut O) -> Result<(), SessionEnd>
+        requires faultless { IsFaultless self.old }
+        ensures committed { (work : Work) (ground : Ground)
+            → IsAmid (O.may_leave outside.old) (O.shown outside.old) self.old work ground
+            → Committed result (O.may_leave outside.new) (O.shown outside.new) self.new work ground }
+        ensures any_moment { (work : Work) (ground : Ground)
+            → IsAmid (O.may_leave outside.old) (O.shown outside.old) self.old work ground
+            → LeavesOnly O.moment O.left_since outside.old outside.new (CommitLeaves work ground) }
+        ensures one_mark { OnOk result (HasCommitted (keeper_of self.old) (keeper_of self.new)) }
+        // Whatever the disk stands for, but for the mark the files stay, in what is read and at any moment.
+        ensures others { (other : FileId) → other ≢ Mark → (O.shown outside.new).files other ≡ (O.shown outside.old).files other }
+        ensures elsewhere { LeavesOnly O.moment O.left_since outside.old outside.new (IsElsewhere (O.may_leave outside.old) (log_file (keeper_of self.old).log.number)) }
+        ensures idle { pending_of (keeper_of self.old) ≡ 0 → (outside.new ≡ outside.old) × (result ≡ Ok tt) }
+        ensures rest { self.new ≡ record self.old { keeper = keeper_of self.new } }
+        ensures log { (keeper_of self.new).log ≡ (keeper_of self.old).log }
+        ensures system { (keeper_of self.new).system ≡ (keeper_of self.old).system }
+        ensures faultless { OnOk result (IsFaultless self.new) }
+        ensures settled { OnOk result (pending_of (keeper_of self.new) ≡ 0) }
+        ensures shown { O.shown outside.new ≡ record (O.shown outside.old) { files = (O.shown outside.new).files } }
+        ensures ends { IfErr result IsDiskEnd }
+        ensures counts { Counts (O.faults outside.old) (O.faults outside.new) result }
+    {
+        if let Err(fault) = commit(&mut self.keeper, outside) {
+            refusal_at_fault(fault)?;
+        }
+        Ok(())
+    }
+
+    /// Puts the replies that are held, and lets them go.
+    fn put_held<O: Outside>(&mut self, outside: &mut O) -> Result<(), SessionEnd>
+        ensures put { TakesHeld result (O.shown outside.old).taken (O.shown outside.new).taken (held_of self.old) }
+        ensures told { (put : List ℕ) → (O.shown outside.old).taken ≡ Some put → (O.shown outside.old).told ≡ length put
+            → HeldPut result (O.shown outside.new).taken (O.shown outside.new).told put (held_of self.old) }
+        ensures images { (c : FileId → List ℕ) → O.may_leave outside.new c → O.may_leave outside.old c }
+        ensures any_moment { LeavesOnly O.moment O.left_since outside.old outside.new
+            (IsAsBefore (O.may_leave outside.old) (O.shown outside.old).told (length (held_of self.old))) }
+        ensures idle { held_of self.old ≡ [] → (outside.new ≡ outside.old) × (result ≡ Ok tt) }
+        ensures rest { self.new ≡ record self.old { held = self.new.held } }
+        ensures none { held_of self.new ≡ [] }
+        ensures room { room_of self.old ≤ room_of self.new }
+        ensures shown { O.shown outside.new ≡ record (O.shown outside.old) { taken = (O.shown outside.new).taken; told = (O.shown outside.new).told } }
+        ensures ends { IfErr result IsWriteEnd }
+        ensures counts { Counts (O.faults outside.old) (O.faults outside.new) result }
+    {
+        if self.held.bytes().is_empty() {
+            return Ok(());
+        }
+        let put = put_all(outside, self.held.bytes());
+        self.held.clear();
+        put.map_err(SessionEnd::Write)
+    }
+
+    /// Works one item, and holds its reply.
+    fn work_item<O: Outside>(
+        &mut self,
+        alloc: Global,
+        item: SessionItem,
+        outside: &mut O,
+    ) -> Result<(), SessionEnd>
+        requires faultless { IsFaultless self.old }
+        ensures worked { (work : Work) (ground : Ground) → IsReadable item
+            → IsAmid (O.may_leave outside.old) (O.shown outside.old) self.old work ground
+            → ItemWorked result (O.may_leave outside.new) (O.shown outside.new) self.new (was_of self.old) work ground item }
+        ensures any_moment { (work : Work) (ground : Ground) → IsReadable item
+            → IsAmid (O.may_leave outside.old) (O.shown outside.old) self.old work ground
+            → LeavesOnly O.moment O.left_since outside.old outside.new (WorkLeaves work ground item) }
+        ensures grouped { (work : Work) (ground : Ground) → IsReadable item → IsGrouped item
+            → IsAmid (O.may_leave outside.old) (O.shown outside.old) self.old work ground
+            → LeavesOnly O.moment O.left_since outside.old outside.new (HasKept ground.kept (length ground.put)) }
+        ensures unmarked { IsReadable item → IsGrouped item → (O.shown outside.new).files Mark ≡ (O.shown outside.old).files Mark }
+        ensures silent { IsReadable item → IsGrouped item → (O.shown outside.new).taken ≡ (O.shown outside.old).taken }
+        // Whatever the disk stands for, but for the mark and the log the files stay, in what is read and at any moment.
+        ensures others { (other : FileId) → other ≢ Mark → other ≢ log_file (keeper_of self.old).log.number → (O.shown outside.new).files other ≡ (O.shown outside.old).files other }
+        ensures elsewhere { LeavesOnly O.moment O.left_since outside.old outside.new (IsElsewhere (O.may_leave outside.old) (log_file (keeper_of self.old).log.number)) }
+        // At rest a query changes no file, and at any moment a crash leaves what it might have left before.
+        ensures asked { IsAsking item → IsResting self.old → (file : FileId) → (O.shown outside.new).files file ≡ (O.shown outside.old).files file }
+        ensures images { IsAsking item → IsResting self.old → (c : FileId → List ℕ) → O.may_leave outside.new c → O.may_leave outside.old c }
+        ensures no_more { IsAsking item → IsResting self.old → LeavesOnly O.moment O.left_since outside.old outside.new (IsAsLeft (O.may_leave outside.old)) }
+        ensures sound { IsTrue (O.shown outside.old).tells → (changes : List Change) → Knows (O.shown outside.old).files (keeper_of self.old) changes → MeetsNoDamage result }
+        ensures troubled { TroubleWhile result self.old self.new }
+        ensures last_run { RunAfter result item self.old self.new }
+        ensures budget { budget_of self.new ≡ budget_of self.old }
+        ensures faultless { OnOkOrMemory result (IsFaultless self.new) }
+        ensures log { (keeper_of self.new).log.number ≡ (keeper_of self.old).log.number }
+        ensures unput { IsResting self.old → (O.shown outside.new).taken ≡ (O.shown outside.old).taken }
+        ensures unheld { IsResting self.old → OnErr result (held_of self.new ≡ []) }
+        ensures settled { IsAsking item → IsResting self.old → OnOkOrMemory result (pending_of (keeper_of self.new) ≡ 0) }
+        ensures left { (O.shown outside.new).left ≡ (O.shown outside.old).left }
+        ensures counts { CountsFor item (O.faults outside.old) (O.faults outside.new) result }
+    {
+        self.held.reserve(ACCEPTED.len())?;
+        let Answer { reply, section } = self.answer_to(alloc, item, outside)?;
+        self.hold(alloc, &reply)?;
+        self.enter(section);
+        Ok(())
+    }
+
+    /// Holds a reply, and notes whether something was refused or stopped. Memory is wanting for a refusal or what a query is told alone, where
+    /// there is room for all else.
+    fn hold(&mut self, alloc: Global, reply: &Reply) -> Result<(), OutOfMemory>
+        ensures held { OnOk result (held_of self.new ≡ held_of self.old ++ reply_text reply.now) }
+        ensures troubled { OnOk result (troubled_of self.new ≡ (troubled_of self.old || is_trouble reply.now)) }
+        ensures same { OnErr result ((held_of self.new ≡ held_of self.old) × (troubled_of self.new ≡ troubled_of self.old)) }
+        ensures lacks { OnErr result (LacksRoom reply.now (room_of self.old)) }
+        ensures rest { self.new ≡ record self.old { held = self.new.held; troubled = troubled_of self.new } }
+    {
         match reply {
-            Reply::Silent => {
-                self.enter(section);
-                Ok(())
-            }
-            Reply::Accepted => {
-                self.enter(section);
-                answer(outside, b"ok\n")
-            }
+            Reply::Silent => {}
+            Reply::Accepted => self.held.hold(ACCEPTED)?,
             Reply::Refused(refusal) => {
-                let line = refusal_line(alloc, &refusal)?;
+                let line = refusal_line(alloc, refusal)?;
+                self.held.hold(line.bytes())?;
                 self.troubled = true;
-                self.enter(section);
-                answer(outside, line.bytes())
             }
             Reply::Evaluated { lines, stopped } => {
-                self.troubled |= stopped;
-                self.enter(section);
-                answer(outside, lines.bytes())
+                self.held.hold(lines.bytes())?;
+                self.troubled |= *stopped;
             }
-            Reply::Told(text) => {
-                self.enter(section);
-                answer(outside, text.bytes())
-            }
+            Reply::Told(text) => self.held.hold(text.bytes())?,
         }
+        Ok(())
     }
 
     /// Goes on in this section, where it is another one.
@@ -183,33 +406,42 @@ impl Session {
     }
 
     /// Works one item, and says what it is to be answered, and in which section the next item stands. The session's section stays.
-    fn work<O: Outside>(
+    fn answer_to<O: Outside>(
         &mut self,
         alloc: Global,
         item: SessionItem,
         outside: &mut O,
     ) -> Result<Answer, SessionEnd>
         requires faultless { IsFaultless self.old }
-        ensures worked { (work : Work) (put : List ℕ) → IsReadable item
-            → IsAt (O.may_leave outside.old) (O.shown outside.old) self.old work put
-            → Worked result (O.may_leave outside.new) (O.shown outside.new) self.new (was_of self.old) work put item }
-        ensures any_moment { (work : Work) (put : List ℕ) → IsReadable item
-            → IsAt (O.may_leave outside.old) (O.shown outside.old) self.old work put
-            → LeavesOnly O.moment O.left_since outside.old outside.new (WorkLeaves work put item) }
+        ensures answers { (work : Work) (ground : Ground) → IsReadable item
+            → IsAmid (O.may_leave outside.old) (O.shown outside.old) self.old work ground
+            → Answers result (O.may_leave outside.new) (O.shown outside.new) self.new (was_of self.old) work ground item }
+        ensures any_moment { (work : Work) (ground : Ground) → IsReadable item
+            → IsAmid (O.may_leave outside.old) (O.shown outside.old) self.old work ground
+            → LeavesOnly O.moment O.left_since outside.old outside.new (WorkLeaves work ground item) }
+        ensures grouped { (work : Work) (ground : Ground) → IsReadable item → IsGrouped item
+            → IsAmid (O.may_leave outside.old) (O.shown outside.old) self.old work ground
+            → LeavesOnly O.moment O.left_since outside.old outside.new (HasKept ground.kept (length ground.put)) }
+        ensures unmarked { IsReadable item → IsGrouped item → (O.shown outside.new).files Mark ≡ (O.shown outside.old).files Mark }
+        ensures silent { IsReadable item → IsGrouped item → ((O.shown outside.new).taken ≡ (O.shown outside.old).taken) × (held_of self.new ≡ held_of self.old) }
         // Whatever the disk stands for, but for the mark and the log the files stay, in what is read and at any moment.
         ensures others { (other : FileId) → other ≢ Mark → other ≢ log_file (keeper_of self.old).log.number → (O.shown outside.new).files other ≡ (O.shown outside.old).files other }
         ensures elsewhere { LeavesOnly O.moment O.left_since outside.old outside.new (IsElsewhere (O.may_leave outside.old) (log_file (keeper_of self.old).log.number)) }
-        // A query changes no file, and at any moment a crash leaves what it might have left before.
-        ensures asked { IsAsking item → (file : FileId) → (O.shown outside.new).files file ≡ (O.shown outside.old).files file }
-        ensures images { IsAsking item → (c : FileId → List ℕ) → O.may_leave outside.new c → O.may_leave outside.old c }
-        ensures no_more { IsAsking item → LeavesOnly O.moment O.left_since outside.old outside.new (IsAsLeft (O.may_leave outside.old)) }
+        // At rest a query changes no file, and at any moment a crash leaves what it might have left before.
+        ensures asked { IsAsking item → IsResting self.old → (file : FileId) → (O.shown outside.new).files file ≡ (O.shown outside.old).files file }
+        ensures images { IsAsking item → IsResting self.old → (c : FileId → List ℕ) → O.may_leave outside.new c → O.may_leave outside.old c }
+        ensures no_more { IsAsking item → IsResting self.old → LeavesOnly O.moment O.left_since outside.old outside.new (IsAsLeft (O.may_leave outside.old)) }
         ensures sound { IsTrue (O.shown outside.old).tells → (changes : List Change) → Knows (O.shown outside.old).files (keeper_of self.old) changes → MeetsNoDamage result }
         ensures troubled { troubled_of self.new ≡ troubled_of self.old }
+        ensures held { (held_of self.new ≡ held_of self.old) ⊎ (held_of self.new ≡ []) }
+        ensures room { 3 ≤ room_of self.old → IfOk result (λ answer. HasRoomFor item answer.reply (room_of self.new)) }
         ensures last_run { RunAfterWork result item self.old self.new }
         ensures budget { budget_of self.new ≡ budget_of self.old }
-        ensures faultless { OnOk result (IsFaultless self.new) }
+        ensures faultless { OnOkOrMemory result (IsFaultless self.new) }
+        ensures log { (keeper_of self.new).log.number ≡ (keeper_of self.old).log.number }
+        ensures unput { IsResting self.old → (O.shown outside.new).taken ≡ (O.shown outside.old).taken }
+        ensures settled { IsAsking item → IsResting self.old → OnOkOrMemory result (pending_of (keeper_of self.new) ≡ 0) }
         ensures left { (O.shown outside.new).left ≡ (O.shown outside.old).left }
-        ensures taken { (O.shown outside.new).taken ≡ (O.shown outside.old).taken }
         ensures ends { IfErr result IsWorkEnd }
         ensures counts { CountsFor item (O.faults outside.old) (O.faults outside.new) result }
     {
@@ -232,6 +464,7 @@ impl Session {
             }
             SessionItem::Unended => Ok(Answer::staying(Reply::Refused(Refusal::Unended))),
             SessionItem::Query(query) => {
+                self.flush(outside)?;
                 Ok(Answer::staying(self.work_query(alloc, query, outside)?))
             }
         }
@@ -246,21 +479,30 @@ impl Session {
         outside: &mut O,
     ) -> Result<Reply, SessionEnd>
         requires faultless { IsFaultless self.old }
-        ensures replied { (work : Work) (put : List ℕ) → IsChunkText text → length text ≤ longest
-            → IsAt (O.may_leave outside.old) (O.shown outside.old) self.old work put
-            → Replied result (O.may_leave outside.new) (O.shown outside.new) self.new (was_of self.old) work put (SessionItem.Chunk (items.Plain text)) }
-        ensures any_moment { (work : Work) (put : List ℕ) → IsChunkText text → length text ≤ longest
-            → IsAt (O.may_leave outside.old) (O.shown outside.old) self.old work put
-            → LeavesOnly O.moment O.left_since outside.old outside.new (WorkLeaves work put (SessionItem.Chunk (items.Plain text))) }
+        ensures replied { (work : Work) (ground : Ground) → IsChunkText text → length text ≤ longest
+            → IsAmid (O.may_leave outside.old) (O.shown outside.old) self.old work ground
+            → Replied result (O.may_leave outside.new) (O.shown outside.new) self.new (was_of self.old) work ground (SessionItem.Chunk (items.Plain text)) }
+        ensures any_moment { (work : Work) (ground : Ground) → IsChunkText text → length text ≤ longest
+            → IsAmid (O.may_leave outside.old) (O.shown outside.old) self.old work ground
+            → LeavesOnly O.moment O.left_since outside.old outside.new (WorkLeaves work ground (SessionItem.Chunk (items.Plain text))) }
+        ensures grouped { (work : Work) (ground : Ground) → IsChunkText text → length text ≤ longest → IsGrouped (SessionItem.Chunk (items.Plain text))
+            → IsAmid (O.may_leave outside.old) (O.shown outside.old) self.old work ground
+            → LeavesOnly O.moment O.left_since outside.old outside.new (HasKept ground.kept (length ground.put)) }
+        ensures unmarked { IsChunkText text → length text ≤ longest → IsGrouped (SessionItem.Chunk (items.Plain text)) → (O.shown outside.new).files Mark ≡ (O.shown outside.old).files Mark }
+        ensures silent { IsChunkText text → length text ≤ longest → IsGrouped (SessionItem.Chunk (items.Plain text))
+            → ((O.shown outside.new).taken ≡ (O.shown outside.old).taken) × (held_of self.new ≡ held_of self.old) }
         // Whatever the disk stands for, but for the mark and the log the files stay, in what is read and at any moment.
         ensures others { (other : FileId) → other ≢ Mark → other ≢ log_file (keeper_of self.old).log.number → (O.shown outside.new).files other ≡ (O.shown outside.old).files other }
         ensures elsewhere { LeavesOnly O.moment O.left_since outside.old outside.new (IsElsewhere (O.may_leave outside.old) (log_file (keeper_of self.old).log.number)) }
         ensures troubled { troubled_of self.new ≡ troubled_of self.old }
         ensures last_run { RunAfterText result (SessionItem.Chunk (items.Plain text)) self.old self.new }
         ensures budget { budget_of self.new ≡ budget_of self.old }
-        ensures faultless { OnOk result (IsFaultless self.new) }
+        ensures faultless { OnOkOrMemory result (IsFaultless self.new) }
         ensures left { (O.shown outside.new).left ≡ (O.shown outside.old).left }
-        ensures taken { (O.shown outside.new).taken ≡ (O.shown outside.old).taken }
+        ensures unput { IsResting self.old → (O.shown outside.new).taken ≡ (O.shown outside.old).taken }
+        ensures held { (held_of self.new ≡ held_of self.old) ⊎ (held_of self.new ≡ []) }
+        ensures room { 3 ≤ room_of self.old → IfOk result (λ reply. HasRoom reply (room_of self.new)) }
+        ensures log { (keeper_of self.new).log.number ≡ (keeper_of self.old).log.number }
         ensures ends { IfErr result IsWorkEnd }
         ensures counts { Counts (O.faults outside.old) (O.faults outside.new) result }
     {
@@ -292,22 +534,25 @@ impl Session {
     ) -> Result<Reply, SessionEnd>
         requires faultless { IsFaultless self.old }
         requires method { IsMethodOfDoIt text method.now }
-        ensures replied { (work : Work) (put : List ℕ) → IsChunkText text → length text ≤ longest → IsNoFormText text
-            → IsAt (O.may_leave outside.old) (O.shown outside.old) self.old work put
-            → Replied result (O.may_leave outside.new) (O.shown outside.new) self.new (was_of self.old) work put (SessionItem.Chunk (items.Plain text)) }
-        ensures any_moment { (work : Work) (put : List ℕ) → IsChunkText text → length text ≤ longest → IsNoFormText text
-            → IsAt (O.may_leave outside.old) (O.shown outside.old) self.old work put
-            → LeavesOnly O.moment O.left_since outside.old outside.new (WorkLeaves work put (SessionItem.Chunk (items.Plain text))) }
-        // Whatever the disk stands for, but for the mark and the log the files stay, in what is read and at any moment.
-        ensures others { (other : FileId) → other ≢ Mark → other ≢ log_file (keeper_of self.old).log.number → (O.shown outside.new).files other ≡ (O.shown outside.old).files other }
+        ensures replied { (work : Work) (ground : Ground) → IsChunkText text → length text ≤ longest → IsNoFormText text
+            → IsAmid (O.may_leave outside.old) (O.shown outside.old) self.old work ground
+            → Replied result (O.may_leave outside.new) (O.shown outside.new) self.new (was_of self.old) work ground (SessionItem.Chunk (items.Plain text)) }
+        ensures any_moment { (work : Work) (ground : Ground) → IsChunkText text → length text ≤ longest → IsNoFormText text
+            → IsAmid (O.may_leave outside.old) (O.shown outside.old) self.old work ground
+            → LeavesOnly O.moment O.left_since outside.old outside.new (HasKept ground.kept (length ground.put)) }
+        // Whatever the disk stands for, but for the log the files stay, and at any moment but for the mark and the log.
+        ensures others { (other : FileId) → other ≢ log_file (keeper_of self.old).log.number → (O.shown outside.new).files other ≡ (O.shown outside.old).files other }
         ensures elsewhere { LeavesOnly O.moment O.left_since outside.old outside.new (IsElsewhere (O.may_leave outside.old) (log_file (keeper_of self.old).log.number)) }
         ensures troubled { troubled_of self.new ≡ troubled_of self.old }
         ensures last_run { IsNoFormText text → RunAfterText result (SessionItem.Chunk (items.Plain text)) self.old self.new }
         ensures budget { budget_of self.new ≡ budget_of self.old }
-        ensures faultless { OnOk result (IsFaultless self.new) }
+        ensures faultless { OnOkOrMemory result (IsFaultless self.new) }
         ensures left { (O.shown outside.new).left ≡ (O.shown outside.old).left }
         ensures taken { (O.shown outside.new).taken ≡ (O.shown outside.old).taken }
-        ensures ends { IfErr result IsWorkEnd }
+        ensures held { held_of self.new ≡ held_of self.old }
+        ensures room { 3 ≤ room_of self.old → IfOk result (λ reply. HasRoom reply (room_of self.new)) }
+        ensures log { (keeper_of self.new).log.number ≡ (keeper_of self.old).log.number }
+        ensures ends { IfErr result IsKeepEnd }
         ensures counts { Counts (O.faults outside.old) (O.faults outside.new) result }
     {
         let code = compile(alloc, self.keeper.system(), method)?;
@@ -317,16 +562,19 @@ impl Session {
         }
     }
 
-    /// Evaluates the code of a doIt among the classes and methods as they are. The keeper stays.
+    /// Evaluates the code of a doIt among the classes and methods as they are, and makes room to hold what it is told. The keeper stays.
     fn evaluate(&mut self, alloc: Global, code: &Verified) -> Result<Reply, OutOfMemory>
         requires { (text : List ℕ) × IsDoItCode text code.now }
         ensures evaluated { (text : List ℕ) → IsDoItCode text code.now → Evaluates result self.old self.new text }
-        ensures rest { self.new ≡ record self.old { last_run = last_run_of self.new } }
+        ensures held { held_of self.new ≡ held_of self.old }
+        ensures room { IfOk result (λ reply. HasRoom reply (room_of self.new)) }
+        ensures rest { self.new ≡ record self.old { last_run = last_run_of self.new; held = self.new.held } }
     {
         let system = self.keeper.system();
         let ran = evaluate(alloc, system, code, self.budget)?;
         let mut lines = answer_of(alloc, system, &ran)?;
         lines.append(b"\n")?;
+        self.held.reserve(lines.bytes().len())?;
         let stopped = is_stopped(&ran);
         self.last_run = Some(ran);
         Ok(Reply::Evaluated { lines, stopped })
@@ -340,22 +588,25 @@ impl Session {
         outside: &mut O,
     ) -> Result<Reply, SessionEnd>
         requires faultless { IsFaultless self.old }
-        ensures replied { (work : Work) (put : List ℕ) → IsChunkText source → length source ≤ longest
-            → IsAt (O.may_leave outside.old) (O.shown outside.old) self.old work put
-            → Replied result (O.may_leave outside.new) (O.shown outside.new) self.new (was_of self.old) work put (SessionItem.Chunk (items.Method source)) }
-        ensures any_moment { (work : Work) (put : List ℕ) → IsChunkText source → length source ≤ longest
-            → IsAt (O.may_leave outside.old) (O.shown outside.old) self.old work put
-            → LeavesOnly O.moment O.left_since outside.old outside.new (WorkLeaves work put (SessionItem.Chunk (items.Method source))) }
-        // Whatever the disk stands for, but for the mark and the log the files stay, in what is read and at any moment.
-        ensures others { (other : FileId) → other ≢ Mark → other ≢ log_file (keeper_of self.old).log.number → (O.shown outside.new).files other ≡ (O.shown outside.old).files other }
+        ensures replied { (work : Work) (ground : Ground) → IsChunkText source → length source ≤ longest
+            → IsAmid (O.may_leave outside.old) (O.shown outside.old) self.old work ground
+            → Replied result (O.may_leave outside.new) (O.shown outside.new) self.new (was_of self.old) work ground (SessionItem.Chunk (items.Method source)) }
+        ensures any_moment { (work : Work) (ground : Ground) → IsChunkText source → length source ≤ longest
+            → IsAmid (O.may_leave outside.old) (O.shown outside.old) self.old work ground
+            → LeavesOnly O.moment O.left_since outside.old outside.new (HasKept ground.kept (length ground.put)) }
+        // Whatever the disk stands for, but for the log the files stay, and at any moment but for the mark and the log.
+        ensures others { (other : FileId) → other ≢ log_file (keeper_of self.old).log.number → (O.shown outside.new).files other ≡ (O.shown outside.old).files other }
         ensures elsewhere { LeavesOnly O.moment O.left_since outside.old outside.new (IsElsewhere (O.may_leave outside.old) (log_file (keeper_of self.old).log.number)) }
         ensures troubled { troubled_of self.new ≡ troubled_of self.old }
         ensures last_run { last_run_of self.new ≡ last_run_of self.old }
         ensures budget { budget_of self.new ≡ budget_of self.old }
-        ensures faultless { OnOk result (IsFaultless self.new) }
+        ensures faultless { OnOkOrMemory result (IsFaultless self.new) }
         ensures left { (O.shown outside.new).left ≡ (O.shown outside.old).left }
         ensures taken { (O.shown outside.new).taken ≡ (O.shown outside.old).taken }
-        ensures ends { IfErr result IsWorkEnd }
+        ensures held { self.new.held ≡ self.old.held }
+        ensures room { 3 ≤ room_of self.old → IfOk result (λ reply. HasRoom reply (room_of self.new)) }
+        ensures log { (keeper_of self.new).log.number ≡ (keeper_of self.old).log.number }
+        ensures ends { IfErr result IsKeepEnd }
         ensures counts { Counts (O.faults outside.old) (O.faults outside.new) result }
     {
         classes_are_named();
@@ -375,31 +626,37 @@ impl Session {
         }
     }
 
-    /// Keeps the note of a snapshot.
+    /// Keeps the note of a snapshot by itself: what is pending and held is flushed before.
     fn keep_note<O: Outside>(&mut self, alloc: Global, outside: &mut O) -> Result<Reply, SessionEnd>
         requires faultless { IsFaultless self.old }
-        ensures noted { (work : Work) (put : List ℕ)
-            → IsAt (O.may_leave outside.old) (O.shown outside.old) self.old work put
-            → Noted result (O.may_leave outside.new) (O.shown outside.new) self.new work put }
-        ensures any_moment { (work : Work) (put : List ℕ)
-            → IsAt (O.may_leave outside.old) (O.shown outside.old) self.old work put
-            → LeavesOnly O.moment O.left_since outside.old outside.new (KeepLeaves work put (Change.DoIt snapshot_note)) }
+        ensures noted { (work : Work) (ground : Ground) (item : SessionItem) → Asks item (adds (Change.DoIt snapshot_note))
+            → IsAmid (O.may_leave outside.old) (O.shown outside.old) self.old work ground
+            → Noted result (O.may_leave outside.new) (O.shown outside.new) self.new work ground item }
+        ensures any_moment { (work : Work) (ground : Ground) (item : SessionItem) → Asks item (adds (Change.DoIt snapshot_note))
+            → IsAmid (O.may_leave outside.old) (O.shown outside.old) self.old work ground
+            → LeavesOnly O.moment O.left_since outside.old outside.new (WorkLeaves work ground item) }
         // Whatever the disk stands for, but for the mark and the log the files stay, in what is read and at any moment.
         ensures others { (other : FileId) → other ≢ Mark → other ≢ log_file (keeper_of self.old).log.number → (O.shown outside.new).files other ≡ (O.shown outside.old).files other }
         ensures elsewhere { LeavesOnly O.moment O.left_since outside.old outside.new (IsElsewhere (O.may_leave outside.old) (log_file (keeper_of self.old).log.number)) }
-        ensures rest { self.new ≡ record self.old { keeper = keeper_of self.new } }
-        ensures faultless { OnOk result (IsFaultless self.new) }
+        ensures rest { HasSameRest self.old self.new }
+        ensures unput { IsResting self.old → (O.shown outside.new).taken ≡ (O.shown outside.old).taken }
+        ensures held { (held_of self.new ≡ held_of self.old) ⊎ (held_of self.new ≡ []) }
+        ensures room { 3 ≤ room_of self.old → IfOk result (λ reply. HasRoom reply (room_of self.new)) }
+        ensures log { (keeper_of self.new).log.number ≡ (keeper_of self.old).log.number }
+        ensures faultless { OnOkOrMemory result (IsFaultless self.new) }
         ensures left { (O.shown outside.new).left ≡ (O.shown outside.old).left }
-        ensures taken { (O.shown outside.new).taken ≡ (O.shown outside.old).taken }
         ensures ends { IfErr result IsWorkEnd }
+        ensures ends_at_rest { IsResting self.old → IfErr result IsKeepEnd }
         ensures counts { Counts (O.faults outside.old) (O.faults outside.new) result }
     {
+        self.flush(outside)?;
         let text = snapshot_note(alloc)?;
         let refusal = self.keep(alloc, Change::DoIt { text }, outside)?;
+        self.commit(outside)?;
         Ok(reply_to_keeping(refusal))
     }
 
-    /// Keeps a change, on the disk. Says why it is refused, if it is.
+    /// Keeps a change, to be committed later. Says why it is refused, if it is.
     fn keep<O: Outside>(
         &mut self,
         alloc: Global,
@@ -407,20 +664,21 @@ impl Session {
         outside: &mut O,
     ) -> Result<Option<Refusal>, SessionEnd>
         requires faultless { IsFaultless self.old }
-        ensures kept { (work : Work) (put : List ℕ) → IsLawfulFor work.changes change
-            → IsAt (O.may_leave outside.old) (O.shown outside.old) self.old work put
-            → Kept result (O.may_leave outside.new) (O.shown outside.new) self.new work put change }
-        ensures any_moment { (work : Work) (put : List ℕ) → IsLawfulFor work.changes change
-            → IsAt (O.may_leave outside.old) (O.shown outside.old) self.old work put
-            → LeavesOnly O.moment O.left_since outside.old outside.new (KeepLeaves work put change) }
-        // Whatever the disk stands for, but for the mark and the log the files stay, in what is read and at any moment.
-        ensures others { (other : FileId) → other ≢ Mark → other ≢ log_file (keeper_of self.old).log.number → (O.shown outside.new).files other ≡ (O.shown outside.old).files other }
+        ensures kept { (work : Work) (ground : Ground) → IsLawfulFor work.changes change
+            → IsAmid (O.may_leave outside.old) (O.shown outside.old) self.old work ground
+            → Kept result (O.may_leave outside.new) (O.shown outside.new) self.new work ground change }
+        ensures any_moment { (work : Work) (ground : Ground) → IsLawfulFor work.changes change
+            → IsAmid (O.may_leave outside.old) (O.shown outside.old) self.old work ground
+            → LeavesOnly O.moment O.left_since outside.old outside.new (HasKept ground.kept (length ground.put)) }
+        // Whatever the disk stands for, but for the log the files stay, and at any moment but for the mark and the log.
+        ensures others { (other : FileId) → other ≢ log_file (keeper_of self.old).log.number → (O.shown outside.new).files other ≡ (O.shown outside.old).files other }
         ensures elsewhere { LeavesOnly O.moment O.left_since outside.old outside.new (IsElsewhere (O.may_leave outside.old) (log_file (keeper_of self.old).log.number)) }
         ensures rest { self.new ≡ record self.old { keeper = keeper_of self.new } }
-        ensures faultless { OnOk result (IsFaultless self.new) }
+        ensures faultless { OnOkOrMemory result (IsFaultless self.new) }
         ensures left { (O.shown outside.new).left ≡ (O.shown outside.old).left }
         ensures taken { (O.shown outside.new).taken ≡ (O.shown outside.old).taken }
-        ensures ends { IfErr result IsWorkEnd }
+        ensures log { (keeper_of self.new).log.number ≡ (keeper_of self.old).log.number }
+        ensures ends { IfErr result IsKeepEnd }
         ensures counts { Counts (O.faults outside.old) (O.faults outside.new) result }
     {
         let prepared = match self.keeper.prepare(alloc, change) {
@@ -428,7 +686,7 @@ impl Session {
             Err(Refused::Memory) => return Err(SessionEnd::Memory),
             Err(Refused::Refusal(refusal)) => return Ok(Some(refusal)),
         };
-        match keep_change(&mut self.keeper, outside, prepared) {
+        match keep_later(&mut self.keeper, outside, prepared) {
             Ok(_) => Ok(None),
             Err(fault) => Ok(Some(refusal_at_fault(fault)?)),
         }
@@ -441,13 +699,13 @@ impl Session {
         query: Query,
         outside: &mut O,
     ) -> Result<Reply, SessionEnd>
-        requires faultless { IsFaultless self.old }
+        requires resting { IsResting self.old }
         ensures replied { (work : Work) (put : List ℕ)
             → IsAt (O.may_leave outside.old) (O.shown outside.old) self.old work put
-            → Replied result (O.may_leave outside.new) (O.shown outside.new) self.new (was_of self.old) work put (SessionItem.Query query) }
+            → QueryWorked result (O.may_leave outside.new) (O.shown outside.new) self.new (was_of self.old) work put (SessionItem.Query query) }
         ensures any_moment { (work : Work) (put : List ℕ)
             → IsAt (O.may_leave outside.old) (O.shown outside.old) self.old work put
-            → LeavesOnly O.moment O.left_since outside.old outside.new (WorkLeaves work put (SessionItem.Query query)) }
+            → LeavesOnly O.moment O.left_since outside.old outside.new (WorkLeaves work (at_rest work put) (SessionItem.Query query)) }
         // Whatever the disk stands for, but for the mark and the log the files stay, in what is read and at any moment.
         ensures others { (other : FileId) → other ≢ Mark → other ≢ log_file (keeper_of self.old).log.number → (O.shown outside.new).files other ≡ (O.shown outside.old).files other }
         ensures elsewhere { LeavesOnly O.moment O.left_since outside.old outside.new (IsElsewhere (O.may_leave outside.old) (log_file (keeper_of self.old).log.number)) }
@@ -459,10 +717,14 @@ impl Session {
         ensures troubled { troubled_of self.new ≡ troubled_of self.old }
         ensures last_run { last_run_of self.new ≡ last_run_of self.old }
         ensures budget { budget_of self.new ≡ budget_of self.old }
-        ensures faultless { OnOk result (IsFaultless self.new) }
+        ensures faultless { OnOkOrMemory result (IsFaultless self.new) }
         ensures left { (O.shown outside.new).left ≡ (O.shown outside.old).left }
         ensures taken { (O.shown outside.new).taken ≡ (O.shown outside.old).taken }
-        ensures ends { IfErr result IsWorkEnd }
+        ensures held { held_of self.new ≡ held_of self.old }
+        ensures room { 3 ≤ room_of self.old → IfOk result (λ reply. HasRoom reply (room_of self.new)) }
+        ensures settled { IsQuestion query → pending_of (keeper_of self.new) ≡ 0 }
+        ensures log { (keeper_of self.new).log.number ≡ (keeper_of self.old).log.number }
+        ensures ends { IfErr result IsKeepEnd }
         ensures counts { CountsFor (SessionItem.Query query) (O.faults outside.old) (O.faults outside.new) result }
     {
         let system = self.keeper.system();
@@ -487,10 +749,10 @@ impl Session {
         selector: Text,
         outside: &mut O,
     ) -> Result<Reply, SessionEnd>
-        requires faultless { IsFaultless self.old }
+        requires resting { IsResting self.old }
         ensures replied { (work : Work) (put : List ℕ)
             → IsAt (O.may_leave outside.old) (O.shown outside.old) self.old work put
-            → Replied result (O.may_leave outside.new) (O.shown outside.new) self.new (was_of self.old) work put (SessionItem.Query (Query.Source spec selector)) }
+            → QueryWorked result (O.may_leave outside.new) (O.shown outside.new) self.new (was_of self.old) work put (SessionItem.Query (Query.Source spec selector)) }
         ensures any_moment { (work : Work) (put : List ℕ)
             → IsAt (O.may_leave outside.old) (O.shown outside.old) self.old work put
             → LeavesOnly O.moment O.left_since outside.old outside.new (HasKept work.changes (length put)) }
@@ -501,8 +763,12 @@ impl Session {
         ensures troubled { troubled_of self.new ≡ troubled_of self.old }
         ensures last_run { last_run_of self.new ≡ last_run_of self.old }
         ensures budget { budget_of self.new ≡ budget_of self.old }
-        ensures faultless { OnOk result (IsFaultless self.new) }
-        ensures ends { IfErr result IsWorkEnd }
+        ensures faultless { OnOkOrMemory result (IsFaultless self.new) }
+        ensures held { self.new.held ≡ self.old.held }
+        ensures room { (room : ℕ) → IfOk result (λ reply. HasRoom reply room) }
+        ensures pending { pending_of (keeper_of self.new) ≡ pending_of (keeper_of self.old) }
+        ensures log { (keeper_of self.new).log.number ≡ (keeper_of self.old).log.number }
+        ensures ends { IfErr result IsKeepEnd }
         ensures counts { SourceCounts (O.faults outside.old) (O.faults outside.new) result }
     {
         let Some((name, side)) = side_named(alloc, &spec)? else {
@@ -529,10 +795,10 @@ impl Session {
         selector: Text,
         outside: &mut O,
     ) -> Result<Reply, SessionEnd>
-        requires faultless { IsFaultless self.old }
+        requires resting { IsResting self.old }
         ensures replied { (work : Work) (put : List ℕ)
             → IsAt (O.may_leave outside.old) (O.shown outside.old) self.old work put
-            → Replied result (O.may_leave outside.new) (O.shown outside.new) self.new (was_of self.old) work put (SessionItem.Query (Query.Versions spec selector)) }
+            → QueryWorked result (O.may_leave outside.new) (O.shown outside.new) self.new (was_of self.old) work put (SessionItem.Query (Query.Versions spec selector)) }
         ensures any_moment { (work : Work) (put : List ℕ)
             → IsAt (O.may_leave outside.old) (O.shown outside.old) self.old work put
             → LeavesOnly O.moment O.left_since outside.old outside.new (HasKept work.changes (length put)) }
@@ -543,8 +809,12 @@ impl Session {
         ensures troubled { troubled_of self.new ≡ troubled_of self.old }
         ensures last_run { last_run_of self.new ≡ last_run_of self.old }
         ensures budget { budget_of self.new ≡ budget_of self.old }
-        ensures faultless { OnOk result (IsFaultless self.new) }
-        ensures ends { IfErr result IsWorkEnd }
+        ensures faultless { OnOkOrMemory result (IsFaultless self.new) }
+        ensures held { self.new.held ≡ self.old.held }
+        ensures room { (room : ℕ) → IfOk result (λ reply. HasRoom reply room) }
+        ensures pending { pending_of (keeper_of self.new) ≡ pending_of (keeper_of self.old) }
+        ensures log { (keeper_of self.new).log.number ≡ (keeper_of self.old).log.number }
+        ensures ends { IfErr result IsKeepEnd }
         ensures counts { SourceCounts (O.faults outside.old) (O.faults outside.new) result }
     {
         let Some((name, side)) = side_named(alloc, &spec)? else {
@@ -567,10 +837,10 @@ impl Session {
         alloc: Global,
         outside: &mut O,
     ) -> Result<Reply, SessionEnd>
-        requires faultless { IsFaultless self.old }
+        requires resting { IsResting self.old }
         ensures replied { (work : Work) (put : List ℕ)
             → IsAt (O.may_leave outside.old) (O.shown outside.old) self.old work put
-            → Replied result (O.may_leave outside.new) (O.shown outside.new) self.new (was_of self.old) work put (SessionItem.Query Query.Changes) }
+            → QueryWorked result (O.may_leave outside.new) (O.shown outside.new) self.new (was_of self.old) work put (SessionItem.Query Query.Changes) }
         ensures any_moment { (work : Work) (put : List ℕ)
             → IsAt (O.may_leave outside.old) (O.shown outside.old) self.old work put
             → LeavesOnly O.moment O.left_since outside.old outside.new (HasKept work.changes (length put)) }
@@ -581,8 +851,12 @@ impl Session {
         ensures troubled { troubled_of self.new ≡ troubled_of self.old }
         ensures last_run { last_run_of self.new ≡ last_run_of self.old }
         ensures budget { budget_of self.new ≡ budget_of self.old }
-        ensures faultless { OnOk result (IsFaultless self.new) }
-        ensures ends { IfErr result IsWorkEnd }
+        ensures faultless { OnOkOrMemory result (IsFaultless self.new) }
+        ensures held { self.new.held ≡ self.old.held }
+        ensures room { (room : ℕ) → IfOk result (λ reply. HasRoom reply room) }
+        ensures pending { pending_of (keeper_of self.new) ≡ pending_of (keeper_of self.old) }
+        ensures log { (keeper_of self.new).log.number ≡ (keeper_of self.old).log.number }
+        ensures ends { IfErr result IsKeepEnd }
         ensures counts { SourceCounts (O.faults outside.old) (O.faults outside.new) result }
     {
         match read_set(&mut self.keeper, alloc, outside) {
@@ -590,22 +864,4 @@ impl Session {
             Err(fault) => Ok(Reply::Refused(refusal_at_fault(fault)?)),
         }
     }
-}
-
-/// Puts an answer whole.
-fn answer<O: Outside>(outside: &mut O, line: &[u8]) -> Result<(), SessionEnd>
-    ensures put { (put : List ℕ) → (O.shown outside.old).taken ≡ Some put → (O.shown outside.old).told ≡ length put
-        → AnswerPut result (O.shown outside.new).taken (O.shown outside.new).told put line.now }
-    ensures taken { TakesLine result (O.shown outside.old).taken (O.shown outside.new).taken line.now }
-    ensures images { (c : FileId → List ℕ) → O.may_leave outside.new c → O.may_leave outside.old c }
-    ensures no_more { LeavesOnly O.moment O.left_since outside.old outside.new (IsAsLeft (O.may_leave outside.old)) }
-    ensures any_moment { (changes : List Change) (put : List ℕ)
-        → ((c : FileId → List ℕ) → O.may_leave outside.old c → FilesStandFor c changes)
-        → (O.shown outside.old).told ≡ length put
-        → LeavesOnly O.moment O.left_since outside.old outside.new (HasKept changes (length (put ++ line.now))) }
-    ensures shown { O.shown outside.new ≡ record (O.shown outside.old) { taken = (O.shown outside.new).taken; told = (O.shown outside.new).told } }
-    ensures counts { Counts (O.faults outside.old) (O.faults outside.new) result }
-{
-    put_all(outside, line).map_err(SessionEnd::Write)?;
-    Ok(())
 }

@@ -1,5 +1,5 @@
 // What queries are told of classes and methods.
-ghost use Rattle.std.specs.Prelude.{◌≡◌, ◌<◌, List, length, IfOk};
+ghost use Rattle.std.specs.Prelude.{◌≡◌, ◌<◌, ℕ, List, length, IfOk};
 ghost use Rattle.std.specs.FinMap as map;
 ghost use Rattle.s80_change.specs.declared.change.Change.{Change};
 ghost use Rattle.s80_class.specs.Classes.{Name};
@@ -9,6 +9,7 @@ ghost use Rattle.s80_apply.specs.State.{State};
 ghost use Rattle.s80_apply.specs.System.{IsSystemOf};
 ghost use Rattle.s80_model.specs.declared.item.Query.TheVariants.{Recover, Classes, Browse};
 ghost use Rattle.s80_model.specs.Told.{told, versions_told};
+ghost use Rattle.s80_session.specs.Replies.{HasRoom};
 
 use s80_apply::System;
 use s80_base::{OutOfMemory, Side, Text};
@@ -23,21 +24,24 @@ pub(crate) fn tell_recovered(
     system: &System,
     count: u64,
 ) -> Result<Reply, OutOfMemory>
-    ensures { (changes : List Change) → IsSystemOf system.now (state_of changes) → count ≡ length changes → IfOk result (λ reply. reply ≡ told changes Recover) }
+    ensures answer { (changes : List Change) → IsSystemOf system.now (state_of changes) → count ≡ length changes → IfOk result (λ reply. reply ≡ told changes Recover) }
+    ensures room { (room : ℕ) → IfOk result (λ reply. HasRoom reply room) }
 {
     Ok(Reply::Told(recovered_text(alloc, count, system)?))
 }
 
 /// The names of all classes.
 pub(crate) fn tell_classes(alloc: Global, system: &System) -> Result<Reply, OutOfMemory>
-    ensures { (changes : List Change) → IsSystemOf system.now (state_of changes) → IfOk result (λ reply. reply ≡ told changes Classes) }
+    ensures answer { (changes : List Change) → IsSystemOf system.now (state_of changes) → IfOk result (λ reply. reply ≡ told changes Classes) }
+    ensures room { (room : ℕ) → IfOk result (λ reply. HasRoom reply room) }
 {
     Ok(Reply::Told(classes_text(alloc, system.classes())?))
 }
 
 /// The lines of the class of this name.
 pub(crate) fn tell_browsed(alloc: Global, system: &System, name: Text) -> Result<Reply, OutOfMemory>
-    ensures { (changes : List Change) → IsSystemOf system.now (state_of changes) → IfOk result (λ reply. reply ≡ told changes (Browse name)) }
+    ensures answer { (changes : List Change) → IsSystemOf system.now (state_of changes) → IfOk result (λ reply. reply ≡ told changes (Browse name)) }
+    ensures room { (room : ℕ) → IfOk result (λ reply. HasRoom reply room) }
 {
     if !is_name(name.bytes()) {
         return Ok(Reply::Refused(Refusal::BadName(name)));
@@ -66,7 +70,8 @@ pub(crate) fn tell_versions(
     is_there: bool,
     versions: &Changes,
 ) -> Result<Reply, OutOfMemory>
-    ensures { IfOk result (λ reply. reply ≡ versions_told name side selector is_there versions.now) }
+    ensures answer { IfOk result (λ reply. reply ≡ versions_told name side selector is_there versions.now) }
+    ensures room { (room : ℕ) → IfOk result (λ reply. HasRoom reply room) }
 {
     if !is_there && versions.count() == 0 {
         return Ok(Reply::Refused(Refusal::NoSelector(name, side, selector)));

@@ -1,6 +1,7 @@
 -- Disks that stand for a list, and what a crash leaves of them.
-use Rattle.std.proofs.Common.{inl, inr, ⊎_elim, List, Bool, ap, ◌∙◌}
+use Rattle.std.proofs.Common.{◌≡◌, inl, inr, ⊎_elim, List, Bool, sym, ap, ◌∙◌, subst}
 use Rattle.s80_change.specs.declared.change.Change.{Change}
+use Rattle.s80_disk.specs.declared.disk.FileId.{FileId}
 use Rattle.s80_disk.specs.Image.{Image}
 use Rattle.s80_mark.specs.declared.mark.MarkState.{MarkState}
 use Rattle.s80_mark.specs.Mark.{valid_mark}
@@ -30,3 +31,11 @@ module _ (tells : Bool) (reads : Image) (may_leave : Image → Type 0) (changes 
     told = h.told;
     stands = ⊎_elim (λ empty. inl (empty.0, empty.2)) (λ marked. inr (marked.0, marked.1.files, marked.2, marked.3, marked.1.log_stays)) h.stands;
   }
+
+-- a disk that tells and reads the same, and of which a crash leaves no more, reads for the list
+pub reads_on : (tells new_tells : Bool) (reads new_reads : Image) (before now : Image → Type 0) (changes : List Change) → new_tells ≡ tells → ((file : FileId) → new_reads file ≡ reads file) → ((c : Image) → now c → before c) → ReadsFor tells reads before changes → ReadsFor new_tells new_reads now changes
+reads_on tells new_tells reads new_reads before now changes same_tells same still h =
+    let same_reads : reads ≡ new_reads = λ i file. sym (same file) i in
+    let P : Bool → Image → Type 0 = λ t r. ReadsFor t r now changes in
+    let kept : ReadsFor tells reads now changes = record { told = h.told; stands = ⊎_elim (λ empty. inl empty) (λ marked. inr (marked.0, marked.1, marked.2, marked.3, λ c left. marked.4 c (still c left))) h.stands } in
+    subst (P new_tells) same_reads (subst (λ t. P t reads) (sym same_tells) kept)

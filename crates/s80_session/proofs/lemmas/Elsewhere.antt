@@ -1,12 +1,26 @@
 -- What a crash leaves of the files that an item doesn't change.
-use Rattle.std.proofs.Common.{◌≤◌, ℕ, refl}
+use Rattle.std.proofs.Common.{◌≡◌, ◌≤◌, ℕ, Bool, true, false, if◌then◌else◌, refl, sym, ◌∙◌}
+use Rattle.std.specs.Prelude.{◌≢◌, ◌==◌}
 use Rattle.s80_disk.specs.declared.disk.FileId.{FileId}
+use Rattle.s80_disk.specs.declared.disk.FileId.TheVariants.{Mark, Log0, Log1}
 use Rattle.s80_disk.specs.Image.{Image}
 use Rattle.s80_disk.specs.Moments.{LeavesOnly}
 use Rattle.s80_disk.proofs.lemmas.Run.{joined, weaker}
 use Rattle.s80_log.specs.Commit.{LeavesBeside}
+use Rattle.s80_log.specs.Log.{log_file}
 use Rattle.s80_session.specs.Files.{IsAsLeft, IsElsewhere}
 use Rattle.s80_session.specs.Putting.{IsAsBefore}
+
+-- a log isn't the mark file
+log_or_log : (b : Bool) → (if b then Log0 else Log1) ≢ Mark
+log_or_log true is = cc is
+log_or_log false is = cc is
+
+pub no_mark : (number : ℕ) → log_file number ≢ Mark
+no_mark number = log_or_log (number == 0)
+
+pub no_log : (number : ℕ) → Mark ≢ log_file number
+no_log number = λ is. no_mark number (sym is)
 
 -- an image of before
 as_it_was : (before : Image → Type 0) (log : FileId) (told : ℕ) (c : Image) → before c → IsElsewhere before log told c
@@ -34,3 +48,10 @@ module _ {D : Type 0} (moment : D → ℕ) (left_since : D → ℕ → ℕ → I
 
   pub left_on : (old mid new : D) (before now : Image → Type 0) → ((c : Image) → now c → before c) → LeavesOnly moment left_since old mid (IsAsLeft before) → LeavesOnly moment left_since mid new (IsAsLeft now) → LeavesOnly moment left_since old new (IsAsLeft before)
   left_on old mid new before now less first second = joined moment left_since old mid new (IsAsLeft before) (IsAsLeft now) first second (λ n c left. less c left)
+
+  -- two stretches of calls that change the mark and the log alone
+  pub elsewhere_then : (old mid new : D) (before now : Image → Type 0) (told : ℕ) (log : FileId) → ((t : ℕ) (c : Image) → t ≤ moment mid → now c → left_since mid t told c) → LeavesOnly moment left_since old mid (IsElsewhere before log) → LeavesOnly moment left_since mid new (IsElsewhere now log) → LeavesOnly moment left_since old new (IsElsewhere before log)
+  elsewhere_then old mid new before now told log counts first second =
+      joined moment left_since old mid new (IsElsewhere before log) (IsElsewhere now log) first second (λ n c h.
+      let f = first.each told h.image (counts (moment old) h.image first.later h.was) in
+      record { image = f.image; was = f.was; others = λ other no_mark no_log. h.others other no_mark no_log ∙ f.others other no_mark no_log })

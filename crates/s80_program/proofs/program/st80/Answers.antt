@@ -3,7 +3,7 @@ use Rattle.s80_change.specs.declared.change.Change.{Change}
 use Rattle.s80_disk.specs.Moments.{LeavesOnly}
 use Rattle.s80_program.specs.Command.{Command, IsAskingCommand, item_for}
 use Rattle.s80_program.specs.Ending.{status_after}
-use Rattle.s80_program.specs.Leaves.{StartsWith, Leaves, CommandKeeps}
+use Rattle.s80_program.specs.Leaves.{StartsWith, Leaves, CommandKeeps, KilledKeeps}
 use Rattle.s80_program.specs.Task.{command_of}
 use Rattle.s80_program.specs.Words.{Asks}
 use Rattle.s80_program.proofs.Fronts.{front_of, whole_without_fault}
@@ -25,6 +25,11 @@ pub returns-in-Some-clause-any_moment : goal.returns-in-Some-clause-any_moment
 returns-in-Some-clause-any_moment g c = λ folder command changes input before asked start stands.
     let P : Command → Type 0 = λ k. LeavesOnly g.O.Disk.moment g.O.Disk.left_since c.args.outside.now c.work.new.outside (CommandKeeps k changes input before) in
     subst P (sym (one_command _ folder _ command (command_of c.in-Some.request.task) asked c.in-Some.ensures.found)) (c.work.ensures.any_moment changes input before start stands)
+
+pub returns-in-Some-clause-killed : goal.returns-in-Some-clause-killed
+returns-in-Some-clause-killed g c = λ folder command changes was input before asked start either.
+    let P : Command → Type 0 = λ k. LeavesOnly g.O.Disk.moment g.O.Disk.left_since c.args.outside.now c.work.new.outside (KilledKeeps k changes was input before) in
+    subst P (sym (one_command _ folder _ command (command_of c.in-Some.request.task) asked c.in-Some.ensures.found)) (c.work.ensures.killed changes was input before start either)
 
 pub returns-in-Some-clause-front : goal.returns-in-Some-clause-front
 returns-in-Some-clause-front g c = λ folder command changes input before asks asked start all.
@@ -51,6 +56,9 @@ returns-in-None-clause-complete g c = λ folder command changes input before ask
 
 pub returns-in-None-clause-any_moment : goal.returns-in-None-clause-any_moment
 returns-in-None-clause-any_moment g c = λ folder command changes input before asked start stands. absurd (c.in-None.ensures.none folder command asked)
+
+pub returns-in-None-clause-killed : goal.returns-in-None-clause-killed
+returns-in-None-clause-killed g c = λ folder command changes was input before asked start either. absurd (c.in-None.ensures.none folder command asked)
 
 pub returns-in-None-clause-damaged : goal.returns-in-None-clause-damaged
 returns-in-None-clause-damaged g c = λ folder command damage asked tells h. absurd (c.in-None.ensures.none folder command asked)

@@ -1,4 +1,4 @@
-use Rattle.std.proofs.Common.{◌<◌, List, ℕ, ap, refl, sym, subst, ◌∙◌}
+use Rattle.std.proofs.Common.{◌⊎◌, ◌<◌, List, ℕ, ap, refl, sym, subst, ◌∙◌}
 use Rattle.std.proofs.lemmas.Result.{err_from_is_err_and}
 use Rattle.s80_change.specs.declared.change.Change.{Change}
 use Rattle.s80_disk.specs.Image.{Image}
@@ -6,13 +6,13 @@ use Rattle.s80_disk.specs.Moments.{LeavesOnly}
 use Rattle.s80_disk.specs.Shown.{Shown}
 use Rattle.s80_mark.specs.Found.{longer_log}
 use Rattle.s80_keeper.specs.declared.start.Damage.{Damage}
-use Rattle.s80_keeper.specs.Standing.{StandsFor}
+use Rattle.s80_keeper.specs.Standing.{FilesStandFor, StandsFor}
 use Rattle.s80_keeper.specs.Start.{IsDamage}
 use Rattle.s80_keeper.proofs.lemmas.Damages.{damaged_has_log, no_list}
 use Rattle.s80_program.specs.Command.{default_settings, item_for}
-use Rattle.s80_program.specs.Leaves.{StartsWith, KeepsFor}
+use Rattle.s80_program.specs.Leaves.{StartsWith, KeepsFor, KilledKeeps}
 use Rattle.s80_program.specs.Task.{command_of}
-use Rattle.s80_program.proofs.Beginning.{starts_on, stands_on, lost_at_start, no_session, chosen, goes_on, session_begins, damaged_lasts, tells_damage, damage_found, knows_on, unchanged}
+use Rattle.s80_program.proofs.Beginning.{starts_on, stands_on, reads_on, lost_at_start, no_session, chosen, chosen_either, goes_on, goes_on_either, session_begins, begins_either, damaged_lasts, tells_damage, damage_found, knows_on, unchanged}
 use Rattle.s80_program.proofs.Ends.{reason_err, later_reason, starts_reason, undamaged, never_usage, disk_undamaged, disk_tells}
 use Rattle.s80_program.proofs.program.work.Goals as goal
 use Rattle.s80_program.proofs.program.work.Goals.{After-open_folder, After-start}
@@ -21,7 +21,8 @@ pub returns-in_err-open_folder-clause-worked : goal.returns-in_err-open_folder-c
 returns-in_err-open_folder-clause-worked g c = λ changes input before start.
     let p = err_from_is_err_and c.from_residual.result c.from_residual.ensures.1 in
     let same = c.open_folder.ensures.shown in
-    rw (p.1, p.2) (lost_at_start (item_for (command_of c.args.task)) _ (g.O.Disk.may_leave c.open_folder.new.outside) (g.O.Outside.shown c.open_folder.new.outside) changes input before c.in_err-open_folder.ensures.disk (ap (λ (o : Shown). o.left) same ∙ start.left) (ap (λ (o : Shown). o.taken) same ∙ start.taken))
+    let reads = reads_on (g.O.Outside.shown c.args.outside.now) (g.O.Outside.shown c.open_folder.new.outside) same (g.O.Disk.may_leave c.args.outside.now) (g.O.Disk.may_leave c.open_folder.new.outside) c.open_folder.ensures.images changes start.reads in
+    rw (p.1, p.2) (lost_at_start (item_for (command_of c.args.task)) _ (g.O.Disk.may_leave c.open_folder.new.outside) (g.O.Outside.shown c.open_folder.new.outside) changes input before c.in_err-open_folder.ensures.disk reads (ap (λ (o : Shown). o.left) same ∙ start.left) (ap (λ (o : Shown). o.taken) same ∙ start.taken))
 
 -- the folder is chosen
 opened : (g : _) (c : After-open_folder g) (changes : List Change) (input before : List ℕ) → StartsWith (g.O.Disk.may_leave c.args.outside.now) (g.O.Outside.shown c.args.outside.now) changes input before → StandsFor (g.O.Outside.shown c.args.outside.now).tells (g.O.Outside.shown c.args.outside.now).files (g.O.Disk.may_leave c.args.outside.now) changes → LeavesOnly g.O.Disk.moment g.O.Disk.left_since c.args.outside.now c.open_folder.new.outside (KeepsFor (item_for (command_of c.args.task)) changes input before)
@@ -29,6 +30,13 @@ opened g c changes input before start stands = chosen g.O.Disk.moment g.O.Disk.l
 
 pub returns-in_err-open_folder-clause-any_moment : goal.returns-in_err-open_folder-clause-any_moment
 returns-in_err-open_folder-clause-any_moment g c = opened g (goal.at.returns-in_err-open_folder-clause-any_moment g c).After-open_folder
+
+-- also behind a run that was killed
+opened_either : (g : _) (c : After-open_folder g) (changes was : List Change) (input before : List ℕ) → StartsWith (g.O.Disk.may_leave c.args.outside.now) (g.O.Outside.shown c.args.outside.now) changes input before → ((e : Image) → g.O.Disk.may_leave c.args.outside.now e → FilesStandFor e changes ⊎ FilesStandFor e was) → LeavesOnly g.O.Disk.moment g.O.Disk.left_since c.args.outside.now c.open_folder.new.outside (KilledKeeps (command_of c.args.task) changes was input before)
+opened_either g c changes was input before start either = chosen_either g.O.Disk.moment g.O.Disk.left_since (item_for (command_of c.args.task)) changes was input before (g.O.Disk.may_leave c.args.outside.now) _ c.args.outside.now c.open_folder.new.outside either start.told c.open_folder.ensures.any_moment
+
+pub returns-in_err-open_folder-clause-killed : goal.returns-in_err-open_folder-clause-killed
+returns-in_err-open_folder-clause-killed g c = opened_either g (goal.at.returns-in_err-open_folder-clause-killed g c).After-open_folder
 
 pub returns-in_err-open_folder-clause-found : goal.returns-in_err-open_folder-clause-found
 returns-in_err-open_folder-clause-found g c = λ is tells.
@@ -59,6 +67,16 @@ module _ (g : _) (c : After-start g) where
       goes_on g.O.Disk.moment g.O.Disk.left_since (item_for (command_of c.args.task)) changes input before c.args.outside.now c.open_folder.new.outside c.start.new.outside
       (chosen g.O.Disk.moment g.O.Disk.left_since (item_for (command_of c.args.task)) changes input before _ _ _ _ c.args.outside.now c.open_folder.new.outside stands start.told c.open_folder.ensures.any_moment)
       (session_begins g.O.Disk.moment g.O.Disk.left_since (item_for (command_of c.args.task)) changes input before _ c.open_folder.new.outside c.start.new.outside (starts_mid changes input before start).told (c.start.ensures.any_moment changes (stands_on (g.O.Outside.shown c.args.outside.now) (g.O.Outside.shown c.open_folder.new.outside) c.open_folder.ensures.shown (g.O.Disk.may_leave c.args.outside.now) (g.O.Disk.may_leave c.open_folder.new.outside) c.open_folder.ensures.images changes stands)))
+
+  started_either : (changes was : List Change) (input before : List ℕ) → StartsWith (g.O.Disk.may_leave c.args.outside.now) (g.O.Outside.shown c.args.outside.now) changes input before → ((e : Image) → g.O.Disk.may_leave c.args.outside.now e → FilesStandFor e changes ⊎ FilesStandFor e was) → LeavesOnly g.O.Disk.moment g.O.Disk.left_since c.args.outside.now c.start.new.outside (KilledKeeps (command_of c.args.task) changes was input before)
+  started_either changes was input before start either =
+      let mid = starts_mid changes input before start in
+      begins_either g.O.Disk.moment g.O.Disk.left_since (item_for (command_of c.args.task)) changes was input before _ c.args.outside.now c.open_folder.new.outside c.start.new.outside mid.told
+      (chosen_either g.O.Disk.moment g.O.Disk.left_since (item_for (command_of c.args.task)) changes was input before (g.O.Disk.may_leave c.args.outside.now) _ c.args.outside.now c.open_folder.new.outside either start.told c.open_folder.ensures.any_moment)
+      (c.start.ensures.killed changes was mid.reads (λ e left. either e (c.open_folder.ensures.images e left)))
+
+pub returns-in_err-session-clause-killed : goal.returns-in_err-session-clause-killed
+returns-in_err-session-clause-killed g c = started_either g (goal.at.returns-in_err-session-clause-killed g c).After-start
 
 pub returns-in_err-session-clause-worked : goal.returns-in_err-session-clause-worked
 returns-in_err-session-clause-worked g c = λ changes input before start.
@@ -106,6 +124,14 @@ returns-clause-any_moment g c = λ changes input before start stands.
     let at = starts_mid g after changes input before start in
     let same = c.start.ensures.shown in
     goes_on g.O.Disk.moment g.O.Disk.left_since (item_for (command_of c.args.task)) changes input before c.args.outside.now c.start.new.outside c.do_task.new.outside (started g after changes input before start stands)
+    (c.do_task.ensures.any_moment changes input before (ap (λ (o : Shown). o.left) same ∙ at.left) (c.in_ok-session.ensures.started default_settings changes before refl at.reads at.taken at.told))
+
+pub returns-clause-killed : goal.returns-clause-killed
+returns-clause-killed g c = λ changes was input before start either.
+    let after = (goal.at.returns-clause-killed g c).After-start in
+    let at = starts_mid g after changes input before start in
+    let same = c.start.ensures.shown in
+    goes_on_either g.O.Disk.moment g.O.Disk.left_since (item_for (command_of c.args.task)) changes was input before c.args.outside.now c.start.new.outside c.do_task.new.outside (started_either g after changes was input before start either)
     (c.do_task.ensures.any_moment changes input before (ap (λ (o : Shown). o.left) same ∙ at.left) (c.in_ok-session.ensures.started default_settings changes before refl at.reads at.taken at.told))
 
 pub returns-clause-found : goal.returns-clause-found

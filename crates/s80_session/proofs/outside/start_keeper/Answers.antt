@@ -2,6 +2,7 @@ use Rattle.std.proofs.Common.{ap, ◌∙◌, arith}
 use Rattle.s80_disk.specs.Moments.{Beside}
 use Rattle.s80_disk.proofs.lemmas.Run.{weaker}
 use Rattle.s80_disk.proofs.lemmas.Showing.{but_for_files, but_for_disk}
+use Rattle.s80_keeper.specs.Standing.{LeavesEither}
 use Rattle.s80_keeper.specs.Start.{StartLeaves}
 use Rattle.s80_session.specs.Run.{HasKept}
 use Rattle.s80_session.proofs.outside.start_keeper.Goals as goal
@@ -30,6 +31,13 @@ returns-clause-any_moment g c =
     let o = c.args.outside.now in
     let same = ap (λ (b : Beside). b.told) (g.met.O.Outside.beside_is o) in
     rw (g.met.O.Outside.shown_is o) (λ changes stands. weaker D.moment D.left_since o c.start.new.disk _ (HasKept changes (g.O.Sink.told o)) (c.start.ensures.stands changes stands) (λ told image h. record { no_more = omega (arith, h.told_is, same); files = h.files }))
+
+pub returns-clause-killed : goal.returns-clause-killed
+returns-clause-killed g c =
+    let D = g.O.Disk in
+    let o = c.args.outside.now in
+    let same = ap (λ (b : Beside). b.told) (g.met.O.Outside.beside_is o) in
+    rw (g.met.O.Outside.shown_is o) (λ changes was reads images. weaker D.moment D.left_since o c.start.new.disk _ (LeavesEither (g.O.Sink.told o) changes was) (c.start.ensures.killed changes was reads images) (λ told image h. record { told_is = h.told_is ∙ same; files = h.files }))
 
 pub returns-clause-leaves : goal.returns-clause-leaves
 returns-clause-leaves g c =

@@ -1,143 +1,128 @@
-use Rattle.std.proofs.Common.{◌≡◌, ◌⊎◌, ◌+◌, ◌++◌, ◌∷◌, [], List, length, refl, sym, ap, ◌∙◌, subst, arith, rules}
+use Rattle.std.proofs.Common.{◌≡◌, ◌<◌, ◌+◌, ◌++◌, ◌∷◌, [], ℕ, List, length, None, ap, sym, ◌∙◌}
+use Rattle.std.proofs.lemmas.Result.{err_from_is_err_and}
 use Rattle.std.specs.Prelude.{⊤}
 use Rattle.s80_change.specs.declared.change.Change.{Change}
-use Rattle.s80_change.specs.Block.{block, IsLawful}
-use Rattle.s80_disk.specs.Image.{Image}
-use Rattle.s80_disk.specs.Moments.{LeavesOnly}
-use Rattle.s80_disk.proofs.lemmas.Run.{started, weaker}
-use Rattle.s80_mark.specs.declared.mark.MarkState.{MarkState}
-use Rattle.s80_apply.specs.List.{IsBuilt, state_of}
+use Rattle.s80_change.specs.Block.{block, log_limit, IsLawful}
+use Rattle.s80_disk.specs.Moments.{Beside, LeavesOnly}
+use Rattle.s80_apply.specs.List.{state_of}
 use Rattle.s80_apply.specs.Placed.{placed_of}
+use Rattle.s80_log.specs.Commit.{LeavesBeside}
 use Rattle.s80_log.specs.Log.{log_file}
-use Rattle.s80_log.specs.Commit.{LeavesBeside, StandForEither, next_mark}
-use Rattle.s80_keeper.specs.Keeper.{KeeperState, Keeps}
-use Rattle.s80_keeper.specs.Standing.{FilesStandFor, LeavesEither}
+use Rattle.s80_keeper.specs.Keeper.{Keeps}
+use Rattle.s80_keeper.specs.Standing.{LeavesEither}
 use Rattle.s80_keeper.specs.Answers.{IsFor, PlacesFor}
-use Rattle.s80_keeper.proofs.Counting.{counts_more}
-use Rattle.s80_keeper.proofs.Keeping.{either_list, ends_with, leaves_either, built_kept, installed_at, after_kept, keeps_more, keeps_still, noted_kept}
+use Rattle.s80_keeper.proofs.Together.{after_failed, after_uncommitted, closed_uncommitted, either_stands, elsewhere_on, full_uncommitted, had_room, kept_failed, kept_uncommitted, same_file, stands_either, was_open}
 use Rattle.s80_keeper.proofs.keeper.Keeper.keep.Goals as goal
-use Rattle.s80_keeper.proofs.keeper.Keeper.keep.Goals.{After-append_and_commit}
+use Rattle.s80_keeper.proofs.keeper.Keeper.keep.Goals.{After-commit}
 
--- the block that is written is that of the change
-is_block : (g : _) (c : After-append_and_commit g) → c.block.result.now ≡ block c.args.prepared.change
-is_block g c = c.block.ensures
+-- ---- where the change wasn't taken in
 
-module _ (g : _) (c : After-append_and_commit g) (changes : List Change) (keeps : Keeps (g.D.Disk.tells c.args.disk.now) (g.D.Disk.reads c.args.disk.now) (g.D.Disk.may_leave c.args.disk.now) c.args.self.now changes changes) (lawful : IsLawful c.args.prepared.change) (ready : IsFor (state_of changes) c.args.self.now.system c.args.prepared)
-    (places : PlacesFor (placed_of changes) c.args.self.now.system c.args.prepared) where
-  -- the keeper as the code has it
-  abbrev keeper : KeeperState
-  keeper = record { log = c.self.inside.log; mark = c.self.inside.mark; system = c.self.inside.system; history = c.self.inside.history; count = c.self.inside.count; fault = c.self.inside.fault }
+pub returns-in_err-at-clause-after : goal.returns-in_err-at-clause-after
+returns-in_err-at-clause-after g c =
+    let p = err_from_is_err_and c.from_residual.result c.from_residual.ensures.1 in
+    rw (p.1, p.2) (after_failed c.in_err-at.field-0.0 c.args.prepared c.args.self.now c.keep_later.new.self c.in_err-at.ensures.after)
 
-  kept : Keeps (g.D.Disk.tells c.args.disk.now) (g.D.Disk.reads c.args.disk.now) (g.D.Disk.may_leave c.args.disk.now) keeper changes changes
-  kept =
-      let P : KeeperState → Type 0 = λ k. Keeps (g.D.Disk.tells c.args.disk.now) (g.D.Disk.reads c.args.disk.now) (g.D.Disk.may_leave c.args.disk.now) k changes changes in
-      subst P (sym c.self.view_is) keeps
+pub returns-in_err-at-clause-any_moment : goal.returns-in_err-at-clause-any_moment
+returns-in_err-at-clause-any_moment g c = λ changes keeps lawful ready places.
+    let D = g.D.Disk in
+    let d = c.args.disk.now in
+    stands_either D.moment D.left_since d c.keep_later.new.disk (D.beside d).told changes (changes ++ c.args.prepared.change ∷ []) (c.keep_later.ensures.any_moment changes changes keeps)
 
-  -- the list with the change has so many changes as the mark will count
-  counted : c.saturating_add-count.result ≡ length changes + 1
-  counted = search rules ∙ counts_more changes c.self.inside.count kept.holds.list kept.count
+pub returns-in_err-at-clause-kept : goal.returns-in_err-at-clause-kept
+returns-in_err-at-clause-kept g c = λ changes keeps lawful ready places.
+    let D = g.D.Disk in
+    let new = c.keep_later.new.disk in
+    let p = err_from_is_err_and c.from_residual.result c.from_residual.ensures.1 in
+    rw (p.1, p.2) (kept_failed c.in_err-at.field-0.0 (D.tells new) (D.reads new) (D.may_leave new) c.keep_later.new.self changes c.args.prepared.change (c.in_err-at.ensures.kept changes changes keeps lawful ready places))
 
-  built_all : IsBuilt (changes ++ c.args.prepared.change ∷ [])
-  built_all = built_kept changes c.args.self.now.system c.args.prepared ready keeps.built
+pub returns-in_err-at-clause-closed : goal.returns-in_err-at-clause-closed
+returns-in_err-at-clause-closed g c = λ failed.
+    let p = err_from_is_err_and c.from_residual.result c.from_residual.ensures.1 in
+    rw (p.1, p.2) (c.in_err-at.ensures.closed failed)
 
-  -- the mark that is committed
-  abbrev next : MarkState
-  next = next_mark c.self.inside.mark (record c.self.inside.log { end = c.self.inside.log.end + length c.block.result.now }) c.saturating_add-count.result
+pub returns-in_err-at-clause-full : goal.returns-in_err-at-clause-full
+returns-in_err-at-clause-full g c = λ n.
+    let p = err_from_is_err_and c.from_residual.result c.from_residual.ensures.1 in
+    rw (p.1, p.2) (c.in_err-at.ensures.full n)
 
-  run : LeavesOnly g.D.Disk.moment g.D.Disk.left_since c.args.disk.now c.append_and_commit.new.disk (LeavesEither (g.D.Disk.beside c.args.disk.now).told changes (changes ++ c.args.prepared.change ∷ []))
-  run =
-      let D = g.D.Disk in
-      let d = c.args.disk.now in
-      let all = changes ++ c.args.prepared.change ∷ [] in
-      weaker D.moment D.left_since d c.append_and_commit.new.disk
-      (LeavesBeside (D.may_leave d) (D.beside d).told (log_file c.self.inside.log.number) (StandForEither c.self.inside.mark changes next all)) (LeavesEither (D.beside d).told changes all)
-      (c.append_and_commit.ensures.one_commit changes c.args.prepared.change kept.holds.stands kept.holds.named (ends_with changes kept.holds) lawful (is_block g c) counted)
-      (leaves_either (D.may_leave d) (D.beside d).told (log_file c.self.inside.log.number) c.self.inside.mark next changes (changes ++ c.args.prepared.change ∷ []) kept.no_image kept.no_image keeps.built built_all)
+-- ---- where it was, and was to be committed
 
-  left_now : (e : Image) → g.D.Disk.may_leave c.append_and_commit.new.disk e → FilesStandFor e changes ⊎ FilesStandFor e (changes ++ c.args.prepared.change ∷ [])
-  left_now e left =
-      either_list c.self.inside.mark next changes (changes ++ c.args.prepared.change ∷ []) e kept.no_image kept.no_image keeps.built built_all
-      (c.append_and_commit.ensures.left changes c.args.prepared.change e kept.holds.stands kept.holds.named (ends_with changes kept.holds) lawful (is_block g c) counted left)
+none : (g : _) (c : After-commit g) → c.args.self.now.fault ≡ None
+none g c = was_open c.args.self.now.fault c.in_ok-at.at c.in_ok-at.ensures.closed
 
--- whatever the disk stands for, but for the mark and the log
-others_stay : (g : _) (c : After-append_and_commit g) → LeavesOnly g.D.Disk.moment g.D.Disk.left_since c.args.disk.now c.append_and_commit.new.disk (LeavesBeside (g.D.Disk.may_leave c.args.disk.now) (g.D.Disk.beside c.args.disk.now).told (log_file c.args.self.now.log.number) (λ e. ⊤))
+room : (g : _) (c : After-commit g) → log_limit < c.args.self.now.log.end + length (block c.args.prepared.change) → ⊥
+room g c = had_room c.args.self.now.fault c.in_ok-at.at c.args.self.now.log.end (length (block c.args.prepared.change)) (none g c) c.in_ok-at.ensures.full
+
+others_stay : (g : _) (c : After-commit g) → LeavesOnly g.D.Disk.moment g.D.Disk.left_since c.args.disk.now c.commit.new.disk (LeavesBeside (g.D.Disk.may_leave c.args.disk.now) (g.D.Disk.beside c.args.disk.now).told (log_file c.args.self.now.log.number) (λ e. ⊤))
 others_stay g c =
     let D = g.D.Disk in
     let d = c.args.disk.now in
-    let P : KeeperState → Type 0 = λ k. LeavesOnly D.moment D.left_since d c.append_and_commit.new.disk (LeavesBeside (D.may_leave d) (D.beside d).told (log_file k.log.number) (λ e. ⊤)) in
-    subst P c.self.view_is c.append_and_commit.ensures.elsewhere
+    let mid = c.keep_later.new.disk in
+    elsewhere_on D.moment D.left_since d mid c.commit.new.disk (D.beside d).told (D.beside mid).told (ap (λ (b : Beside). b.told) c.keep_later.ensures.beside) (D.may_leave d) (D.may_leave mid) (log_file c.args.self.now.log.number) (log_file c.keep_later.new.self.log.number) (same_file c.args.prepared c.args.self.now c.keep_later.new.self c.in_ok-at.ensures.after)
+    (g.met.D.Disk.counts_now mid) c.keep_later.ensures.elsewhere c.commit.ensures.elsewhere
 
-pub returns-in-Some-clause-elsewhere : goal.returns-in-Some-clause-elsewhere
-returns-in-Some-clause-elsewhere g c =
+module _ (g : _) (c : After-commit g) (changes : List Change) (keeps : Keeps (g.D.Disk.tells c.args.disk.now) (g.D.Disk.reads c.args.disk.now) (g.D.Disk.may_leave c.args.disk.now) c.args.self.now changes changes) (lawful : IsLawful c.args.prepared.change) (ready : IsFor (state_of changes) c.args.self.now.system c.args.prepared)
+    (places : PlacesFor (placed_of changes) c.args.self.now.system c.args.prepared) where
+  -- the change is pending
+  taken : Keeps (g.D.Disk.tells c.keep_later.new.disk) (g.D.Disk.reads c.keep_later.new.disk) (g.D.Disk.may_leave c.keep_later.new.disk) c.keep_later.new.self changes (changes ++ c.args.prepared.change ∷ [])
+  taken = c.in_ok-at.ensures.kept changes changes keeps lawful ready places
+
+  run : LeavesOnly g.D.Disk.moment g.D.Disk.left_since c.args.disk.now c.commit.new.disk (LeavesEither (g.D.Disk.beside c.args.disk.now).told changes (changes ++ c.args.prepared.change ∷ []))
+  run =
+      let D = g.D.Disk in
+      let d = c.args.disk.now in
+      let mid = c.keep_later.new.disk in
+      let all = changes ++ c.args.prepared.change ∷ [] in
+      either_stands D.moment D.left_since d mid c.commit.new.disk (D.beside d).told (D.beside mid).told (ap (λ (b : Beside). b.told) c.keep_later.ensures.beside) changes all (c.keep_later.ensures.any_moment changes changes keeps) (c.commit.ensures.any_moment changes all taken)
+
+-- ---- where that failed
+
+pub returns-in_err-commit-clause-after : goal.returns-in_err-commit-clause-after
+returns-in_err-commit-clause-after g c =
+    let at = (goal.at.returns-in_err-commit-clause-after g c).After-commit in
+    let p = err_from_is_err_and c.from_residual-in_err-commit.result c.from_residual-in_err-commit.ensures.1 in
+    rw (p.1, p.2) (after_uncommitted (Unit {0}) c.in_err-commit.field-0.0 c.args.prepared c.args.self.now c.keep_later.new.self c.commit.new.self (none g at) c.in_ok-at.ensures.after c.in_err-commit.ensures.closed c.in_err-commit.ensures.after)
+
+pub returns-in_err-commit-clause-any_moment : goal.returns-in_err-commit-clause-any_moment
+returns-in_err-commit-clause-any_moment g c = run g (goal.at.returns-in_err-commit-clause-any_moment g c).After-commit
+
+pub returns-in_err-commit-clause-kept : goal.returns-in_err-commit-clause-kept
+returns-in_err-commit-clause-kept g c = λ changes keeps lawful ready places.
     let D = g.D.Disk in
-    let d = c.args.disk.now in
-    started D.moment D.left_since d _ (λ told e left. let now = g.met.D.Disk.only_now d told e left in record { told_is = now.1; here = tt; image = e; was = now.0; others = λ other no_mark no_log. refl })
+    let new = c.commit.new.disk in
+    let at = (goal.at.returns-in_err-commit-clause-kept g c).After-commit in
+    let p = err_from_is_err_and c.from_residual-in_err-commit.result c.from_residual-in_err-commit.ensures.1 in
+    rw (p.1, p.2) (kept_uncommitted (Unit {0}) c.in_err-commit.field-0.0 (D.tells new) (D.reads new) (D.may_leave new) c.commit.new.self changes c.args.prepared.change (c.in_err-commit.ensures.committed changes (changes ++ c.args.prepared.change ∷ []) (taken g at changes keeps lawful ready places)))
 
-pub returns-in-Ok-clause-elsewhere : goal.returns-in-Ok-clause-elsewhere
-returns-in-Ok-clause-elsewhere g c = others_stay g (goal.at.returns-in-Ok-clause-elsewhere g c).After-append_and_commit
+pub returns-in_err-commit-clause-closed : goal.returns-in_err-commit-clause-closed
+returns-in_err-commit-clause-closed g c = λ failed.
+    let at = (goal.at.returns-in_err-commit-clause-closed g c).After-commit in
+    let p = err_from_is_err_and c.from_residual-in_err-commit.result c.from_residual-in_err-commit.ensures.1 in
+    rw (p.1, p.2) (closed_uncommitted (Unit {0}) c.in_err-commit.field-0.0 c.args.prepared c.args.self.now c.keep_later.new.self c.in_ok-at.ensures.after (none g at) c.in_err-commit.ensures.closed failed)
 
-pub returns-in-Err-Disk-clause-elsewhere : goal.returns-in-Err-Disk-clause-elsewhere
-returns-in-Err-Disk-clause-elsewhere g c = others_stay g (goal.at.returns-in-Err-Disk-clause-elsewhere g c).After-append_and_commit
+pub returns-in_err-commit-clause-full : goal.returns-in_err-commit-clause-full
+returns-in_err-commit-clause-full g c = λ n.
+    let at = (goal.at.returns-in_err-commit-clause-full g c).After-commit in
+    let p = err_from_is_err_and c.from_residual-in_err-commit.result c.from_residual-in_err-commit.ensures.1 in
+    rw (p.1, p.2) (full_uncommitted (Unit {0}) c.in_err-commit.field-0.0 c.keep_later.new.self c.commit.new.self c.args.self.now.log.end (length (block c.args.prepared.change)) n (c.args.self.now.fault ≡ None) c.in_err-commit.ensures.after (room g at))
 
-pub returns-in-Err-Full-clause-elsewhere : goal.returns-in-Err-Full-clause-elsewhere
-returns-in-Err-Full-clause-elsewhere g c = others_stay g (goal.at.returns-in-Err-Full-clause-elsewhere g c).After-append_and_commit
+pub returns-in_err-commit-clause-unfit : goal.returns-in_err-commit-clause-unfit
+returns-in_err-commit-clause-unfit g c = λ over. absurd (room g (goal.at.returns-in_err-commit-clause-unfit g c).After-commit over)
 
-pub returns-in-Ok-clause-any_moment : goal.returns-in-Ok-clause-any_moment
-returns-in-Ok-clause-any_moment g c = run g (goal.at.returns-in-Ok-clause-any_moment g c).After-append_and_commit
+pub returns-in_err-commit-clause-elsewhere : goal.returns-in_err-commit-clause-elsewhere
+returns-in_err-commit-clause-elsewhere g c = others_stay g (goal.at.returns-in_err-commit-clause-elsewhere g c).After-commit
 
-pub returns-in-Ok-clause-after : goal.returns-in-Ok-clause-after
-returns-in-Ok-clause-after g c =
-    let keeper : KeeperState = record { log = c.self.inside.log; mark = c.self.inside.mark; system = c.self.inside.system; history = c.self.inside.history; count = c.self.inside.count; fault = c.self.inside.fault } in (
-      installed_at keeper c.args.self.now c.args.prepared.step c.in-Ok.at c.take_in.new.system c.self.view_is c.in-Ok.ensures.place c.take_in.ensures.system,
-      after_kept keeper c.args.self.now c.append_and_commit.new.self c.append_and_commit.new.mark c.take_in.new.system c.take_in.new.history _ (length c.block.result.now) c.args.prepared.change c.self.view_is (ap length (is_block g (goal.at.returns-in-Ok-clause-after g c).After-append_and_commit)) c.in-Ok.ensures.end c.in-Ok.ensures.mark (search rules),
-    )
+-- ---- where it succeeded
 
-pub returns-in-Ok-clause-kept : goal.returns-in-Ok-clause-kept
-returns-in-Ok-clause-kept g c = λ changes keeps lawful ready places.
-    let at = (goal.at.returns-in-Ok-clause-kept g c).After-append_and_commit in
-    let was = kept g at changes keeps lawful ready places in
-    let stands = c.in-Ok.ensures.kept changes c.args.prepared.change was.holds.stands was.holds.named (ends_with changes was.holds) lawful (is_block g at) (counted g at changes keeps lawful ready places) in
-    let noted =
-    noted_kept changes c.args.prepared.change c.self.inside.log.end c.in-Ok.at c.self.inside.history c.take_in.new.history c.in-Ok.ensures.place was.holds.whole was.holds.list.lawful lawful was.history
-    c.take_in.ensures.history in
-    keeps_more _ _ _ _ _ _ c.args.self.now _ c.in-Ok.at c.args.prepared changes keeps ready places (returns-in-Ok-clause-after g c) stands noted
+pub returns-clause-any_moment : goal.returns-clause-any_moment
+returns-clause-any_moment g c = run g (goal.at.returns-clause-any_moment g c).After-commit
 
-pub returns-in-Err-Disk-clause-any_moment : goal.returns-in-Err-Disk-clause-any_moment
-returns-in-Err-Disk-clause-any_moment g c = run g (goal.at.returns-in-Err-Disk-clause-any_moment g c).After-append_and_commit
+pub returns-clause-kept : goal.returns-clause-kept
+returns-clause-kept g c = λ changes keeps lawful ready places.
+    c.in_ok-commit.ensures.committed changes (changes ++ c.args.prepared.change ∷ []) (taken g (goal.at.returns-clause-kept g c).After-commit changes keeps lawful ready places)
 
-pub returns-in-Err-Disk-clause-kept : goal.returns-in-Err-Disk-clause-kept
-returns-in-Err-Disk-clause-kept g c = left_now g (goal.at.returns-in-Err-Disk-clause-kept g c).After-append_and_commit
+pub returns-clause-unfit : goal.returns-clause-unfit
+returns-clause-unfit g c = λ over. absurd (room g (goal.at.returns-clause-unfit g c).After-commit over)
 
-pub returns-in-Err-Disk-clause-full : goal.returns-in-Err-Disk-clause-full
-returns-in-Err-Disk-clause-full g c = λ n. (
-  λ e. absurd cc,
-  λ over.
-      let end = ap (λ (k : KeeperState). k.log.end) c.self.view_is in
-      let size = ap length (is_block g (goal.at.returns-in-Err-Disk-clause-full g c).After-append_and_commit) in
-      let fault = rw c.in-Err-Disk.field-0-is at ((c.in-Err-Disk.ensures.full n).1 (over.1 ∙ sym end, omega (arith, over.2))) in
-      absurd cc,
-)
-
-pub returns-in-Err-Full-clause-any_moment : goal.returns-in-Err-Full-clause-any_moment
-returns-in-Err-Full-clause-any_moment g c = run g (goal.at.returns-in-Err-Full-clause-any_moment g c).After-append_and_commit
-
-pub returns-in-Err-Full-clause-full : goal.returns-in-Err-Full-clause-full
-returns-in-Err-Full-clause-full g c = λ n.
-    let end = ap (λ (k : KeeperState). k.log.end) c.self.view_is in
-    let fault = ap (λ (k : KeeperState). k.fault) c.self.view_is in
-    let size = ap length (is_block g (goal.at.returns-in-Err-Full-clause-full g c).After-append_and_commit) in
-    let full = c.in-Err-Full.ensures.full n in (
-      λ e.
-          let is = full.0 (rw c.in-Err-Full.field-0-is cc) in
-          (sym fault ∙ c.in_default.is, is.0 ∙ end, omega (arith, is.1)),
-      λ over.
-          let is = rw c.in-Err-Full.field-0-is at (full.1 (over.1 ∙ sym end, omega (arith, over.2))) in
-          cc,
-    )
-
-pub returns-in-Err-Full-clause-kept : goal.returns-in-Err-Full-clause-kept
-returns-in-Err-Full-clause-kept g c = λ changes keeps lawful ready places.
-    let at = (goal.at.returns-in-Err-Full-clause-kept g c).After-append_and_commit in
-    let D = g.D.Disk in
-    let full = (c.in-Err-Full.ensures.full c.in-Err-Full.length).0 (rw c.in-Err-Full.field-0-is refl) in
-    keeps_still D.tells D.reads D.may_leave c.args.disk.now c.append_and_commit.new.disk (keeper g at changes keeps lawful ready places) c.append_and_commit.new.self c.append_and_commit.new.mark changes (c.in-Err-Full.ensures.untouched full.1) c.in-Err-Full.ensures.end c.in-Err-Full.ensures.mark (kept g at changes keeps lawful ready places)
+pub returns-clause-elsewhere : goal.returns-clause-elsewhere
+returns-clause-elsewhere g c = others_stay g (goal.at.returns-clause-elsewhere g c).After-commit

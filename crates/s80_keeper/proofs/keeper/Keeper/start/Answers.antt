@@ -1,15 +1,15 @@
-use Rattle.std.proofs.Common.{◌≡◌, Bool, Ok, IsTrue, ap, sym, subst, ◌∙◌}
+use Rattle.std.proofs.Common.{◌≡◌, ◌⊎◌, Bool, Ok, IsTrue, ap, sym, subst, ◌∙◌}
 use Rattle.std.proofs.lemmas.Result.{err_from_is_err_and}
 use Rattle.s80_disk.specs.Image.{Image}
 use Rattle.s80_disk.specs.Moments.{Beside, LeavesOnly}
 use Rattle.s80_disk.proofs.lemmas.Run.{weaker, joined}
 use Rattle.s80_mark.specs.declared.read.Found.{Found}
 use Rattle.s80_mark.specs.Found.{AreLogsEmpty}
-use Rattle.s80_keeper.specs.Standing.{StandsFor, LeavesFor}
+use Rattle.s80_keeper.specs.Standing.{FilesStandFor, ReadsFor, StandsFor, LeavesEither, LeavesFor}
 use Rattle.s80_keeper.specs.Start.{HasMark, IsStart, Started, StartLeaves}
 use Rattle.s80_keeper.specs.Reading.{IsFound}
-use Rattle.s80_keeper.proofs.Starts.{still_left, left_on, synced_on, leaves_for, none_kept, first_keeps, first_stands, first_start}
-use Rattle.s80_keeper.proofs.Resumed.{found_started, started_mark}
+use Rattle.s80_keeper.proofs.Starts.{still_left, left_on, synced_on, leaves_for, leaves_killed, none_kept, first_keeps, first_stands, first_start, settled_first, still_empty}
+use Rattle.s80_keeper.proofs.Resumed.{found_started, settled_mark, started_mark}
 use Rattle.s80_keeper.proofs.keeper.Keeper.start.Goals as goal
 use Rattle.s80_keeper.proofs.keeper.Keeper.start.Goals.{After-find_mark, After-init_mark, After-resume-in-Mark}
 
@@ -20,6 +20,13 @@ stands g c new changes is run =
     let d = c.args.disk.now in
     weaker D.moment D.left_since d new _ (LeavesFor (D.beside d).told changes) run (leaves_for (D.tells d) (D.reads d) (D.may_leave d) changes is (D.beside d).told)
 
+-- from one that reads for a list, of which a crash leaves that list or another
+killed : (g : _) (c : After-find_mark g) (new : _) (changes was : _) → ReadsFor (g.D.Disk.tells c.args.disk.now) (g.D.Disk.reads c.args.disk.now) (g.D.Disk.may_leave c.args.disk.now) changes → ((e : Image) → g.D.Disk.may_leave c.args.disk.now e → FilesStandFor e changes ⊎ FilesStandFor e was) → LeavesOnly g.D.Disk.moment g.D.Disk.left_since c.args.disk.now new (StartLeaves (g.D.Disk.reads c.args.disk.now) (g.D.Disk.may_leave c.args.disk.now) (g.D.Disk.beside c.args.disk.now).told) → LeavesOnly g.D.Disk.moment g.D.Disk.left_since c.args.disk.now new (LeavesEither (g.D.Disk.beside c.args.disk.now).told changes was)
+killed g c new changes was is images run =
+    let D = g.D.Disk in
+    let d = c.args.disk.now in
+    weaker D.moment D.left_since d new (StartLeaves (D.reads d) (D.may_leave d) (D.beside d).told) (LeavesEither (D.beside d).told changes was) run (leaves_killed (D.tells d) (D.reads d) (D.may_leave d) changes was is images (D.beside d).told)
+
 pub returns-in_err-find_mark-clause-any_moment : goal.returns-in_err-find_mark-clause-any_moment
 returns-in_err-find_mark-clause-any_moment g c = λ told.
     let D = g.D.Disk in
@@ -29,13 +36,16 @@ returns-in_err-find_mark-clause-any_moment g c = λ told.
 pub returns-in_err-find_mark-clause-stands : goal.returns-in_err-find_mark-clause-stands
 returns-in_err-find_mark-clause-stands g c = λ changes is. stands g (goal.at.returns-in_err-find_mark-clause-stands g c).After-find_mark _ changes is (returns-in_err-find_mark-clause-any_moment g c is.told)
 
+pub returns-in_err-find_mark-clause-killed : goal.returns-in_err-find_mark-clause-killed
+returns-in_err-find_mark-clause-killed g c = λ changes was is images. killed g (goal.at.returns-in_err-find_mark-clause-killed g c).After-find_mark _ changes was is images (returns-in_err-find_mark-clause-any_moment g c is.told)
+
 pub returns-in_err-find_mark-clause-started : goal.returns-in_err-find_mark-clause-started
 returns-in_err-find_mark-clause-started g c = λ changes is.
     let D = g.D.Disk in
     let d = c.args.disk.now in
     let new = c.find_mark.new.disk in
     let p = err_from_is_err_and c.from_residual.result c.from_residual.ensures.1 in
-    rw (p.1, p.2) (found_started (D.tells d) (D.tells new) (D.reads d) (D.reads new) (D.may_leave d) (D.may_leave new) changes c.in_err-find_mark.field-0.0 is (c.in_err-find_mark.ensures.answer is.told))
+    rw (p.1, p.2) (found_started (D.tells d) (D.tells new) (D.reads d) (D.reads new) (D.may_leave d) (D.may_leave new) changes c.in_err-find_mark.field-0.0 c.find_mark.ensures.untouched.telling c.find_mark.ensures.untouched.same c.find_mark.ensures.untouched.crash is (c.in_err-find_mark.ensures.answer is.told))
 
 -- the logs are empty
 empty : (g : _) (c : After-init_mark g) → IsTrue (g.D.Disk.tells c.args.disk.now) → AreLogsEmpty (g.D.Disk.reads c.args.disk.now)
@@ -59,6 +69,19 @@ returns-in_err-mark-in-Fresh-clause-any_moment g c = fresh g (goal.at.returns-in
 pub returns-in_err-mark-in-Fresh-clause-stands : goal.returns-in_err-mark-in-Fresh-clause-stands
 returns-in_err-mark-in-Fresh-clause-stands g c = λ changes is. stands g (goal.at.returns-in_err-mark-in-Fresh-clause-stands g c).After-find_mark _ changes is (returns-in_err-mark-in-Fresh-clause-any_moment g c is.told)
 
+pub returns-in_err-mark-in-Fresh-clause-killed : goal.returns-in_err-mark-in-Fresh-clause-killed
+returns-in_err-mark-in-Fresh-clause-killed g c = λ changes was is images. killed g (goal.at.returns-in_err-mark-in-Fresh-clause-killed g c).After-find_mark _ changes was is images (returns-in_err-mark-in-Fresh-clause-any_moment g c is.told)
+
+pub returns-in_err-mark-in-Fresh-clause-started : goal.returns-in_err-mark-in-Fresh-clause-started
+returns-in_err-mark-in-Fresh-clause-started g c = λ changes is.
+    let D = g.D.Disk in
+    let d = c.args.disk.now in
+    let mid = c.find_mark.new.disk in
+    let new = c.init_mark.new.disk in
+    let logs = empty g (goal.at.returns-in_err-mark-in-Fresh-clause-started g c).After-init_mark is.told in
+    let p = err_from_is_err_and c.from_residual-in_err-mark-in-Fresh.result c.from_residual-in_err-mark-in-Fresh.ensures.1 in
+    rw (p.1, p.2) (still_empty (D.tells new) (D.reads d) (D.reads mid) (D.reads new) (D.may_leave new) changes (c.init_mark.ensures.tells ∙ c.find_mark.ensures.untouched.telling ∙ is.told) logs (none_kept (D.tells d) (D.reads d) (D.may_leave d) changes is logs) c.find_mark.ensures.untouched.same c.init_mark.ensures.others)
+
 pub returns-in_ok-boot-in-Fresh-clause-answer : goal.returns-in_ok-boot-in-Fresh-clause-answer
 returns-in_ok-boot-in-Fresh-clause-answer g c = λ told.
     let none = empty g (goal.at.returns-in_ok-boot-in-Fresh-clause-answer g c).After-init_mark told in
@@ -70,6 +93,9 @@ returns-in_ok-boot-in-Fresh-clause-any_moment g c = fresh g (goal.at.returns-in_
 pub returns-in_ok-boot-in-Fresh-clause-stands : goal.returns-in_ok-boot-in-Fresh-clause-stands
 returns-in_ok-boot-in-Fresh-clause-stands g c = λ changes is. stands g (goal.at.returns-in_ok-boot-in-Fresh-clause-stands g c).After-find_mark _ changes is (returns-in_ok-boot-in-Fresh-clause-any_moment g c is.told)
 
+pub returns-in_ok-boot-in-Fresh-clause-killed : goal.returns-in_ok-boot-in-Fresh-clause-killed
+returns-in_ok-boot-in-Fresh-clause-killed g c = λ changes was is images. killed g (goal.at.returns-in_ok-boot-in-Fresh-clause-killed g c).After-find_mark _ changes was is images (returns-in_ok-boot-in-Fresh-clause-any_moment g c is.told)
+
 pub returns-in_ok-boot-in-Fresh-clause-started : goal.returns-in_ok-boot-in-Fresh-clause-started
 returns-in_ok-boot-in-Fresh-clause-started g c = λ changes is.
     let D = g.D.Disk in
@@ -80,12 +106,18 @@ returns-in_ok-boot-in-Fresh-clause-started g c = λ changes is.
     let none = none_kept (D.tells d) (D.reads d) (D.may_leave d) changes is (empty g (goal.at.returns-in_ok-boot-in-Fresh-clause-started g c).After-init_mark is.told) in
     first_keeps (D.tells new) (D.reads new) (D.may_leave new) changes (c.init_mark.ensures.tells ∙ told) none made.ensures.durable c.resume.result made.mark c.in_ok-boot-in-Fresh.field-0 c.empty.result c.at.result c.resume.ensures made.ensures.first c.in_ok-boot-in-Fresh.ensures.state c.in_ok-boot-in-Fresh.ensures.places c.empty.ensures.of (made.ensures.valid told) c.at.ensures
 
+pub returns-in_ok-boot-in-Fresh-clause-settled : goal.returns-in_ok-boot-in-Fresh-clause-settled
+returns-in_ok-boot-in-Fresh-clause-settled g c = settled_first c.resume.result c.in_ok-mark-in-Fresh.mark c.at.result c.in_ok-boot-in-Fresh.field-0 c.empty.result c.resume.ensures c.at.ensures
+
 -- there is no memory for the classes
 pub returns-in_err-boot-in-Fresh-clause-any_moment : goal.returns-in_err-boot-in-Fresh-clause-any_moment
 returns-in_err-boot-in-Fresh-clause-any_moment g c = fresh g (goal.at.returns-in_err-boot-in-Fresh-clause-any_moment g c).After-init_mark
 
 pub returns-in_err-boot-in-Fresh-clause-stands : goal.returns-in_err-boot-in-Fresh-clause-stands
 returns-in_err-boot-in-Fresh-clause-stands g c = λ changes is. stands g (goal.at.returns-in_err-boot-in-Fresh-clause-stands g c).After-find_mark _ changes is (returns-in_err-boot-in-Fresh-clause-any_moment g c is.told)
+
+pub returns-in_err-boot-in-Fresh-clause-killed : goal.returns-in_err-boot-in-Fresh-clause-killed
+returns-in_err-boot-in-Fresh-clause-killed g c = λ changes was is images. killed g (goal.at.returns-in_err-boot-in-Fresh-clause-killed g c).After-find_mark _ changes was is images (returns-in_err-boot-in-Fresh-clause-any_moment g c is.told)
 
 pub returns-in_err-boot-in-Fresh-clause-started : goal.returns-in_err-boot-in-Fresh-clause-started
 returns-in_err-boot-in-Fresh-clause-started g c = λ changes is.
@@ -128,6 +160,9 @@ returns-in-Mark-clause-any_moment g c = λ told.
 pub returns-in-Mark-clause-stands : goal.returns-in-Mark-clause-stands
 returns-in-Mark-clause-stands g c = λ changes is. stands g (goal.at.returns-in-Mark-clause-stands g c).After-find_mark _ changes is (returns-in-Mark-clause-any_moment g c is.told)
 
+pub returns-in-Mark-clause-killed : goal.returns-in-Mark-clause-killed
+returns-in-Mark-clause-killed g c = λ changes was is images. killed g (goal.at.returns-in-Mark-clause-killed g c).After-find_mark _ changes was is images (returns-in-Mark-clause-any_moment g c is.told)
+
 pub returns-in-Mark-clause-started : goal.returns-in-Mark-clause-started
 returns-in-Mark-clause-started g c = λ changes is.
     let D = g.D.Disk in
@@ -141,3 +176,6 @@ returns-in-Mark-clause-started g c = λ changes is.
     subst (P (D.tells new)) same_reads (subst (λ t. P t (D.reads d)) same_tells (
     started_mark (D.tells d) (D.reads d) (D.may_leave d) (D.may_leave new) c.in-Mark.mark changes (has g run is.told) is (λ image left. c.find_mark.ensures.untouched.crash image (after.untouched.crash image left)) (λ image left. c.in_ok-find_mark.ensures.durable image (after.untouched.crash image left))
     c.resume-in-Mark.result (resumed g run is.told) after.keeper))
+
+pub returns-in-Mark-clause-settled : goal.returns-in-Mark-clause-settled
+returns-in-Mark-clause-settled g c = settled_mark c.resume-in-Mark.result c.in-Mark.mark c.resume-in-Mark.ensures.keeper

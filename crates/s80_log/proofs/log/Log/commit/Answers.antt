@@ -1,4 +1,4 @@
-use Rattle.std.proofs.Common.{◌≡◌, ℕ, List, length, sym, ap, subst, refl}
+use Rattle.std.proofs.Common.{◌≡◌, ◌∙◌, inl, ℕ, List, length, sym, ap, subst, refl}
 use Rattle.s80_change.specs.declared.change.Change.{Change}
 use Rattle.s80_disk.specs.declared.disk.FileId.{FileId}
 use Rattle.s80_disk.specs.Image.{Image, Only}
@@ -6,7 +6,7 @@ use Rattle.s80_disk.specs.Moments.{LeavesOnly}
 use Rattle.s80_mark.specs.declared.mark.MarkState.{MarkState}
 use Rattle.s80_mark.specs.Commit.{CanCommit, HasEither}
 use Rattle.s80_log.specs.Log.{LogEnd, log_file}
-use Rattle.s80_log.specs.Commit.{next_mark, Holds, LeavesBeside, StandForEither}
+use Rattle.s80_log.specs.Commit.{next_mark, Holds, LeavesBeside, ReadForEither, StandForEither}
 use Rattle.s80_log.proofs.Files.{log_is_no_mark}
 use Rattle.s80_log.proofs.Committing as committing
 use Rattle.s80_log.proofs.log.Log.commit.Goals as goal
@@ -37,6 +37,12 @@ returns-in_err-sync-clause-left g c = λ kept all e holds counts left.
     let D = g.D.Disk in
     let sync = c.sync.ensures in
     committing.lists_mid D.moment D.left_since D.may_leave D.tells D.reads D.beside c.args.mark.now (next_mark c.args.mark.now c.args.self.now c.args.count) c.args.disk.now c.sync.new.self sync.tells sync.same sync.crash sync.beside c.args.self.now kept all holds e left
+
+pub returns-in_err-sync-clause-reads : goal.returns-in_err-sync-clause-reads
+returns-in_err-sync-clause-reads g c = λ kept all holds counts.
+    let D = g.D.Disk in
+    let sync = c.sync.ensures in
+    inl (committing.reads_kept D.moment D.left_since D.may_leave D.tells D.reads D.beside c.args.mark.now (next_mark c.args.mark.now c.args.self.now c.args.count) c.args.disk.now c.sync.new.self sync.tells sync.same sync.crash sync.beside c.args.self.now kept all holds)
 
 -- ---- what the commit of the mark left
 
@@ -86,6 +92,15 @@ module _ (g : _) (c : After-commit_mark g) where
         let sync = c.sync.ensures in
         committing.lists_on D.moment D.left_since D.may_leave D.tells D.reads D.beside c.args.mark.now (next_mark c.args.mark.now c.args.self.now c.args.count) c.args.disk.now c.sync.new.self sync.tells sync.same sync.crash sync.beside c.args.self.now kept all holds c.args.count refl counts durable _ e (now e here)
 
+    reads : ReadForEither (g.D.Disk.tells c.commit_mark.new.disk) (g.D.Disk.reads c.commit_mark.new.disk) (g.D.Disk.may_leave c.commit_mark.new.disk) c.args.mark.now kept (next_mark c.args.mark.now c.args.self.now c.args.count) all
+    reads =
+        let D = g.D.Disk in
+        let sync = c.sync.ensures in
+        let new = c.commit_mark.new.disk in
+        let tells_same = c.commit_mark.ensures.tells in
+        committing.reads_either D.moment D.left_since D.may_leave D.tells D.reads D.beside c.args.mark.now (next_mark c.args.mark.now c.args.self.now c.args.count) c.args.disk.now c.sync.new.self sync.tells sync.same sync.crash sync.beside c.args.self.now kept all holds c.args.count refl counts durable new tells_same
+        (g.met.D.Disk.reads_is_left new (tells_same ∙ sync.tells ∙ holds.stands.told)) (c.commit_mark.ensures.others (log_file c.args.self.now.number) (λ e. log_is_no_mark c.args.self.now.number (sym e))) now
+
 -- ---- where it failed
 
 pub returns-in_err-commit_mark-clause-any_moment : goal.returns-in_err-commit_mark-clause-any_moment
@@ -99,6 +114,9 @@ returns-in_err-commit_mark-clause-stands g c = λ kept all holds counts. stands 
 
 pub returns-in_err-commit_mark-clause-left : goal.returns-in_err-commit_mark-clause-left
 returns-in_err-commit_mark-clause-left g c = λ kept all e holds counts here. left g (goal.at.returns-in_err-commit_mark-clause-left g c).After-commit_mark kept all holds counts e here
+
+pub returns-in_err-commit_mark-clause-reads : goal.returns-in_err-commit_mark-clause-reads
+returns-in_err-commit_mark-clause-reads g c = λ kept all holds counts. reads g (goal.at.returns-in_err-commit_mark-clause-reads g c).After-commit_mark kept all holds counts
 
 -- ---- where it succeeded
 
@@ -130,3 +148,6 @@ returns-clause-committed g c = λ kept all holds counts.
     committing.holds_all D.moment D.left_since D.may_leave D.tells D.reads D.beside c.args.mark.now _ c.args.disk.now c.sync.new.self sync.tells sync.same sync.crash sync.beside c.args.self.now kept all holds c.args.count is counts (durable g (goal.at.returns-clause-committed g c).After-commit_mark) c.commit_mark.new.disk c.commit_mark.ensures.tells
     (returns-clause-valid g c (committing.can D.moment D.left_since D.may_leave D.tells D.reads D.beside c.args.mark.now (next_mark c.args.mark.now c.args.self.now c.args.count) c.args.disk.now c.sync.new.self sync.tells sync.same sync.crash sync.beside c.args.self.now kept all holds c.args.count refl))
     c.in_ok-commit_mark.ensures.durable (c.commit_mark.ensures.others log_file_of (λ e. log_is_no_mark c.args.self.now.number (sym e))) c.commit_mark.ensures.left
+
+pub returns-clause-reads : goal.returns-clause-reads
+returns-clause-reads g c = λ kept all holds counts. reads g (goal.at.returns-clause-reads g c).After-commit_mark kept all holds counts

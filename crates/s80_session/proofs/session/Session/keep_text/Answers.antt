@@ -1,28 +1,33 @@
 use Rattle.std.proofs.Common.{◌≤◌, inl, ℕ, List, length, ap, refl, sym, subst, ◌∙◌, Ok, Err}
 use Rattle.std.proofs.lemmas.Result.{err_from_is_err_and}
-use Rattle.s80_change.specs.declared.change.Change.TheVariants.{DoIt, Form}
+use Rattle.s80_change.specs.declared.change.Change.TheVariants.{Form}
 use Rattle.s80_form.specs.Form.{IsNoFormText}
 use Rattle.s80_form.specs.declared.refusal.Refused.{Refused}
 use Rattle.s80_chunk.specs.declared.item.Item.TheVariants as items
 use Rattle.s80_chunk.specs.Chunks.{IsChunkText, longest}
+use Rattle.s80_disk.specs.declared.disk.FileId.TheVariants.{Mark}
 use Rattle.s80_disk.specs.Moments.{LeavesOnly}
 use Rattle.s80_disk.proofs.lemmas.Showing.{told_beside}
 use Rattle.s80_model.specs.declared.item.SessionItem.TheVariants.{Chunk}
 use Rattle.s80_doit.specs.DoIt.{IsMethodOfDoIt}
-use Rattle.s80_model.specs.Asked.{AsksPlain, adds, snapshot_note}
+use Rattle.s80_model.specs.Asked.{AsksPlain, adds}
 use Rattle.s80_model.specs.Replies.{Work}
 use Rattle.s80_session.specs.declared.plain.Plain.{Plain}
 use Rattle.s80_session.specs.Plain.{IsPlain}
-use Rattle.s80_session.specs.Session.{last_run_of, was_of, RunAfterText}
-use Rattle.s80_session.specs.Working.{IsAt, IsLawfulFor, Replied, WorkLeaves}
-use Rattle.s80_session.proofs.lemmas.Lasting.{nothing_happens, work_still}
+use Rattle.s80_session.specs.Session.{keeper_of, last_run_of, room_of, was_of, RunAfterText}
+use Rattle.s80_session.specs.Run.{HasKept}
+use Rattle.s80_session.specs.Working.{Ground, IsAmid, IsLawfulFor, Replied, WorkLeaves}
+use Rattle.s80_session.proofs.Breaking.{keep_end_works}
+use Rattle.s80_session.proofs.Holding.{keeping_room}
+use Rattle.s80_session.proofs.lemmas.Elsewhere.{no_log}
+use Rattle.s80_session.proofs.lemmas.Grounds.{nothing_happens, work_still}
 use Rattle.s80_session.proofs.Marking.{run_stays}
-use Rattle.s80_session.proofs.Stepping.{change_lasts, replied_change, replied_note, replied_refusal, unreplied}
+use Rattle.s80_session.proofs.Stepping.{replied_change, replied_note, replied_refusal, unreplied}
 use Rattle.s80_session.proofs.session.Session.keep_text.Goals as goal
-use Rattle.s80_session.proofs.session.Session.keep_text.Goals.{After-keep}
+use Rattle.s80_session.proofs.session.Session.keep_text.Goals.{After-keep, After-keep_doit}
 
 -- a form: what the paths behind the keeping share
-module _ (g : _) (c : After-keep g) (work : Work) (put : List ℕ) (at : IsAt (g.O.Disk.may_leave c.args.outside.now) (g.O.Outside.shown c.args.outside.now) c.args.self.now work put) where
+module _ (g : _) (c : After-keep g) (work : Work) (ground : Ground) (at : IsAmid (g.O.Disk.may_leave c.args.outside.now) (g.O.Outside.shown c.args.outside.now) c.args.self.now work ground) where
   asks : AsksPlain c.args.text (adds (Form c.in-Ok-Form.form))
   asks =
       let P : Plain → Type 0 = λ x. IsPlain c.args.text (Ok x) in
@@ -31,41 +36,53 @@ module _ (g : _) (c : After-keep g) (work : Work) (put : List ℕ) (at : IsAt (g
   lawful : IsLawfulFor work.changes (Form c.in-Ok-Form.form)
   lawful = c.accepted_forms_are_lawful.ensures work.changes c.in-Ok-Form.form at.keeps.holds.list.lawful asks.1.form_is.1
 
-  run : LeavesOnly g.O.Disk.moment g.O.Disk.left_since c.args.outside.now c.keep.new.outside (WorkLeaves work put (Chunk (items.Plain c.args.text)))
-  run = change_lasts g.O.Disk.moment g.O.Disk.left_since c.args.outside.now c.keep.new.outside work put (Chunk (items.Plain c.args.text)) (Form c.in-Ok-Form.form) asks (c.keep.ensures.any_moment work put lawful at)
+  run : LeavesOnly g.O.Disk.moment g.O.Disk.left_since c.args.outside.now c.keep.new.outside (HasKept ground.kept (length ground.put))
+  run = c.keep.ensures.any_moment work ground lawful at
+
+  works : LeavesOnly g.O.Disk.moment g.O.Disk.left_since c.args.outside.now c.keep.new.outside (WorkLeaves work ground (Chunk (items.Plain c.args.text)))
+  works = work_still g.O.Disk.moment g.O.Disk.left_since c.args.outside.now c.keep.new.outside work ground (Chunk (items.Plain c.args.text)) run
 
 pub returns-in_err-refusal-in-Ok-Form-clause-replied : goal.returns-in_err-refusal-in-Ok-Form-clause-replied
-returns-in_err-refusal-in-Ok-Form-clause-replied g c = λ work put chunk short at.
+returns-in_err-refusal-in-Ok-Form-clause-replied g c = λ work ground chunk short at.
     let after = (goal.at.returns-in_err-refusal-in-Ok-Form-clause-replied g c).After-keep in
     let p = err_from_is_err_and c.from_residual.result c.from_residual.ensures.1 in
-    rw (p.1, p.2) (unreplied c.in_err-refusal-in-Ok-Form.field-0.0 (g.O.Disk.may_leave c.keep.new.outside) (g.O.Outside.shown c.keep.new.outside) c.keep.new.self work put (Chunk (items.Plain c.args.text)) (c.in_err-refusal-in-Ok-Form.ensures.kept work put (lawful g after work put at) at))
+    rw (p.1, p.2) (unreplied c.in_err-refusal-in-Ok-Form.field-0.0 (g.O.Disk.may_leave c.keep.new.outside) (g.O.Outside.shown c.keep.new.outside) c.keep.new.self work ground (Chunk (items.Plain c.args.text)) (c.in_err-refusal-in-Ok-Form.ensures.kept work ground (lawful g after work ground at) at))
 
 pub returns-in_err-refusal-in-Ok-Form-clause-any_moment : goal.returns-in_err-refusal-in-Ok-Form-clause-any_moment
-returns-in_err-refusal-in-Ok-Form-clause-any_moment g c = λ work put chunk short at. run g (goal.at.returns-in_err-refusal-in-Ok-Form-clause-any_moment g c).After-keep work put at
+returns-in_err-refusal-in-Ok-Form-clause-any_moment g c = λ work ground chunk short at. works g (goal.at.returns-in_err-refusal-in-Ok-Form-clause-any_moment g c).After-keep work ground at
 
 pub returns-in_ok-refusal-in-Ok-Form-clause-replied : goal.returns-in_ok-refusal-in-Ok-Form-clause-replied
-returns-in_ok-refusal-in-Ok-Form-clause-replied g c = λ work put chunk short at.
+returns-in_ok-refusal-in-Ok-Form-clause-replied g c = λ work ground chunk short at.
     let after = (goal.at.returns-in_ok-refusal-in-Ok-Form-clause-replied g c).After-keep in
-    replied_change (g.O.Disk.may_leave c.keep.new.outside) (g.O.Outside.shown c.keep.new.outside) c.keep.new.self (was_of c.args.self.now) work put (Chunk (items.Plain c.args.text)) (Form c.in-Ok-Form.form) c.in_ok-refusal-in-Ok-Form.refusal c.reply_to_keeping.result (ap last_run_of c.keep.ensures.rest) (asks g after work put at) c.reply_to_keeping.ensures (c.in_ok-refusal-in-Ok-Form.ensures.kept work put (lawful g after work put at) at)
+    replied_change (g.O.Disk.may_leave c.keep.new.outside) (g.O.Outside.shown c.keep.new.outside) c.keep.new.self (was_of c.args.self.now) work ground (Chunk (items.Plain c.args.text)) (Form c.in-Ok-Form.form) c.in_ok-refusal-in-Ok-Form.refusal c.reply_to_keeping.result (ap last_run_of c.keep.ensures.rest) (asks g after work ground at) c.reply_to_keeping.ensures (c.in_ok-refusal-in-Ok-Form.ensures.kept work ground (lawful g after work ground at) at)
 
 pub returns-in_ok-refusal-in-Ok-Form-clause-any_moment : goal.returns-in_ok-refusal-in-Ok-Form-clause-any_moment
-returns-in_ok-refusal-in-Ok-Form-clause-any_moment g c = λ work put chunk short at. run g (goal.at.returns-in_ok-refusal-in-Ok-Form-clause-any_moment g c).After-keep work put at
+returns-in_ok-refusal-in-Ok-Form-clause-any_moment g c = λ work ground chunk short at. works g (goal.at.returns-in_ok-refusal-in-Ok-Form-clause-any_moment g c).After-keep work ground at
 
 -- the note of a snapshot
 pub returns-in-Ok-Snapshot-clause-replied : goal.returns-in-Ok-Snapshot-clause-replied
-returns-in-Ok-Snapshot-clause-replied g c = λ work put chunk short at.
+returns-in-Ok-Snapshot-clause-replied g c = λ work ground chunk short at.
     let P : Plain → Type 0 = λ x. IsPlain c.args.text (Ok x) in
     let asks = subst P c.in-Ok-Snapshot.field-0-is c.in-Ok-Snapshot.ensures in
-    replied_note c.keep_note.result (g.O.Disk.may_leave c.keep_note.new.outside) (g.O.Outside.shown c.keep_note.new.outside) c.keep_note.new.self (was_of c.args.self.now) work put (Chunk (items.Plain c.args.text)) (ap last_run_of c.keep_note.ensures.rest) asks (c.keep_note.ensures.noted work put at)
+    replied_note c.keep_note.result (g.O.Disk.may_leave c.keep_note.new.outside) (g.O.Outside.shown c.keep_note.new.outside) c.keep_note.new.self (was_of c.args.self.now) work ground (Chunk (items.Plain c.args.text)) c.keep_note.ensures.rest.last_run asks (c.keep_note.ensures.noted work ground (Chunk (items.Plain c.args.text)) asks at)
 
 pub returns-in-Ok-Snapshot-clause-any_moment : goal.returns-in-Ok-Snapshot-clause-any_moment
-returns-in-Ok-Snapshot-clause-any_moment g c = λ work put chunk short at.
+returns-in-Ok-Snapshot-clause-any_moment g c = λ work ground chunk short at.
     let P : Plain → Type 0 = λ x. IsPlain c.args.text (Ok x) in
     let asks = subst P c.in-Ok-Snapshot.field-0-is c.in-Ok-Snapshot.ensures in
-    change_lasts g.O.Disk.moment g.O.Disk.left_since c.args.outside.now c.keep_note.new.outside work put (Chunk (items.Plain c.args.text)) (DoIt snapshot_note) asks (c.keep_note.ensures.any_moment work put at)
+    c.keep_note.ensures.any_moment work ground (Chunk (items.Plain c.args.text)) asks at
+
+pub returns-in-Ok-Snapshot-clause-grouped : goal.returns-in-Ok-Snapshot-clause-grouped
+returns-in-Ok-Snapshot-clause-grouped g c = λ work ground chunk short grouped at. absurd (let P : Plain → Type 0 = λ x. IsPlain c.args.text (Ok x) in grouped (subst P c.in-Ok-Snapshot.field-0-is c.in-Ok-Snapshot.ensures))
+
+pub returns-in-Ok-Snapshot-clause-unmarked : goal.returns-in-Ok-Snapshot-clause-unmarked
+returns-in-Ok-Snapshot-clause-unmarked g c = λ chunk short grouped. absurd (let P : Plain → Type 0 = λ x. IsPlain c.args.text (Ok x) in grouped (subst P c.in-Ok-Snapshot.field-0-is c.in-Ok-Snapshot.ensures))
+
+pub returns-in-Ok-Snapshot-clause-silent : goal.returns-in-Ok-Snapshot-clause-silent
+returns-in-Ok-Snapshot-clause-silent g c = λ chunk short grouped. absurd (let P : Plain → Type 0 = λ x. IsPlain c.args.text (Ok x) in grouped (subst P c.in-Ok-Snapshot.field-0-is c.in-Ok-Snapshot.ensures))
 
 pub returns-in-Ok-Snapshot-clause-last_run : goal.returns-in-Ok-Snapshot-clause-last_run
-returns-in-Ok-Snapshot-clause-last_run g c = run_stays c.keep_note.result (Chunk (items.Plain c.args.text)) c.args.self.now c.keep_note.new.self (ap last_run_of c.keep_note.ensures.rest)
+returns-in-Ok-Snapshot-clause-last_run g c = run_stays c.keep_note.result (Chunk (items.Plain c.args.text)) c.args.self.now c.keep_note.new.self c.keep_note.ensures.rest.last_run
 
 -- a doIt is the text itself
 pub keep_doit-requires-clause-method : goal.keep_doit-requires-clause-method
@@ -75,31 +92,54 @@ keep_doit-requires-clause-method g c =
     subst (λ t. IsMethodOfDoIt t c.in-Ok-Evaluate.method) (sym is.0) is.1
 
 pub returns-in-Ok-Evaluate-clause-replied : goal.returns-in-Ok-Evaluate-clause-replied
-returns-in-Ok-Evaluate-clause-replied g c = λ work put chunk short at.
+returns-in-Ok-Evaluate-clause-replied g c = λ work ground chunk short at.
     let P : Plain → Type 0 = λ x. IsPlain c.args.text (Ok x) in
     let is = subst P c.in-Ok-Evaluate.field-0-is c.in-Ok-Evaluate.ensures in
-    let Q : List ℕ → Type 0 = λ t. Replied c.keep_doit.result (g.O.Disk.may_leave c.keep_doit.new.outside) (g.O.Outside.shown c.keep_doit.new.outside) c.keep_doit.new.self (was_of c.args.self.now) work put (Chunk (items.Plain t)) in
-    subst Q is.0 (c.keep_doit.ensures.replied work put (subst IsChunkText (sym is.0) chunk) (subst (λ t. length t ≤ longest) (sym is.0) short) (subst IsNoFormText (sym is.0) is.2) at)
+    let Q : List ℕ → Type 0 = λ t. Replied c.keep_doit.result (g.O.Disk.may_leave c.keep_doit.new.outside) (g.O.Outside.shown c.keep_doit.new.outside) c.keep_doit.new.self (was_of c.args.self.now) work ground (Chunk (items.Plain t)) in
+    subst Q is.0 (c.keep_doit.ensures.replied work ground (subst IsChunkText (sym is.0) chunk) (subst (λ t. length t ≤ longest) (sym is.0) short) (subst IsNoFormText (sym is.0) is.2) at)
+
+-- what its keeping leaves
+module _ (g : _) (c : After-keep_doit g) (work : Work) (ground : Ground) (chunk : IsChunkText c.args.text) (short : length c.args.text ≤ longest) (at : IsAmid (g.O.Disk.may_leave c.args.outside.now) (g.O.Outside.shown c.args.outside.now) c.args.self.now work ground) where
+  doit_run : LeavesOnly g.O.Disk.moment g.O.Disk.left_since c.args.outside.now c.keep_doit.new.outside (HasKept ground.kept (length ground.put))
+  doit_run =
+      let P : Plain → Type 0 = λ x. IsPlain c.args.text (Ok x) in
+      let is = subst P c.in-Ok-Evaluate.field-0-is c.in-Ok-Evaluate.ensures in
+      c.keep_doit.ensures.any_moment work ground (subst IsChunkText (sym is.0) chunk) (subst (λ t. length t ≤ longest) (sym is.0) short) (subst IsNoFormText (sym is.0) is.2) at
 
 pub returns-in-Ok-Evaluate-clause-any_moment : goal.returns-in-Ok-Evaluate-clause-any_moment
-returns-in-Ok-Evaluate-clause-any_moment g c = λ work put chunk short at.
-    let P : Plain → Type 0 = λ x. IsPlain c.args.text (Ok x) in
-    let is = subst P c.in-Ok-Evaluate.field-0-is c.in-Ok-Evaluate.ensures in
-    let Q : List ℕ → Type 0 = λ t. LeavesOnly g.O.Disk.moment g.O.Disk.left_since c.args.outside.now c.keep_doit.new.outside (WorkLeaves work put (Chunk (items.Plain t))) in
-    subst Q is.0 (c.keep_doit.ensures.any_moment work put (subst IsChunkText (sym is.0) chunk) (subst (λ t. length t ≤ longest) (sym is.0) short) (subst IsNoFormText (sym is.0) is.2) at)
+returns-in-Ok-Evaluate-clause-any_moment g c = λ work ground chunk short at.
+    work_still g.O.Disk.moment g.O.Disk.left_since c.args.outside.now c.keep_doit.new.outside work ground (Chunk (items.Plain c.args.text)) (doit_run g (goal.at.returns-in-Ok-Evaluate-clause-any_moment g c).After-keep_doit work ground chunk short at)
+
+pub returns-in-Ok-Evaluate-clause-grouped : goal.returns-in-Ok-Evaluate-clause-grouped
+returns-in-Ok-Evaluate-clause-grouped g c = λ work ground chunk short grouped at. doit_run g (goal.at.returns-in-Ok-Evaluate-clause-grouped g c).After-keep_doit work ground chunk short at
+
+pub returns-in-Ok-Evaluate-clause-unmarked : goal.returns-in-Ok-Evaluate-clause-unmarked
+returns-in-Ok-Evaluate-clause-unmarked g c = λ chunk short grouped. c.keep_doit.ensures.others Mark (no_log (keeper_of c.args.self.now).log.number)
+
+pub returns-in_ok-refusal-in-Ok-Form-clause-grouped : goal.returns-in_ok-refusal-in-Ok-Form-clause-grouped
+returns-in_ok-refusal-in-Ok-Form-clause-grouped g c = λ work ground chunk short grouped at. run g (goal.at.returns-in_ok-refusal-in-Ok-Form-clause-grouped g c).After-keep work ground at
+
+pub returns-in_err-refusal-in-Ok-Form-clause-grouped : goal.returns-in_err-refusal-in-Ok-Form-clause-grouped
+returns-in_err-refusal-in-Ok-Form-clause-grouped g c = λ work ground chunk short grouped at. run g (goal.at.returns-in_err-refusal-in-Ok-Form-clause-grouped g c).After-keep work ground at
+
+pub returns-in_ok-refusal-in-Ok-Form-clause-unmarked : goal.returns-in_ok-refusal-in-Ok-Form-clause-unmarked
+returns-in_ok-refusal-in-Ok-Form-clause-unmarked g c = λ chunk short grouped. c.keep.ensures.others Mark (no_log (keeper_of c.args.self.now).log.number)
+
+pub returns-in_err-refusal-in-Ok-Form-clause-unmarked : goal.returns-in_err-refusal-in-Ok-Form-clause-unmarked
+returns-in_err-refusal-in-Ok-Form-clause-unmarked g c = λ chunk short grouped. c.keep.ensures.others Mark (no_log (keeper_of c.args.self.now).log.number)
 
 pub returns-in-Err-Refusal-clause-replied : goal.returns-in-Err-Refusal-clause-replied
-returns-in-Err-Refusal-clause-replied g c = λ work put chunk short at.
+returns-in-Err-Refusal-clause-replied g c = λ work ground chunk short at.
     let P : Refused → Type 0 = λ r. IsPlain c.args.text (Err r) in
-    rw c.in-Err-Refusal.field-0-is (replied_refusal (g.O.Disk.may_leave c.args.outside.now) (g.O.Outside.shown c.args.outside.now) _ (was_of c.args.self.now) work put c.args.text c.in-Err-Refusal.refusal refl (subst P c.in-Err-Refusal.field-0-is c.in-Err-Refusal.ensures) at)
+    rw c.in-Err-Refusal.field-0-is (replied_refusal (g.O.Disk.may_leave c.args.outside.now) (g.O.Outside.shown c.args.outside.now) _ (was_of c.args.self.now) work ground c.args.text c.in-Err-Refusal.refusal refl (subst P c.in-Err-Refusal.field-0-is c.in-Err-Refusal.ensures) at)
 
 pub returns-in-Err-Refusal-clause-any_moment : goal.returns-in-Err-Refusal-clause-any_moment
-returns-in-Err-Refusal-clause-any_moment g c = λ work put chunk short at.
-    work_still g.O.Disk.moment g.O.Disk.left_since c.args.outside.now c.args.outside.now work put (Chunk (items.Plain c.args.text)) (nothing_happens g.O.Disk.moment g.O.Disk.left_since _ (g.O.Outside.shown c.args.outside.now) _ c.args.outside.now work put (λ told image left. let x = g.met.O.Disk.only_now c.args.outside.now told image left in (x.0, x.1 ∙ told_beside g.met.O.Outside.beside_is g.met.O.Outside.shown_is c.args.outside.now)) at)
+returns-in-Err-Refusal-clause-any_moment g c = λ work ground chunk short at.
+    work_still g.O.Disk.moment g.O.Disk.left_since c.args.outside.now c.args.outside.now work ground (Chunk (items.Plain c.args.text)) (nothing_happens g.O.Disk.moment g.O.Disk.left_since _ (g.O.Outside.shown c.args.outside.now) _ c.args.outside.now work ground (λ told image left. let x = g.met.O.Disk.only_now c.args.outside.now told image left in (x.0, x.1 ∙ told_beside g.met.O.Outside.beside_is g.met.O.Outside.shown_is c.args.outside.now)) at)
 
 pub returns-in-Err-Memory-clause-any_moment : goal.returns-in-Err-Memory-clause-any_moment
-returns-in-Err-Memory-clause-any_moment g c = λ work put chunk short at.
-    work_still g.O.Disk.moment g.O.Disk.left_since c.args.outside.now c.args.outside.now work put (Chunk (items.Plain c.args.text)) (nothing_happens g.O.Disk.moment g.O.Disk.left_since _ (g.O.Outside.shown c.args.outside.now) _ c.args.outside.now work put (λ told image left. let x = g.met.O.Disk.only_now c.args.outside.now told image left in (x.0, x.1 ∙ told_beside g.met.O.Outside.beside_is g.met.O.Outside.shown_is c.args.outside.now)) at)
+returns-in-Err-Memory-clause-any_moment g c = λ work ground chunk short at.
+    work_still g.O.Disk.moment g.O.Disk.left_since c.args.outside.now c.args.outside.now work ground (Chunk (items.Plain c.args.text)) (nothing_happens g.O.Disk.moment g.O.Disk.left_since _ (g.O.Outside.shown c.args.outside.now) _ c.args.outside.now work ground (λ told image left. let x = g.met.O.Disk.only_now c.args.outside.now told image left in (x.0, x.1 ∙ told_beside g.met.O.Outside.beside_is g.met.O.Outside.shown_is c.args.outside.now)) at)
 
 pub returns-in-Ok-Evaluate-clause-last_run : goal.returns-in-Ok-Evaluate-clause-last_run
 returns-in-Ok-Evaluate-clause-last_run g c =
@@ -115,3 +155,25 @@ pub returns-in_err-refusal-in-Ok-Form-clause-last_run : goal.returns-in_err-refu
 returns-in_err-refusal-in-Ok-Form-clause-last_run g c =
     let p = err_from_is_err_and c.from_residual.result c.from_residual.ensures.1 in
     rw p.1 (ap last_run_of c.keep.ensures.rest)
+
+-- nothing is done
+pub returns-in-Err-Refusal-clause-grouped : goal.returns-in-Err-Refusal-clause-grouped
+returns-in-Err-Refusal-clause-grouped g c = λ work ground chunk short grouped at.
+    nothing_happens g.O.Disk.moment g.O.Disk.left_since _ (g.O.Outside.shown c.args.outside.now) _ c.args.outside.now work ground (λ told image left. let x = g.met.O.Disk.only_now c.args.outside.now told image left in (x.0, x.1 ∙ told_beside g.met.O.Outside.beside_is g.met.O.Outside.shown_is c.args.outside.now)) at
+
+pub returns-in-Err-Memory-clause-grouped : goal.returns-in-Err-Memory-clause-grouped
+returns-in-Err-Memory-clause-grouped g c = λ work ground chunk short grouped at.
+    nothing_happens g.O.Disk.moment g.O.Disk.left_since _ (g.O.Outside.shown c.args.outside.now) _ c.args.outside.now work ground (λ told image left. let x = g.met.O.Disk.only_now c.args.outside.now told image left in (x.0, x.1 ∙ told_beside g.met.O.Outside.beside_is g.met.O.Outside.shown_is c.args.outside.now)) at
+
+pub returns-in_ok-refusal-in-Ok-Form-clause-room : goal.returns-in_ok-refusal-in-Ok-Form-clause-room
+returns-in_ok-refusal-in-Ok-Form-clause-room g c = λ enough.
+    keeping_room c.in_ok-refusal-in-Ok-Form.refusal c.reply_to_keeping.result (room_of c.keep.new.self) c.reply_to_keeping.ensures (subst (λ n. 3 ≤ n) (sym (ap room_of c.keep.ensures.rest)) enough)
+
+-- what keeps a doIt breaks off so too
+pub returns-in-Ok-Evaluate-clause-ends : goal.returns-in-Ok-Evaluate-clause-ends
+returns-in-Ok-Evaluate-clause-ends g c = keep_end_works c.keep_doit.result c.keep_doit.ensures.ends
+
+pub returns-in_err-refusal-in-Ok-Form-clause-ends : goal.returns-in_err-refusal-in-Ok-Form-clause-ends
+returns-in_err-refusal-in-Ok-Form-clause-ends g c =
+    let p = err_from_is_err_and c.from_residual.result c.from_residual.ensures.1 in
+    rw (p.1, p.2) (keep_end_works {T = Unit {0}} (Err c.in_err-refusal-in-Ok-Form.field-0.0) c.in_err-refusal-in-Ok-Form.ensures.ends)

@@ -1,22 +1,18 @@
-use Rattle.std.proofs.Common.{◌≡◌, ◌≤◌, ◌-◌, [], ℕ, List, Some, false}
+use Rattle.std.proofs.Common.{◌≡◌, ◌≤◌, ◌-◌, [], ℕ, List, Some, length, false}
 use Rattle.s80_chunk.specs.Held.{fed}
 use Rattle.s80_model.specs.Replies.{Work}
-use Rattle.s80_disk.specs.Moments.{LeavesOnly}
 use Rattle.s80_session.specs.Ending.{NoFewer}
-use Rattle.s80_session.specs.Run.{input_limit, Keeps}
-use Rattle.s80_session.specs.Session.{IsFaultless, RunSince, Was}
-use Rattle.s80_session.specs.Working.{HasReadSome, IsWorking}
-use Rattle.s80_session.proofs.Taking.{IsTaking}
+use Rattle.s80_session.specs.Run.{input_limit}
+use Rattle.s80_session.specs.Session.{IsResting, RunSince, Was}
+use Rattle.s80_session.specs.Working.{HasReadSome, IsDone}
+use Rattle.s80_session.proofs.Works.{TakesOn}
 use Rattle.s80_session.proofs.session.Session.take_all.Given as goal
 
 abbrev pub invariant-pieces : goal.invariant-pieces
 invariant-pieces g l = record {
-  taking : (was : Was) (work : Work) (input before : List ℕ) → (g.O.Outside.shown l.fn.outside).left ≡ Some input
-      → IsWorking (g.O.Disk.may_leave l.fn.outside) (g.O.Outside.shown l.fn.outside) l.fn.self l.fn.reader was work before [] []
-      → IsTaking (g.O.Disk.may_leave l.outside) (g.O.Outside.shown l.outside) l.self l.reader was work input before;
-  run : (was : Was) (work : Work) (input before : List ℕ) → (g.O.Outside.shown l.fn.outside).left ≡ Some input
-      → IsWorking (g.O.Disk.may_leave l.fn.outside) (g.O.Outside.shown l.fn.outside) l.fn.self l.fn.reader was work before [] []
-      → LeavesOnly g.O.Disk.moment g.O.Disk.left_since l.fn.outside l.outside (Keeps work input before);
+  takes : (was : Was) (work : Work) (input before : List ℕ) → (g.O.Outside.shown l.fn.outside).left ≡ Some input
+      → IsDone (g.O.Disk.may_leave l.fn.outside) (g.O.Outside.shown l.fn.outside) l.fn.self l.fn.reader was work before [] []
+      → TakesOn g.O.Disk.moment g.O.Disk.left_since g.O.Disk.may_leave g.O.Outside.shown l.fn.outside l.outside l.self l.reader was work input before;
   last_run : RunSince l.fn.self l.self;
   later : NoFewer (g.O.Outside.faults l.fn.outside) (g.O.Outside.faults l.outside);
   faults_stay : g.O.Outside.faults l.outside ≡ g.O.Outside.faults l.fn.outside;
@@ -25,7 +21,8 @@ invariant-pieces g l = record {
   room : l.reader.room ≡ 4096;
   counted : fed l.reader ≡ l.taken;
   within : l.taken ≤ input_limit;
-  faultless : IsFaultless l.self;
+  buffer : length l.buf ≡ 65536;
+  resting : IsResting l.self;
 }
 
 abbrev pub decreases-pieces : goal.decreases-pieces

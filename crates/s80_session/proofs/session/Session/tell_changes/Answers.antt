@@ -1,5 +1,5 @@
 use Rattle.std.specs.Prelude.{IfErr}
-use Rattle.std.proofs.Common.{◌≡◌, inl, ℕ, List, Result, Ok, Err, length, map as list_map, refl, ap, sym, subst, ◌∙◌, arith}
+use Rattle.std.proofs.Common.{◌≡◌, ℕ, List, None, Result, Ok, Err, length, map as list_map, refl, ap, sym, subst, ◌∙◌, arith}
 use Rattle.std.proofs.lemmas.Result.{err_from_is_err_and}
 use Rattle.s80_form.specs.declared.refusal.Refusal.{Refusal}
 use Rattle.s80_change.specs.declared.change.Change.{Change}
@@ -17,15 +17,15 @@ use Rattle.s80_model.specs.Replies.{Work}
 use Rattle.s80_model.specs.Texts.{changes_text}
 use Rattle.s80_session.specs.declared.end.SessionEnd.{SessionEnd}
 use Rattle.s80_session.specs.declared.session.Session.{Session}
-use Rattle.s80_session.specs.Ending.{EndsForReasonOrDamage, NoFewer}
+use Rattle.s80_session.specs.Ending.{EndsForReasonOrDamage, NoFewer, OnOkOrMemory}
 use Rattle.s80_session.specs.Files.{IsAsLeft}
 use Rattle.s80_session.specs.Run.{HasKept}
 use Rattle.s80_session.specs.Session.{was_of}
-use Rattle.s80_session.specs.Working.{IsAt, Replied, Unreplied}
+use Rattle.s80_session.specs.Working.{IsAt, QueryWorked, at_rest}
 use Rattle.s80_session.proofs.lemmas.Elsewhere.{left_as_before}
 use Rattle.s80_session.proofs.lemmas.Keeping.{keeps_knows}
-use Rattle.s80_session.proofs.lemmas.Lasting.{quiet_last}
-use Rattle.s80_session.proofs.Reading.{at_read, fault_unread, read_reason, unread_ends}
+use Rattle.s80_session.proofs.lemmas.Grounds.{quiet_last}
+use Rattle.s80_session.proofs.Reading.{at_read, fault_unread, read_reason, reading_calm, reading_log, reading_pending, unread_ends}
 use Rattle.s80_session.proofs.Stepping.{replied_told}
 use Rattle.s80_session.proofs.session.Session.tell_changes.Goals as goal
 use Rattle.s80_session.proofs.session.Session.tell_changes.Goals.{After-read_set}
@@ -44,7 +44,7 @@ module _ (g : _) (c : After-read_set g) (work : Work) (put : List ℕ) (at : IsA
   this = c.read_set.ensures.set at.keeps.holds.stands.told work.changes (keeps_knows (g.O.Outside.shown c.args.outside.now).tells (g.O.Outside.shown c.args.outside.now).files (g.O.Disk.may_leave c.args.outside.now) c.args.self.now.keeper work.changes at.keeps)
 
   run : LeavesOnly g.O.Disk.moment g.O.Disk.left_since c.args.outside.now c.read_set.new.outside (HasKept work.changes (length put))
-  run = quiet_last g.O.Disk.moment g.O.Disk.left_since (g.O.Disk.may_leave c.args.outside.now) (g.O.Outside.shown c.args.outside.now) c.args.self.now c.args.outside.now c.read_set.new.outside work put at c.read_set.ensures.any_moment
+  run = quiet_last g.O.Disk.moment g.O.Disk.left_since (g.O.Disk.may_leave c.args.outside.now) (g.O.Outside.shown c.args.outside.now) c.args.self.now c.args.outside.now c.read_set.new.outside work (at_rest work put) at c.read_set.ensures.any_moment
 
   -- where it was read, the session is where it was
   still : (found : List Change) → c.read_set.result ≡ Ok found → IsAt (g.O.Disk.may_leave c.read_set.new.outside) (g.O.Outside.shown c.read_set.new.outside) (record c.args.self.now { keeper = c.read_set.new.keeper }) work put
@@ -53,7 +53,7 @@ module _ (g : _) (c : After-read_set g) (work : Work) (put : List ℕ) (at : IsA
       at_read (g.O.Disk.may_leave c.args.outside.now) (g.O.Disk.may_leave c.read_set.new.outside) (g.O.Outside.shown c.args.outside.now) (g.O.Outside.shown c.read_set.new.outside) c.args.self.now (record c.args.self.now { keeper = c.read_set.new.keeper }) work put same refl c.read_set.ensures.images c.read_set.ensures.shown at
 
   -- and the reply tells it
-  is_told : (found : List Change) (reply : Reply) → c.read_set.result ≡ Ok found → reply ≡ Told (changes_text found) → Replied (Ok reply) (g.O.Disk.may_leave c.read_set.new.outside) (g.O.Outside.shown c.read_set.new.outside) (record c.args.self.now { keeper = c.read_set.new.keeper }) (was_of c.args.self.now) work put (Query Changes)
+  is_told : (found : List Change) (reply : Reply) → c.read_set.result ≡ Ok found → reply ≡ Told (changes_text found) → QueryWorked (Ok reply) (g.O.Disk.may_leave c.read_set.new.outside) (g.O.Outside.shown c.read_set.new.outside) (record c.args.self.now { keeper = c.read_set.new.keeper }) (was_of c.args.self.now) work put (Query Changes)
   is_told found reply is reply_is =
       let P : Result (List Change) KeepFault → Type 0 = λ r. IsThis wanted r in
       let text = reply_is ∙ ap (λ l. Told (changes_text l)) (subst P is this) in
@@ -77,7 +77,7 @@ pub returns-in_err-changes_text-in-Ok-clause-replied : goal.returns-in_err-chang
 returns-in_err-changes_text-in-Ok-clause-replied g c = λ work put at.
     let after = (goal.at.returns-in_err-changes_text-in-Ok-clause-replied g c).After-read_set in
     let p = err_from_is_err_and c.from_residual.result c.from_residual.ensures.1 in
-    rw (p.1, p.2) (inl (still g after work put at c.in-Ok.set c.in-Ok.is))
+    rw (p.1, p.2) (still g after work put at c.in-Ok.set c.in-Ok.is)
 
 -- no fault is answered
 pub returns-in_ok-refusal_at_fault-in-Err-clause-replied : goal.returns-in_ok-refusal_at_fault-in-Err-clause-replied
@@ -92,9 +92,9 @@ returns-in_err-refusal_at_fault-in-Err-clause-replied g c = λ work put at.
     let new = c.read_set.new.outside in
     let now : Session = record c.args.self.now { keeper = c.read_set.new.keeper } in
     let item : SessionItem = Query Changes in
-    let P : Result Refusal SessionEnd → Type 0 = λ r. IfErr r (λ end. Unreplied end (g.O.Disk.may_leave new) (g.O.Outside.shown new) now work put item) in
+    let P : Result Refusal SessionEnd → Type 0 = λ r. IfErr r (λ end. QueryWorked (Err end) (g.O.Disk.may_leave new) (g.O.Outside.shown new) now (was_of c.args.self.now) work put item) in
     let Q : Result (List Change) KeepFault → Type 0 = λ r. IsThis (wanted g after work put at) r in
-    let ends = subst P (sym c.in_err-refusal_at_fault-in-Err.ensures) (fault_unread (List Change) c.in-Err.fault (wanted g after work put at) (g.O.Disk.may_leave c.args.outside.now) (g.O.Disk.may_leave new) (g.O.Outside.shown c.args.outside.now) (g.O.Outside.shown new) c.args.self.now now work put item (subst Q c.in-Err.is (this g after work put at)) (c.read_set.ensures.after ∙ ap (λ r. after_reading r c.args.self.now.keeper) c.in-Err.is) refl c.read_set.ensures.images c.read_set.ensures.shown at) in
+    let ends = subst P (sym c.in_err-refusal_at_fault-in-Err.ensures) (fault_unread (List Change) c.in-Err.fault (wanted g after work put at) (was_of c.args.self.now) (g.O.Disk.may_leave c.args.outside.now) (g.O.Disk.may_leave new) (g.O.Outside.shown c.args.outside.now) (g.O.Outside.shown new) c.args.self.now now work put item (subst Q c.in-Err.is (this g after work put at)) (c.read_set.ensures.after ∙ ap (λ r. after_reading r c.args.self.now.keeper) c.in-Err.is) refl c.read_set.ensures.images c.read_set.ensures.shown at) in
     let p = err_from_is_err_and c.from_residual-in_err-refusal_at_fault-in-Err.result c.from_residual-in_err-refusal_at_fault-in-Err.ensures.1 in
     rw (p.1, p.2) ends
 
@@ -112,7 +112,7 @@ returns-in_err-refusal_at_fault-in-Err-clause-counts g c =
       disk = c.read_set.ensures.later;
     } in
     let P : Result Refusal SessionEnd → Type 0 = λ r. IfErr r (λ end. EndsForReasonOrDamage {T = Reply} old new (Err end)) in
-    let reason = subst P (sym c.in_err-refusal_at_fault-in-Err.ensures) (read_reason Reply (List Change) c.read_set.result c.args.self.now.keeper c.in-Err.fault old new c.in-Err.is counts c.read_set.ensures.cause c.read_set.ensures.faults_stay c.read_set.ensures.closed c.requires.faultless) in
+    let reason = subst P (sym c.in_err-refusal_at_fault-in-Err.ensures) (read_reason Reply (List Change) c.read_set.result c.args.self.now.keeper c.in-Err.fault old new c.in-Err.is counts c.read_set.ensures.cause c.read_set.ensures.faults_stay c.read_set.ensures.closed c.requires.resting.faultless) in
     let p = err_from_is_err_and c.from_residual-in_err-refusal_at_fault-in-Err.result c.from_residual-in_err-refusal_at_fault-in-Err.ensures.1 in
     rw (p.1, p.2) (record { later = later; reason = reason })
 
@@ -129,3 +129,23 @@ returns-in_err-refusal_at_fault-in-Err-clause-no_more g c = no_more g (goal.at.r
 
 pub returns-in_ok-refusal_at_fault-in-Err-clause-no_more : goal.returns-in_ok-refusal_at_fault-in-Err-clause-no_more
 returns-in_ok-refusal_at_fault-in-Err-clause-no_more g c = no_more g (goal.at.returns-in_ok-refusal_at_fault-in-Err-clause-no_more g c).After-read_set
+
+-- ---- what is left of the keeper
+
+pub returns-in_err-refusal_at_fault-in-Err-clause-pending : goal.returns-in_err-refusal_at_fault-in-Err-clause-pending
+returns-in_err-refusal_at_fault-in-Err-clause-pending g c = reading_pending (List Change) c.read_set.result c.args.self.now.keeper c.read_set.new.keeper c.read_set.ensures.after
+
+pub returns-in_err-refusal_at_fault-in-Err-clause-log : goal.returns-in_err-refusal_at_fault-in-Err-clause-log
+returns-in_err-refusal_at_fault-in-Err-clause-log g c = reading_log (List Change) c.read_set.result c.args.self.now.keeper c.read_set.new.keeper c.read_set.ensures.after
+
+pub returns-in_err-refusal_at_fault-in-Err-clause-faultless : goal.returns-in_err-refusal_at_fault-in-Err-clause-faultless
+returns-in_err-refusal_at_fault-in-Err-clause-faultless g c =
+    let p = err_from_is_err_and c.from_residual-in_err-refusal_at_fault-in-Err.result c.from_residual-in_err-refusal_at_fault-in-Err.ensures.1 in
+    let P : Result Refusal SessionEnd → Type 0 = λ r. IfErr r (λ end. OnOkOrMemory {T = Reply} (Err end) (c.read_set.new.keeper.fault ≡ None)) in
+    rw (p.1, p.2) (subst P (sym c.in_err-refusal_at_fault-in-Err.ensures) (reading_calm (List Change) Reply c.in-Err.fault c.args.self.now.keeper c.read_set.new.keeper (c.read_set.ensures.after ∙ ap (λ r. after_reading r c.args.self.now.keeper) c.in-Err.is) c.requires.resting.faultless))
+
+pub returns-clause-pending : goal.returns-clause-pending
+returns-clause-pending g c = reading_pending (List Change) c.read_set.result c.args.self.now.keeper c.read_set.new.keeper c.read_set.ensures.after
+
+pub returns-clause-log : goal.returns-clause-log
+returns-clause-log g c = reading_log (List Change) c.read_set.result c.args.self.now.keeper c.read_set.new.keeper c.read_set.ensures.after

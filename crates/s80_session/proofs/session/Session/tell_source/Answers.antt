@@ -1,5 +1,5 @@
 use Rattle.std.specs.Prelude.{IfErr}
-use Rattle.std.proofs.Common.{◌≡◌, inl, ℕ, List, Option, Some, None, Result, Ok, Err, length, refl, ap, sym, subst, ◌∙◌, arith}
+use Rattle.std.proofs.Common.{◌≡◌, ℕ, List, Option, Some, None, Result, Ok, Err, length, refl, ap, sym, subst, ◌∙◌, arith}
 use Rattle.std.proofs.lemmas.Result.{err_from_is_err_and}
 use Rattle.std.specs.FinMap as map
 use Rattle.s80_form.specs.declared.refusal.Refusal.{Refusal}
@@ -21,15 +21,15 @@ use Rattle.s80_apply.specs.List.{state_of}
 use Rattle.s80_apply.specs.System.{SystemState}
 use Rattle.s80_session.specs.declared.end.SessionEnd.{SessionEnd}
 use Rattle.s80_session.specs.declared.session.Session.{Session}
-use Rattle.s80_session.specs.Ending.{EndsForReasonOrDamage, NoFewer}
+use Rattle.s80_session.specs.Ending.{EndsForReasonOrDamage, NoFewer, OnOkOrMemory}
 use Rattle.s80_session.specs.Files.{IsAsLeft}
 use Rattle.s80_session.specs.Run.{HasKept}
 use Rattle.s80_session.specs.Session.{was_of}
-use Rattle.s80_session.specs.Working.{IsAt, Replied, Unreplied}
+use Rattle.s80_session.specs.Working.{IsAt, QueryWorked, at_rest}
 use Rattle.s80_session.proofs.lemmas.Elsewhere.{left_as_before}
 use Rattle.s80_session.proofs.lemmas.Keeping.{keeps_knows}
-use Rattle.s80_session.proofs.lemmas.Lasting.{nothing_happens, quiet_last}
-use Rattle.s80_session.proofs.Reading.{at_read, fault_unread, read_reason, unread_ends}
+use Rattle.s80_session.proofs.lemmas.Grounds.{nothing_happens, quiet_last}
+use Rattle.s80_session.proofs.Reading.{at_read, fault_unread, read_reason, reading_calm, reading_log, reading_pending, unread_ends}
 use Rattle.s80_session.proofs.Stepping.{replied_told}
 use Rattle.s80_session.proofs.Telling.{source_is_told}
 use Rattle.s80_session.proofs.session.Session.tell_source.Goals as goal
@@ -46,7 +46,7 @@ module _ (g : _) (c : After-read_source g) (work : Work) (put : List ℕ) (at : 
   this = c.read_source.ensures.source at.keeps.holds.stands.told work.changes (keeps_knows (g.O.Outside.shown c.args.outside.now).tells (g.O.Outside.shown c.args.outside.now).files (g.O.Disk.may_leave c.args.outside.now) c.args.self.now.keeper work.changes at.keeps) c.in-Some.name (subst (λ (s : SystemState). IsNumberOf s.table.names c.in-Some-find.number c.in-Some.name) c.system.ensures c.in-Some-find.ensures.named)
 
   run : LeavesOnly g.O.Disk.moment g.O.Disk.left_since c.args.outside.now c.read_source.new.outside (HasKept work.changes (length put))
-  run = quiet_last g.O.Disk.moment g.O.Disk.left_since (g.O.Disk.may_leave c.args.outside.now) (g.O.Outside.shown c.args.outside.now) c.args.self.now c.args.outside.now c.read_source.new.outside work put at c.read_source.ensures.any_moment
+  run = quiet_last g.O.Disk.moment g.O.Disk.left_since (g.O.Disk.may_leave c.args.outside.now) (g.O.Outside.shown c.args.outside.now) c.args.self.now c.args.outside.now c.read_source.new.outside work (at_rest work put) at c.read_source.ensures.any_moment
 
   -- where it was read, or isn't there, the session is where it was
   still : (found : Option (List ℕ)) → c.read_source.result ≡ Ok found → IsAt (g.O.Disk.may_leave c.read_source.new.outside) (g.O.Outside.shown c.read_source.new.outside) (record c.args.self.now { keeper = c.read_source.new.keeper }) work put
@@ -55,7 +55,7 @@ module _ (g : _) (c : After-read_source g) (work : Work) (put : List ℕ) (at : 
       at_read (g.O.Disk.may_leave c.args.outside.now) (g.O.Disk.may_leave c.read_source.new.outside) (g.O.Outside.shown c.args.outside.now) (g.O.Outside.shown c.read_source.new.outside) c.args.self.now (record c.args.self.now { keeper = c.read_source.new.keeper }) work put same refl c.read_source.ensures.images c.read_source.ensures.shown at
 
   -- the reply to a source that was read, or isn't there
-  is_told : (found : Option (List ℕ)) (reply : Reply) → c.read_source.result ≡ Ok found → reply ≡ source_told c.in-Some.name c.in-Some.side c.args.selector found → Replied (Ok reply) (g.O.Disk.may_leave c.read_source.new.outside) (g.O.Outside.shown c.read_source.new.outside) (record c.args.self.now { keeper = c.read_source.new.keeper }) (was_of c.args.self.now) work put (Query (Source c.args.spec c.args.selector))
+  is_told : (found : Option (List ℕ)) (reply : Reply) → c.read_source.result ≡ Ok found → reply ≡ source_told c.in-Some.name c.in-Some.side c.args.selector found → QueryWorked (Ok reply) (g.O.Disk.may_leave c.read_source.new.outside) (g.O.Outside.shown c.read_source.new.outside) (record c.args.self.now { keeper = c.read_source.new.keeper }) (was_of c.args.self.now) work put (Query (Source c.args.spec c.args.selector))
   is_told found reply is reply_is =
       let P : Result (Option (List ℕ)) KeepFault → Type 0 = λ r. IsThis (source_in (state_of work.changes) c.in-Some.name c.in-Some.side c.args.selector) r in
       let row = c.in-Some-find.ensures.there in
@@ -64,15 +64,15 @@ module _ (g : _) (c : After-read_source g) (work : Work) (put : List ℕ) (at : 
 
 pub returns-in_err-name-clause-any_moment : goal.returns-in_err-name-clause-any_moment
 returns-in_err-name-clause-any_moment g c = λ work put at.
-    nothing_happens g.O.Disk.moment g.O.Disk.left_since _ (g.O.Outside.shown c.args.outside.now) _ c.args.outside.now work put (λ told image left. let x = g.met.O.Disk.only_now c.args.outside.now told image left in (x.0, x.1 ∙ told_beside g.met.O.Outside.beside_is g.met.O.Outside.shown_is c.args.outside.now)) at
+    nothing_happens g.O.Disk.moment g.O.Disk.left_since _ (g.O.Outside.shown c.args.outside.now) _ c.args.outside.now work (at_rest work put) (λ told image left. let x = g.met.O.Disk.only_now c.args.outside.now told image left in (x.0, x.1 ∙ told_beside g.met.O.Outside.beside_is g.met.O.Outside.shown_is c.args.outside.now)) at
 
 pub returns-in_default-clause-any_moment : goal.returns-in_default-clause-any_moment
 returns-in_default-clause-any_moment g c = λ work put at.
-    nothing_happens g.O.Disk.moment g.O.Disk.left_since _ (g.O.Outside.shown c.args.outside.now) _ c.args.outside.now work put (λ told image left. let x = g.met.O.Disk.only_now c.args.outside.now told image left in (x.0, x.1 ∙ told_beside g.met.O.Outside.beside_is g.met.O.Outside.shown_is c.args.outside.now)) at
+    nothing_happens g.O.Disk.moment g.O.Disk.left_since _ (g.O.Outside.shown c.args.outside.now) _ c.args.outside.now work (at_rest work put) (λ told image left. let x = g.met.O.Disk.only_now c.args.outside.now told image left in (x.0, x.1 ∙ told_beside g.met.O.Outside.beside_is g.met.O.Outside.shown_is c.args.outside.now)) at
 
 pub returns-in_default-find-clause-any_moment : goal.returns-in_default-find-clause-any_moment
 returns-in_default-find-clause-any_moment g c = λ work put at.
-    nothing_happens g.O.Disk.moment g.O.Disk.left_since _ (g.O.Outside.shown c.args.outside.now) _ c.args.outside.now work put (λ told image left. let x = g.met.O.Disk.only_now c.args.outside.now told image left in (x.0, x.1 ∙ told_beside g.met.O.Outside.beside_is g.met.O.Outside.shown_is c.args.outside.now)) at
+    nothing_happens g.O.Disk.moment g.O.Disk.left_since _ (g.O.Outside.shown c.args.outside.now) _ c.args.outside.now work (at_rest work put) (λ told image left. let x = g.met.O.Disk.only_now c.args.outside.now told image left in (x.0, x.1 ∙ told_beside g.met.O.Outside.beside_is g.met.O.Outside.shown_is c.args.outside.now)) at
 
 pub returns-in_err-append-in-Ok-Some-clause-any_moment : goal.returns-in_err-append-in-Ok-Some-clause-any_moment
 returns-in_err-append-in-Ok-Some-clause-any_moment g c = run g (goal.at.returns-in_err-append-in-Ok-Some-clause-any_moment g c).After-read_source
@@ -95,7 +95,7 @@ pub returns-in_err-append-in-Ok-Some-clause-replied : goal.returns-in_err-append
 returns-in_err-append-in-Ok-Some-clause-replied g c = λ work put at.
     let after = (goal.at.returns-in_err-append-in-Ok-Some-clause-replied g c).After-read_source in
     let p = err_from_is_err_and c.from_residual-in_err-append-in-Ok-Some.result c.from_residual-in_err-append-in-Ok-Some.ensures.1 in
-    rw (p.1, p.2) (inl (still g after work put at (Some c.in-Ok-Some.source) (c.in-Ok-Some.is ∙ ap Ok c.in-Ok-Some.field-0-is)))
+    rw (p.1, p.2) (still g after work put at (Some c.in-Ok-Some.source) (c.in-Ok-Some.is ∙ ap Ok c.in-Ok-Some.field-0-is))
 
 pub returns-in-Ok-None-clause-replied : goal.returns-in-Ok-None-clause-replied
 returns-in-Ok-None-clause-replied g c = λ work put at.
@@ -115,9 +115,9 @@ returns-in_err-refusal_at_fault-in-Err-clause-replied g c = λ work put at.
     let new = c.read_source.new.outside in
     let now : Session = record c.args.self.now { keeper = c.read_source.new.keeper } in
     let item : SessionItem = Query (Source c.args.spec c.args.selector) in
-    let P : Result Refusal SessionEnd → Type 0 = λ r. IfErr r (λ end. Unreplied end (g.O.Disk.may_leave new) (g.O.Outside.shown new) now work put item) in
+    let P : Result Refusal SessionEnd → Type 0 = λ r. IfErr r (λ end. QueryWorked (Err end) (g.O.Disk.may_leave new) (g.O.Outside.shown new) now (was_of c.args.self.now) work put item) in
     let Q : Result (Option (List ℕ)) KeepFault → Type 0 = λ r. IsThis (source_in (state_of work.changes) c.in-Some.name c.in-Some.side c.args.selector) r in
-    let ends = subst P (sym c.in_err-refusal_at_fault-in-Err.ensures) (fault_unread (Option (List ℕ)) c.in-Err.fault (source_in (state_of work.changes) c.in-Some.name c.in-Some.side c.args.selector) (g.O.Disk.may_leave c.args.outside.now) (g.O.Disk.may_leave new) (g.O.Outside.shown c.args.outside.now) (g.O.Outside.shown new) c.args.self.now now work put item (subst Q c.in-Err.is (this g after work put at)) (c.read_source.ensures.after ∙ ap (λ r. after_reading r c.args.self.now.keeper) c.in-Err.is) refl c.read_source.ensures.images c.read_source.ensures.shown at) in
+    let ends = subst P (sym c.in_err-refusal_at_fault-in-Err.ensures) (fault_unread (Option (List ℕ)) c.in-Err.fault (source_in (state_of work.changes) c.in-Some.name c.in-Some.side c.args.selector) (was_of c.args.self.now) (g.O.Disk.may_leave c.args.outside.now) (g.O.Disk.may_leave new) (g.O.Outside.shown c.args.outside.now) (g.O.Outside.shown new) c.args.self.now now work put item (subst Q c.in-Err.is (this g after work put at)) (c.read_source.ensures.after ∙ ap (λ r. after_reading r c.args.self.now.keeper) c.in-Err.is) refl c.read_source.ensures.images c.read_source.ensures.shown at) in
     let p = err_from_is_err_and c.from_residual-in_err-refusal_at_fault-in-Err.result c.from_residual-in_err-refusal_at_fault-in-Err.ensures.1 in
     rw (p.1, p.2) ends
 
@@ -135,7 +135,7 @@ returns-in_err-refusal_at_fault-in-Err-clause-counts g c =
       disk = c.read_source.ensures.later;
     } in
     let P : Result Refusal SessionEnd → Type 0 = λ r. IfErr r (λ end. EndsForReasonOrDamage {T = Reply} old new (Err end)) in
-    let reason = subst P (sym c.in_err-refusal_at_fault-in-Err.ensures) (read_reason Reply (Option (List ℕ)) c.read_source.result c.args.self.now.keeper c.in-Err.fault old new c.in-Err.is counts c.read_source.ensures.cause c.read_source.ensures.faults_stay c.read_source.ensures.closed c.requires.faultless) in
+    let reason = subst P (sym c.in_err-refusal_at_fault-in-Err.ensures) (read_reason Reply (Option (List ℕ)) c.read_source.result c.args.self.now.keeper c.in-Err.fault old new c.in-Err.is counts c.read_source.ensures.cause c.read_source.ensures.faults_stay c.read_source.ensures.closed c.requires.resting.faultless) in
     let p = err_from_is_err_and c.from_residual-in_err-refusal_at_fault-in-Err.result c.from_residual-in_err-refusal_at_fault-in-Err.ensures.1 in
     rw (p.1, p.2) (record { later = later; reason = reason })
 
@@ -155,3 +155,23 @@ returns-in_err-refusal_at_fault-in-Err-clause-no_more g c = no_more g (goal.at.r
 
 pub returns-clause-no_more : goal.returns-clause-no_more
 returns-clause-no_more g c = no_more g (goal.at.returns-clause-no_more g c).After-read_source
+
+-- ---- what is left of the keeper
+
+pub returns-in_err-refusal_at_fault-in-Err-clause-pending : goal.returns-in_err-refusal_at_fault-in-Err-clause-pending
+returns-in_err-refusal_at_fault-in-Err-clause-pending g c = reading_pending (Option (List ℕ)) c.read_source.result c.args.self.now.keeper c.read_source.new.keeper c.read_source.ensures.after
+
+pub returns-in_err-refusal_at_fault-in-Err-clause-log : goal.returns-in_err-refusal_at_fault-in-Err-clause-log
+returns-in_err-refusal_at_fault-in-Err-clause-log g c = reading_log (Option (List ℕ)) c.read_source.result c.args.self.now.keeper c.read_source.new.keeper c.read_source.ensures.after
+
+pub returns-in_err-refusal_at_fault-in-Err-clause-faultless : goal.returns-in_err-refusal_at_fault-in-Err-clause-faultless
+returns-in_err-refusal_at_fault-in-Err-clause-faultless g c =
+    let p = err_from_is_err_and c.from_residual-in_err-refusal_at_fault-in-Err.result c.from_residual-in_err-refusal_at_fault-in-Err.ensures.1 in
+    let P : Result Refusal SessionEnd → Type 0 = λ r. IfErr r (λ end. OnOkOrMemory {T = Reply} (Err end) (c.read_source.new.keeper.fault ≡ None)) in
+    rw (p.1, p.2) (subst P (sym c.in_err-refusal_at_fault-in-Err.ensures) (reading_calm (Option (List ℕ)) Reply c.in-Err.fault c.args.self.now.keeper c.read_source.new.keeper (c.read_source.ensures.after ∙ ap (λ r. after_reading r c.args.self.now.keeper) c.in-Err.is) c.requires.resting.faultless))
+
+pub returns-clause-pending : goal.returns-clause-pending
+returns-clause-pending g c = reading_pending (Option (List ℕ)) c.read_source.result c.args.self.now.keeper c.read_source.new.keeper c.read_source.ensures.after
+
+pub returns-clause-log : goal.returns-clause-log
+returns-clause-log g c = reading_log (Option (List ℕ)) c.read_source.result c.args.self.now.keeper c.read_source.new.keeper c.read_source.ensures.after

@@ -1,0 +1,461 @@
+use Rattle.std.proofs.Common.{◌≡◌, ◌⊎◌, ◌++◌, inl, inr, ⊎_elim, ℕ, List, [], subst, sym, ap, ◌∙◌, refl, Ok, Err, Some, arith}
+use Rattle.std.specs.Prelude.{◌≢◌, IsTrue}
+use Rattle.std.proofs.lemmas.Result.{err_from_is_err_and}
+use Rattle.s80_chunk.specs.declared.item.Item.TheVariants as items
+use Rattle.s80_form.specs.declared.refusal.Refusal.TheVariants as refusals
+use Rattle.s80_disk.specs.declared.disk.FileId.{FileId}
+use Rattle.s80_disk.specs.declared.disk.FileId.TheVariants.{Mark}
+use Rattle.s80_disk.specs.Moments.{LeavesOnly}
+use Rattle.s80_disk.specs.Shown.{Shown}
+use Rattle.s80_disk.proofs.lemmas.Showing.{told_beside}
+use Rattle.s80_log.specs.Log.{LogEnd, log_file}
+use Rattle.s80_apply.specs.System.{SystemState}
+use Rattle.s80_model.specs.declared.item.SessionItem.{SessionItem}
+use Rattle.s80_model.specs.declared.item.SessionItem.TheVariants.{Chunk, Unended, Query}
+use Rattle.s80_model.specs.declared.reply.Answer.{Answer}
+use Rattle.s80_model.specs.declared.reply.Reply.{Reply}
+use Rattle.s80_model.specs.declared.reply.Reply.TheVariants.{Silent, Refused}
+use Rattle.s80_model.specs.declared.section.Section.TheVariants.{Top}
+use Rattle.s80_model.specs.Asked.{refuses, closes}
+use Rattle.s80_model.specs.Replies.{Work}
+use Rattle.s80_model.specs.Section.{section_or}
+use Rattle.s80_session.specs.Ending.{CountsFor}
+use Rattle.s80_session.specs.Files.{IsAsking, IsAsLeft, IsElsewhere, IsQuestion}
+use Rattle.s80_session.specs.Replies.{HasRoomFor}
+use Rattle.s80_session.specs.Session.{Was, held_of, keeper_of, room_of, was_of, IsResting, RunAfterWork}
+use Rattle.s80_session.specs.Working.{Ground, IsAmid, IsGrouped, IsReadable, Answers, Unreplied, WorkLeaves}
+use Rattle.s80_session.proofs.Breaking.{broke_on, calm_anyway, done_on, err_counts, flush_end_calm, flush_end_works, keep_end_works}
+use Rattle.s80_session.proofs.Flushing.{knows_committed}
+use Rattle.s80_session.proofs.Holding.{any_counts, any_room, staying_room, too_long_room}
+use Rattle.s80_session.proofs.lemmas.Elsewhere.{elsewhere_then, left_on, no_log}
+use Rattle.s80_session.proofs.lemmas.Grounds.{flush_works, flushed_works, nothing_happens, work_still}
+use Rattle.s80_session.proofs.Marking.{run_answered}
+use Rattle.s80_session.proofs.Stepping.{flush_err, queried_err, worked_plain, worked_method, worked_query, worked_head, worked_so, worked_too_long}
+use Rattle.s80_session.proofs.session.Session.answer_to.Goals as goal
+use Rattle.s80_session.proofs.session.Session.answer_to.Goals.{After-work_query}
+
+pub returns-in_err-head_answer-in-Chunk-Head-clause-any_moment : goal.returns-in_err-head_answer-in-Chunk-Head-clause-any_moment
+returns-in_err-head_answer-in-Chunk-Head-clause-any_moment g c = λ work ground readable at.
+    work_still g.O.Disk.moment g.O.Disk.left_since c.args.outside.now c.args.outside.now work ground c.args.item (nothing_happens g.O.Disk.moment g.O.Disk.left_since _ (g.O.Outside.shown c.args.outside.now) _ c.args.outside.now work ground (λ told image left. let x = g.met.O.Disk.only_now c.args.outside.now told image left in (x.0, x.1 ∙ told_beside g.met.O.Outside.beside_is g.met.O.Outside.shown_is c.args.outside.now)) at)
+
+-- a query, behind a flush: what the paths share
+module _ (g : _) (c : After-work_query g) (work : Work) (ground : Ground) (at : IsAmid (g.O.Disk.may_leave c.args.outside.now) (g.O.Outside.shown c.args.outside.now) c.args.self.now work ground) where
+  query_run : LeavesOnly g.O.Disk.moment g.O.Disk.left_since c.args.outside.now c.work_query.new.outside (WorkLeaves work ground c.args.item)
+  query_run =
+      let P : SessionItem → Type 0 = λ i. LeavesOnly g.O.Disk.moment g.O.Disk.left_since c.args.outside.now c.work_query.new.outside (WorkLeaves work ground i) in
+      subst P (sym c.in-Query.is) (flushed_works g.O.Disk.moment g.O.Disk.left_since c.args.outside.now c.flush.new.outside c.work_query.new.outside work ground (Query c.in-Query.query) (c.flush.ensures.any_moment work ground at) (c.work_query.ensures.any_moment work (ground.put ++ ground.held) (c.in_ok-flush-in-Query.ensures.flushed work ground at)))
+
+pub returns-in_err-work_query-in-Query-clause-any_moment : goal.returns-in_err-work_query-in-Query-clause-any_moment
+returns-in_err-work_query-in-Query-clause-any_moment g c = λ work ground readable at. query_run g (goal.at.returns-in_err-work_query-in-Query-clause-any_moment g c).After-work_query work ground at
+
+pub returns-in_err-work_query-in-Query-clause-answers : goal.returns-in_err-work_query-in-Query-clause-answers
+returns-in_err-work_query-in-Query-clause-answers g c = λ work ground readable at.
+    let p = err_from_is_err_and c.from_residual-in_err-work_query-in-Query.result c.from_residual-in_err-work_query-in-Query.ensures.1 in
+    let P : SessionItem → Type 0 = λ i. Unreplied c.in_err-work_query-in-Query.field-0.0 (g.O.Disk.may_leave c.work_query.new.outside) (g.O.Outside.shown c.work_query.new.outside) c.work_query.new.self work ground i in
+    rw (p.1, p.2) (subst P (sym c.in-Query.is) (queried_err c.in_err-work_query-in-Query.field-0.0 (g.O.Disk.may_leave c.work_query.new.outside) (g.O.Outside.shown c.work_query.new.outside) c.work_query.new.self (was_of c.flush.new.self) work ground (Query c.in-Query.query) (c.in_err-work_query-in-Query.ensures.replied work (ground.put ++ ground.held) (c.in_ok-flush-in-Query.ensures.flushed work ground at))))
+
+pub returns-in_err-flush-in-Query-clause-any_moment : goal.returns-in_err-flush-in-Query-clause-any_moment
+returns-in_err-flush-in-Query-clause-any_moment g c = λ work ground readable at.
+    flush_works g.O.Disk.moment g.O.Disk.left_since c.args.outside.now c.flush.new.outside work ground c.args.item (c.flush.ensures.any_moment work ground at)
+
+pub returns-in_err-flush-in-Query-clause-answers : goal.returns-in_err-flush-in-Query-clause-answers
+returns-in_err-flush-in-Query-clause-answers g c = λ work ground readable at.
+    let p = err_from_is_err_and c.from_residual-in_err-flush-in-Query.result c.from_residual-in_err-flush-in-Query.ensures.1 in
+    rw (p.1, p.2) (flush_err c.in_err-flush-in-Query.field-0.0 (g.O.Disk.may_leave c.flush.new.outside) (g.O.Outside.shown c.flush.new.outside) c.flush.new.self work ground c.args.item (c.in_err-flush-in-Query.ensures.flushed work ground at))
+
+pub returns-in_ok-keep_text-in-Chunk-Plain-clause-answers : goal.returns-in_ok-keep_text-in-Chunk-Plain-clause-answers
+returns-in_ok-keep_text-in-Chunk-Plain-clause-answers g c = λ work ground readable at.
+    let is = c.in-Chunk-Plain.is ∙ ap Chunk c.in-Chunk-Plain.field-0-is in
+    let sound = subst IsReadable is readable in
+    let P : SessionItem → Type 0 = λ i. Answers (Ok c.staying.result) (g.O.Disk.may_leave c.keep_text.new.outside) (g.O.Outside.shown c.keep_text.new.outside) c.keep_text.new.self (was_of c.args.self.now) work ground i in
+    subst P (sym is) (worked_plain (g.O.Disk.may_leave c.keep_text.new.outside) (g.O.Outside.shown c.keep_text.new.outside) _ (was_of c.args.self.now) work ground c.in-Chunk-Plain.text _ c.staying.result c.staying.ensures (c.in_ok-keep_text-in-Chunk-Plain.ensures.replied work ground sound.0 sound.1 at))
+
+pub returns-in_ok-keep_text-in-Chunk-Plain-clause-any_moment : goal.returns-in_ok-keep_text-in-Chunk-Plain-clause-any_moment
+returns-in_ok-keep_text-in-Chunk-Plain-clause-any_moment g c = λ work ground readable at.
+    let is = c.in-Chunk-Plain.is ∙ ap Chunk c.in-Chunk-Plain.field-0-is in
+    let sound = subst IsReadable is readable in
+    let P : SessionItem → Type 0 = λ i. LeavesOnly g.O.Disk.moment g.O.Disk.left_since c.args.outside.now c.keep_text.new.outside (WorkLeaves work ground i) in
+    subst P (sym is) (c.keep_text.ensures.any_moment work ground sound.0 sound.1 at)
+
+pub returns-in_ok-head_answer-in-Chunk-Head-clause-answers : goal.returns-in_ok-head_answer-in-Chunk-Head-clause-answers
+returns-in_ok-head_answer-in-Chunk-Head-clause-answers g c = λ work ground readable at.
+    let is = c.in-Chunk-Head.is ∙ ap Chunk c.in-Chunk-Head.field-0-is in
+    let classes = ap (λ (s : SystemState). s.table.classes) c.system.ensures ∙ at.keeps.system.classes in
+    let P : SessionItem → Type 0 = λ i. Answers (Ok c.in_ok-head_answer-in-Chunk-Head.field-0) (g.O.Disk.may_leave c.args.outside.now) (g.O.Outside.shown c.args.outside.now) c.args.self.now (was_of c.args.self.now) work ground i in
+    subst P (sym is) (worked_head (g.O.Disk.may_leave c.args.outside.now) (g.O.Outside.shown c.args.outside.now) _ (was_of c.args.self.now) work ground c.in-Chunk-Head.text c.in_ok-head_answer-in-Chunk-Head.field-0 refl (c.in_ok-head_answer-in-Chunk-Head.ensures.answer work classes (subst IsReadable is readable).1) at)
+
+pub returns-in_ok-head_answer-in-Chunk-Head-clause-any_moment : goal.returns-in_ok-head_answer-in-Chunk-Head-clause-any_moment
+returns-in_ok-head_answer-in-Chunk-Head-clause-any_moment g c = λ work ground readable at.
+    work_still g.O.Disk.moment g.O.Disk.left_since c.args.outside.now c.args.outside.now work ground c.args.item (nothing_happens g.O.Disk.moment g.O.Disk.left_since _ (g.O.Outside.shown c.args.outside.now) _ c.args.outside.now work ground (λ told image left. let x = g.met.O.Disk.only_now c.args.outside.now told image left in (x.0, x.1 ∙ told_beside g.met.O.Outside.beside_is g.met.O.Outside.shown_is c.args.outside.now)) at)
+
+pub returns-in_ok-keep_method-in-Chunk-Method-clause-answers : goal.returns-in_ok-keep_method-in-Chunk-Method-clause-answers
+returns-in_ok-keep_method-in-Chunk-Method-clause-answers g c = λ work ground readable at.
+    let is = c.in-Chunk-Method.is ∙ ap Chunk c.in-Chunk-Method.field-0-is in
+    let sound = subst IsReadable is readable in
+    let P : SessionItem → Type 0 = λ i. Answers (Ok c.staying-in-Chunk-Method.result) (g.O.Disk.may_leave c.keep_method.new.outside) (g.O.Outside.shown c.keep_method.new.outside) c.keep_method.new.self (was_of c.args.self.now) work ground i in
+    subst P (sym is) (worked_method (g.O.Disk.may_leave c.keep_method.new.outside) (g.O.Outside.shown c.keep_method.new.outside) _ (was_of c.args.self.now) work ground c.in-Chunk-Method.text _ c.staying-in-Chunk-Method.result c.staying-in-Chunk-Method.ensures (c.in_ok-keep_method-in-Chunk-Method.ensures.replied work ground sound.0 sound.1 at))
+
+pub returns-in_ok-keep_method-in-Chunk-Method-clause-any_moment : goal.returns-in_ok-keep_method-in-Chunk-Method-clause-any_moment
+returns-in_ok-keep_method-in-Chunk-Method-clause-any_moment g c = λ work ground readable at.
+    let is = c.in-Chunk-Method.is ∙ ap Chunk c.in-Chunk-Method.field-0-is in
+    let sound = subst IsReadable is readable in
+    let P : SessionItem → Type 0 = λ i. LeavesOnly g.O.Disk.moment g.O.Disk.left_since c.args.outside.now c.keep_method.new.outside (WorkLeaves work ground i) in
+    subst P (sym is) (work_still g.O.Disk.moment g.O.Disk.left_since c.args.outside.now c.keep_method.new.outside work ground (Chunk (items.Method c.in-Chunk-Method.text)) (c.keep_method.ensures.any_moment work ground sound.0 sound.1 at))
+
+pub returns-in-Chunk-SectionEnd-clause-answers : goal.returns-in-Chunk-SectionEnd-clause-answers
+returns-in-Chunk-SectionEnd-clause-answers g c = λ work ground readable at.
+    let is = c.in-Chunk-SectionEnd.is ∙ ap Chunk c.in-Chunk-SectionEnd.field-0-is in
+    let P : SessionItem → Type 0 = λ i. Answers (Ok (record { reply = Silent; section = Some Top })) (g.O.Disk.may_leave c.args.outside.now) (g.O.Outside.shown c.args.outside.now) c.args.self.now (was_of c.args.self.now) work ground i in
+    subst P (sym is) (worked_so (g.O.Disk.may_leave c.args.outside.now) (g.O.Outside.shown c.args.outside.now) _ (was_of c.args.self.now) work ground (Chunk items.SectionEnd) closes (record { reply = Silent; section = Some Top }) (refl, tt) (refl, refl) refl refl at)
+
+pub returns-in-Chunk-SectionEnd-clause-any_moment : goal.returns-in-Chunk-SectionEnd-clause-any_moment
+returns-in-Chunk-SectionEnd-clause-any_moment g c = λ work ground readable at.
+    work_still g.O.Disk.moment g.O.Disk.left_since c.args.outside.now c.args.outside.now work ground c.args.item (nothing_happens g.O.Disk.moment g.O.Disk.left_since _ (g.O.Outside.shown c.args.outside.now) _ c.args.outside.now work ground (λ told image left. let x = g.met.O.Disk.only_now c.args.outside.now told image left in (x.0, x.1 ∙ told_beside g.met.O.Outside.beside_is g.met.O.Outside.shown_is c.args.outside.now)) at)
+
+pub returns-in-Chunk-TooLong-clause-answers : goal.returns-in-Chunk-TooLong-clause-answers
+returns-in-Chunk-TooLong-clause-answers g c = λ work ground readable at.
+    let is = c.in-Chunk-TooLong.is ∙ ap Chunk c.in-Chunk-TooLong.field-0-is in
+    let P : SessionItem → Type 0 = λ i. Answers (Ok c.too_long_answer.result) (g.O.Disk.may_leave c.args.outside.now) (g.O.Outside.shown c.args.outside.now) c.args.self.now (was_of c.args.self.now) work ground i in
+    subst P (sym is) (worked_too_long (g.O.Disk.may_leave c.args.outside.now) (g.O.Outside.shown c.args.outside.now) _ (was_of c.args.self.now) work ground c.in-Chunk-TooLong.role c.in-Chunk-TooLong.length c.too_long_answer.result refl (c.too_long_answer.ensures work (sym at.section)) at)
+
+pub returns-in-Chunk-TooLong-clause-any_moment : goal.returns-in-Chunk-TooLong-clause-any_moment
+returns-in-Chunk-TooLong-clause-any_moment g c = λ work ground readable at.
+    work_still g.O.Disk.moment g.O.Disk.left_since c.args.outside.now c.args.outside.now work ground c.args.item (nothing_happens g.O.Disk.moment g.O.Disk.left_since _ (g.O.Outside.shown c.args.outside.now) _ c.args.outside.now work ground (λ told image left. let x = g.met.O.Disk.only_now c.args.outside.now told image left in (x.0, x.1 ∙ told_beside g.met.O.Outside.beside_is g.met.O.Outside.shown_is c.args.outside.now)) at)
+
+pub returns-in-Unended-clause-answers : goal.returns-in-Unended-clause-answers
+returns-in-Unended-clause-answers g c = λ work ground readable at.
+    let is = c.staying-in-Unended.ensures in
+    let P : SessionItem → Type 0 = λ i. Answers (Ok c.staying-in-Unended.result) (g.O.Disk.may_leave c.args.outside.now) (g.O.Outside.shown c.args.outside.now) c.args.self.now (was_of c.args.self.now) work ground i in
+    subst P (sym c.in-Unended.is) (worked_so (g.O.Disk.may_leave c.args.outside.now) (g.O.Outside.shown c.args.outside.now) _ (was_of c.args.self.now) work ground Unended (refuses refusals.Unended) c.staying-in-Unended.result (refl, tt) (ap (λ (a : Answer). a.reply) is, ap (λ (a : Answer). section_or a.section work.section) is) refl refl at)
+
+pub returns-in-Unended-clause-any_moment : goal.returns-in-Unended-clause-any_moment
+returns-in-Unended-clause-any_moment g c = λ work ground readable at.
+    work_still g.O.Disk.moment g.O.Disk.left_since c.args.outside.now c.args.outside.now work ground c.args.item (nothing_happens g.O.Disk.moment g.O.Disk.left_since _ (g.O.Outside.shown c.args.outside.now) _ c.args.outside.now work ground (λ told image left. let x = g.met.O.Disk.only_now c.args.outside.now told image left in (x.0, x.1 ∙ told_beside g.met.O.Outside.beside_is g.met.O.Outside.shown_is c.args.outside.now)) at)
+
+pub returns-in_ok-work_query-in-Query-clause-answers : goal.returns-in_ok-work_query-in-Query-clause-answers
+returns-in_ok-work_query-in-Query-clause-answers g c = λ work ground readable at.
+    let P : SessionItem → Type 0 = λ i. Answers (Ok c.staying-in-Query.result) (g.O.Disk.may_leave c.work_query.new.outside) (g.O.Outside.shown c.work_query.new.outside) c.work_query.new.self (was_of c.args.self.now) work ground i in
+    let Q : Was → Type 0 = λ w. Answers (Ok c.staying-in-Query.result) (g.O.Disk.may_leave c.work_query.new.outside) (g.O.Outside.shown c.work_query.new.outside) c.work_query.new.self w work ground (Query c.in-Query.query) in
+    let same : was_of c.flush.new.self ≡ was_of c.args.self.now = λ i. record { troubled = c.flush.ensures.rest.troubled i; last_run = c.flush.ensures.rest.last_run i } in
+    subst P (sym c.in-Query.is) (subst Q same (worked_query (g.O.Disk.may_leave c.work_query.new.outside) (g.O.Outside.shown c.work_query.new.outside) _ (was_of c.flush.new.self) work ground c.in-Query.query _ c.staying-in-Query.result c.staying-in-Query.ensures (c.in_ok-work_query-in-Query.ensures.replied work (ground.put ++ ground.held) (c.in_ok-flush-in-Query.ensures.flushed work ground at))))
+
+pub returns-in_ok-work_query-in-Query-clause-any_moment : goal.returns-in_ok-work_query-in-Query-clause-any_moment
+returns-in_ok-work_query-in-Query-clause-any_moment g c = λ work ground readable at. query_run g (goal.at.returns-in_ok-work_query-in-Query-clause-any_moment g c).After-work_query work ground at
+
+pub returns-in_ok-keep_text-in-Chunk-Plain-clause-last_run : goal.returns-in_ok-keep_text-in-Chunk-Plain-clause-last_run
+returns-in_ok-keep_text-in-Chunk-Plain-clause-last_run g c =
+    let P : SessionItem → Type 0 = λ i. RunAfterWork (Ok c.staying.result) i c.args.self.now c.keep_text.new.self in
+    subst P (sym (c.in-Chunk-Plain.is ∙ ap Chunk c.in-Chunk-Plain.field-0-is)) (run_answered (Chunk (items.Plain c.in-Chunk-Plain.text)) c.args.self.now c.keep_text.new.self _ c.staying.result c.staying.ensures c.in_ok-keep_text-in-Chunk-Plain.ensures.last_run)
+
+pub returns-in_err-keep_text-in-Chunk-Plain-clause-last_run : goal.returns-in_err-keep_text-in-Chunk-Plain-clause-last_run
+returns-in_err-keep_text-in-Chunk-Plain-clause-last_run g c =
+    let p = err_from_is_err_and c.from_residual.result c.from_residual.ensures.1 in
+    rw p.1 c.in_err-keep_text-in-Chunk-Plain.ensures.last_run
+
+pub returns-in_ok-head_answer-in-Chunk-Head-clause-last_run : goal.returns-in_ok-head_answer-in-Chunk-Head-clause-last_run
+returns-in_ok-head_answer-in-Chunk-Head-clause-last_run g c = inl refl
+
+pub returns-in_err-head_answer-in-Chunk-Head-clause-last_run : goal.returns-in_err-head_answer-in-Chunk-Head-clause-last_run
+returns-in_err-head_answer-in-Chunk-Head-clause-last_run g c =
+    let p = err_from_is_err_and c.from_residual-in_err-head_answer-in-Chunk-Head.result c.from_residual-in_err-head_answer-in-Chunk-Head.ensures.1 in
+    rw p.1 refl
+
+pub returns-in_ok-keep_method-in-Chunk-Method-clause-last_run : goal.returns-in_ok-keep_method-in-Chunk-Method-clause-last_run
+returns-in_ok-keep_method-in-Chunk-Method-clause-last_run g c = inl c.keep_method.ensures.last_run
+
+pub returns-in_err-keep_method-in-Chunk-Method-clause-last_run : goal.returns-in_err-keep_method-in-Chunk-Method-clause-last_run
+returns-in_err-keep_method-in-Chunk-Method-clause-last_run g c =
+    let p = err_from_is_err_and c.from_residual-in_err-keep_method-in-Chunk-Method.result c.from_residual-in_err-keep_method-in-Chunk-Method.ensures.1 in
+    rw p.1 c.keep_method.ensures.last_run
+
+pub returns-in-Chunk-SectionEnd-clause-last_run : goal.returns-in-Chunk-SectionEnd-clause-last_run
+returns-in-Chunk-SectionEnd-clause-last_run g c = inl refl
+
+pub returns-in-Chunk-TooLong-clause-last_run : goal.returns-in-Chunk-TooLong-clause-last_run
+returns-in-Chunk-TooLong-clause-last_run g c = inl refl
+
+pub returns-in-Unended-clause-last_run : goal.returns-in-Unended-clause-last_run
+returns-in-Unended-clause-last_run g c = inl refl
+
+pub returns-in_ok-work_query-in-Query-clause-last_run : goal.returns-in_ok-work_query-in-Query-clause-last_run
+returns-in_ok-work_query-in-Query-clause-last_run g c = inl (c.work_query.ensures.last_run ∙ c.flush.ensures.rest.last_run)
+
+pub returns-in_err-work_query-in-Query-clause-last_run : goal.returns-in_err-work_query-in-Query-clause-last_run
+returns-in_err-work_query-in-Query-clause-last_run g c =
+    let p = err_from_is_err_and c.from_residual-in_err-work_query-in-Query.result c.from_residual-in_err-work_query-in-Query.ensures.1 in
+    rw p.1 (c.work_query.ensures.last_run ∙ c.flush.ensures.rest.last_run)
+
+-- ---- room for the reply
+
+pub returns-in_ok-keep_text-in-Chunk-Plain-clause-room : goal.returns-in_ok-keep_text-in-Chunk-Plain-clause-room
+returns-in_ok-keep_text-in-Chunk-Plain-clause-room g c = λ enough. staying_room c.args.item _ c.staying.result _ c.staying.ensures (c.in_ok-keep_text-in-Chunk-Plain.ensures.room enough)
+
+pub returns-in_ok-head_answer-in-Chunk-Head-clause-room : goal.returns-in_ok-head_answer-in-Chunk-Head-clause-room
+returns-in_ok-head_answer-in-Chunk-Head-clause-room g c = λ enough.
+    let P : SessionItem → Type 0 = λ i. HasRoomFor i c.in_ok-head_answer-in-Chunk-Head.field-0.reply (room_of c.args.self.now) in
+    subst P (sym (c.in-Chunk-Head.is ∙ ap Chunk c.in-Chunk-Head.field-0-is)) tt
+
+pub returns-in_ok-keep_method-in-Chunk-Method-clause-room : goal.returns-in_ok-keep_method-in-Chunk-Method-clause-room
+returns-in_ok-keep_method-in-Chunk-Method-clause-room g c = λ enough. staying_room c.args.item _ c.staying-in-Chunk-Method.result _ c.staying-in-Chunk-Method.ensures (c.in_ok-keep_method-in-Chunk-Method.ensures.room enough)
+
+pub returns-in-Chunk-SectionEnd-clause-room : goal.returns-in-Chunk-SectionEnd-clause-room
+returns-in-Chunk-SectionEnd-clause-room g c = λ enough. any_room c.args.item Silent _ tt
+
+pub returns-in-Chunk-TooLong-clause-room : goal.returns-in-Chunk-TooLong-clause-room
+returns-in-Chunk-TooLong-clause-room g c = λ enough. any_room c.args.item _ _ (too_long_room _ c.in-Chunk-TooLong.role c.in-Chunk-TooLong.length c.too_long_answer.result _ c.too_long_answer.ensures)
+
+pub returns-in-Unended-clause-room : goal.returns-in-Unended-clause-room
+returns-in-Unended-clause-room g c = λ enough. staying_room c.args.item (Refused refusals.Unended) c.staying-in-Unended.result _ c.staying-in-Unended.ensures tt
+
+pub returns-in_ok-work_query-in-Query-clause-room : goal.returns-in_ok-work_query-in-Query-clause-room
+returns-in_ok-work_query-in-Query-clause-room g c = λ enough.
+    let flushed = c.flush.ensures.room in
+    staying_room c.args.item _ c.staying-in-Query.result _ c.staying-in-Query.ensures (c.in_ok-work_query-in-Query.ensures.room (omega (arith, enough, flushed)))
+
+-- ---- a query, behind a flush: what else it leaves
+
+-- the paths behind the flush
+module _ (g : _) (c : After-work_query g) where
+  -- the log stays
+  same_log : (keeper_of c.flush.new.self).log.number ≡ (keeper_of c.args.self.now).log.number
+  same_log = ap (λ (l : LogEnd). l.number) c.flush.ensures.log
+
+  query_others : (other : FileId) → other ≢ Mark → other ≢ log_file (keeper_of c.args.self.now).log.number → (g.O.Outside.shown c.work_query.new.outside).files other ≡ (g.O.Outside.shown c.args.outside.now).files other
+  query_others other no_mark no_log =
+      let P : ℕ → Type 0 = λ n. other ≢ log_file n in
+      c.work_query.ensures.others other no_mark (subst P (sym same_log) no_log) ∙ c.flush.ensures.others other no_mark
+
+  query_elsewhere : LeavesOnly g.O.Disk.moment g.O.Disk.left_since c.args.outside.now c.work_query.new.outside (IsElsewhere (g.O.Disk.may_leave c.args.outside.now) (log_file (keeper_of c.args.self.now).log.number))
+  query_elsewhere =
+      let D = g.O.Disk in
+      let mid = c.flush.new.outside in
+      let P : ℕ → Type 0 = λ n. LeavesOnly D.moment D.left_since mid c.work_query.new.outside (IsElsewhere (D.may_leave mid) (log_file n)) in
+      elsewhere_then D.moment D.left_since c.args.outside.now mid c.work_query.new.outside (D.may_leave c.args.outside.now) (D.may_leave mid) (D.beside mid).told (log_file (keeper_of c.args.self.now).log.number) (g.met.O.Disk.counts_now mid) c.flush.ensures.elsewhere (subst P same_log c.work_query.ensures.elsewhere)
+
+  question : IsAsking c.args.item → IsQuestion c.in-Query.query
+  question asking = subst IsAsking c.in-Query.is asking
+
+  query_asked : IsAsking c.args.item → IsResting c.args.self.now → (file : FileId) → (g.O.Outside.shown c.work_query.new.outside).files file ≡ (g.O.Outside.shown c.args.outside.now).files file
+  query_asked asking resting file = c.work_query.ensures.asked (question asking) file ∙ c.flush.ensures.unpending resting.settled file
+
+  query_images : IsAsking c.args.item → IsResting c.args.self.now → (image : FileId → List ℕ) → g.O.Disk.may_leave c.work_query.new.outside image → g.O.Disk.may_leave c.args.outside.now image
+  query_images asking resting image left = c.flush.ensures.images resting.settled image (c.work_query.ensures.images (question asking) image left)
+
+  query_no_more : IsAsking c.args.item → IsResting c.args.self.now → LeavesOnly g.O.Disk.moment g.O.Disk.left_since c.args.outside.now c.work_query.new.outside (IsAsLeft (g.O.Disk.may_leave c.args.outside.now))
+  query_no_more asking resting =
+      let D = g.O.Disk in
+      left_on D.moment D.left_since c.args.outside.now c.flush.new.outside c.work_query.new.outside (D.may_leave c.args.outside.now) (D.may_leave c.flush.new.outside) (c.flush.ensures.images resting.settled) (c.flush.ensures.no_more resting.settled) (c.work_query.ensures.no_more (question asking))
+
+  query_unput : IsResting c.args.self.now → (g.O.Outside.shown c.work_query.new.outside).taken ≡ (g.O.Outside.shown c.args.outside.now).taken
+  query_unput resting = c.work_query.ensures.taken ∙ ap (λ o. (g.O.Outside.shown o).taken) (c.flush.ensures.idle resting).0
+
+  query_held : (held_of c.work_query.new.self ≡ held_of c.args.self.now) ⊎ (held_of c.work_query.new.self ≡ [])
+  query_held = ⊎_elim (λ same. inl (c.work_query.ensures.held ∙ same)) (λ none. inr (c.work_query.ensures.held ∙ none)) c.flush.ensures.held
+
+pub returns-in_ok-work_query-in-Query-clause-others : goal.returns-in_ok-work_query-in-Query-clause-others
+returns-in_ok-work_query-in-Query-clause-others g c = query_others g (goal.at.returns-in_ok-work_query-in-Query-clause-others g c).After-work_query
+
+pub returns-in_ok-work_query-in-Query-clause-elsewhere : goal.returns-in_ok-work_query-in-Query-clause-elsewhere
+returns-in_ok-work_query-in-Query-clause-elsewhere g c = query_elsewhere g (goal.at.returns-in_ok-work_query-in-Query-clause-elsewhere g c).After-work_query
+
+pub returns-in_ok-work_query-in-Query-clause-asked : goal.returns-in_ok-work_query-in-Query-clause-asked
+returns-in_ok-work_query-in-Query-clause-asked g c = query_asked g (goal.at.returns-in_ok-work_query-in-Query-clause-asked g c).After-work_query
+
+pub returns-in_ok-work_query-in-Query-clause-images : goal.returns-in_ok-work_query-in-Query-clause-images
+returns-in_ok-work_query-in-Query-clause-images g c = query_images g (goal.at.returns-in_ok-work_query-in-Query-clause-images g c).After-work_query
+
+pub returns-in_ok-work_query-in-Query-clause-no_more : goal.returns-in_ok-work_query-in-Query-clause-no_more
+returns-in_ok-work_query-in-Query-clause-no_more g c = query_no_more g (goal.at.returns-in_ok-work_query-in-Query-clause-no_more g c).After-work_query
+
+pub returns-in_ok-work_query-in-Query-clause-unput : goal.returns-in_ok-work_query-in-Query-clause-unput
+returns-in_ok-work_query-in-Query-clause-unput g c = query_unput g (goal.at.returns-in_ok-work_query-in-Query-clause-unput g c).After-work_query
+
+pub returns-in_ok-work_query-in-Query-clause-held : goal.returns-in_ok-work_query-in-Query-clause-held
+returns-in_ok-work_query-in-Query-clause-held g c = query_held g (goal.at.returns-in_ok-work_query-in-Query-clause-held g c).After-work_query
+
+pub returns-in_ok-work_query-in-Query-clause-log : goal.returns-in_ok-work_query-in-Query-clause-log
+returns-in_ok-work_query-in-Query-clause-log g c = c.work_query.ensures.log ∙ same_log g (goal.at.returns-in_ok-work_query-in-Query-clause-log g c).After-work_query
+
+pub returns-in_err-work_query-in-Query-clause-others : goal.returns-in_err-work_query-in-Query-clause-others
+returns-in_err-work_query-in-Query-clause-others g c = query_others g (goal.at.returns-in_err-work_query-in-Query-clause-others g c).After-work_query
+
+pub returns-in_err-work_query-in-Query-clause-elsewhere : goal.returns-in_err-work_query-in-Query-clause-elsewhere
+returns-in_err-work_query-in-Query-clause-elsewhere g c = query_elsewhere g (goal.at.returns-in_err-work_query-in-Query-clause-elsewhere g c).After-work_query
+
+pub returns-in_err-work_query-in-Query-clause-asked : goal.returns-in_err-work_query-in-Query-clause-asked
+returns-in_err-work_query-in-Query-clause-asked g c = query_asked g (goal.at.returns-in_err-work_query-in-Query-clause-asked g c).After-work_query
+
+pub returns-in_err-work_query-in-Query-clause-images : goal.returns-in_err-work_query-in-Query-clause-images
+returns-in_err-work_query-in-Query-clause-images g c = query_images g (goal.at.returns-in_err-work_query-in-Query-clause-images g c).After-work_query
+
+pub returns-in_err-work_query-in-Query-clause-no_more : goal.returns-in_err-work_query-in-Query-clause-no_more
+returns-in_err-work_query-in-Query-clause-no_more g c = query_no_more g (goal.at.returns-in_err-work_query-in-Query-clause-no_more g c).After-work_query
+
+pub returns-in_err-work_query-in-Query-clause-unput : goal.returns-in_err-work_query-in-Query-clause-unput
+returns-in_err-work_query-in-Query-clause-unput g c = query_unput g (goal.at.returns-in_err-work_query-in-Query-clause-unput g c).After-work_query
+
+pub returns-in_err-work_query-in-Query-clause-held : goal.returns-in_err-work_query-in-Query-clause-held
+returns-in_err-work_query-in-Query-clause-held g c = query_held g (goal.at.returns-in_err-work_query-in-Query-clause-held g c).After-work_query
+
+pub returns-in_err-work_query-in-Query-clause-log : goal.returns-in_err-work_query-in-Query-clause-log
+returns-in_err-work_query-in-Query-clause-log g c = c.work_query.ensures.log ∙ same_log g (goal.at.returns-in_err-work_query-in-Query-clause-log g c).After-work_query
+
+pub returns-in_ok-work_query-in-Query-clause-settled : goal.returns-in_ok-work_query-in-Query-clause-settled
+returns-in_ok-work_query-in-Query-clause-settled g c = λ asking resting. c.work_query.ensures.settled (question g (goal.at.returns-in_ok-work_query-in-Query-clause-settled g c).After-work_query asking)
+
+pub returns-in_err-work_query-in-Query-clause-settled : goal.returns-in_err-work_query-in-Query-clause-settled
+returns-in_err-work_query-in-Query-clause-settled g c = λ asking resting.
+    let p = err_from_is_err_and c.from_residual-in_err-work_query-in-Query.result c.from_residual-in_err-work_query-in-Query.ensures.1 in
+    rw (p.1, p.2) (calm_anyway Answer _ c.in_err-work_query-in-Query.field-0.0 (c.work_query.ensures.settled (question g (goal.at.returns-in_err-work_query-in-Query-clause-settled g c).After-work_query asking)))
+
+pub returns-in_err-flush-in-Query-clause-settled : goal.returns-in_err-flush-in-Query-clause-settled
+returns-in_err-flush-in-Query-clause-settled g c = λ asking resting.
+    let p = err_from_is_err_and c.from_residual-in_err-flush-in-Query.result c.from_residual-in_err-flush-in-Query.ensures.1 in
+    rw (p.1, p.2) (flush_end_calm Answer _ c.in_err-flush-in-Query.field-0.0 c.in_err-flush-in-Query.ensures.ends)
+
+pub returns-in_err-work_query-in-Query-clause-sound : goal.returns-in_err-work_query-in-Query-clause-sound
+returns-in_err-work_query-in-Query-clause-sound g c = λ tells changes knows.
+    let p = err_from_is_err_and c.from_residual-in_err-work_query-in-Query.result c.from_residual-in_err-work_query-in-Query.ensures.1 in
+    let known = knows_committed (g.O.Outside.shown c.args.outside.now).files (g.O.Outside.shown c.flush.new.outside).files (keeper_of c.args.self.now) (keeper_of c.flush.new.self) changes c.in_ok-flush-in-Query.ensures.one_mark c.flush.ensures.others knows in
+    rw (p.1, p.2) (c.in_err-work_query-in-Query.ensures.sound (subst IsTrue (sym (ap (λ (o : Shown). o.tells) c.flush.ensures.shown)) tells) changes known)
+
+-- the counts of faults
+pub returns-in_ok-work_query-in-Query-clause-counts : goal.returns-in_ok-work_query-in-Query-clause-counts
+returns-in_ok-work_query-in-Query-clause-counts g c =
+    subst (λ i. CountsFor {T = Answer} i (g.O.Outside.faults c.args.outside.now) (g.O.Outside.faults c.work_query.new.outside) (Ok c.staying-in-Query.result)) (sym c.in-Query.is) (done_on {T = Reply} {U = Answer} (Query c.in-Query.query) (g.O.Outside.faults c.args.outside.now) (g.O.Outside.faults c.flush.new.outside) (g.O.Outside.faults c.work_query.new.outside) _ c.staying-in-Query.result c.in_ok-flush-in-Query.ensures.counts.reason c.in_ok-work_query-in-Query.ensures.counts)
+
+pub returns-in_err-work_query-in-Query-clause-counts : goal.returns-in_err-work_query-in-Query-clause-counts
+returns-in_err-work_query-in-Query-clause-counts g c =
+    let p = err_from_is_err_and c.from_residual-in_err-work_query-in-Query.result c.from_residual-in_err-work_query-in-Query.ensures.1 in
+    rw (p.1, p.2) (subst (λ i. CountsFor {T = Answer} i (g.O.Outside.faults c.args.outside.now) (g.O.Outside.faults c.work_query.new.outside) (Err c.in_err-work_query-in-Query.field-0.0)) (sym c.in-Query.is) (broke_on Reply Answer (Query c.in-Query.query) (g.O.Outside.faults c.args.outside.now) (g.O.Outside.faults c.flush.new.outside) (g.O.Outside.faults c.work_query.new.outside) c.in_err-work_query-in-Query.field-0.0 c.in_ok-flush-in-Query.ensures.counts.reason c.in_err-work_query-in-Query.ensures.counts))
+
+pub returns-in_err-flush-in-Query-clause-counts : goal.returns-in_err-flush-in-Query-clause-counts
+returns-in_err-flush-in-Query-clause-counts g c =
+    let p = err_from_is_err_and c.from_residual-in_err-flush-in-Query.result c.from_residual-in_err-flush-in-Query.ensures.1 in
+    rw (p.1, p.2) (any_counts {U = Answer} c.args.item (g.O.Outside.faults c.args.outside.now) (g.O.Outside.faults c.flush.new.outside) (Err c.in_err-flush-in-Query.field-0.0) (err_counts (Unit {0}) Answer (g.O.Outside.faults c.args.outside.now) (g.O.Outside.faults c.flush.new.outside) c.in_err-flush-in-Query.field-0.0 c.in_err-flush-in-Query.ensures.counts))
+
+pub returns-in_err-flush-in-Query-clause-faultless : goal.returns-in_err-flush-in-Query-clause-faultless
+returns-in_err-flush-in-Query-clause-faultless g c =
+    let p = err_from_is_err_and c.from_residual-in_err-flush-in-Query.result c.from_residual-in_err-flush-in-Query.ensures.1 in
+    rw (p.1, p.2) (flush_end_calm Answer _ c.in_err-flush-in-Query.field-0.0 c.in_err-flush-in-Query.ensures.ends)
+
+pub returns-in_err-flush-in-Query-clause-ends : goal.returns-in_err-flush-in-Query-clause-ends
+returns-in_err-flush-in-Query-clause-ends g c =
+    let p = err_from_is_err_and c.from_residual-in_err-flush-in-Query.result c.from_residual-in_err-flush-in-Query.ensures.1 in
+    rw (p.1, p.2) (flush_end_works c.in_err-flush-in-Query.field-0.0 c.in_err-flush-in-Query.ensures.ends)
+
+pub returns-in_err-flush-in-Query-clause-unput : goal.returns-in_err-flush-in-Query-clause-unput
+returns-in_err-flush-in-Query-clause-unput g c = λ resting. ap (λ o. (g.O.Outside.shown o).taken) (c.flush.ensures.idle resting).0
+
+pub returns-in_err-work_query-in-Query-clause-ends : goal.returns-in_err-work_query-in-Query-clause-ends
+returns-in_err-work_query-in-Query-clause-ends g c =
+    let p = err_from_is_err_and c.from_residual-in_err-work_query-in-Query.result c.from_residual-in_err-work_query-in-Query.ensures.1 in
+    rw (p.1, p.2) (keep_end_works {T = Unit {0}} (Err c.in_err-work_query-in-Query.field-0.0) c.in_err-work_query-in-Query.ensures.ends)
+
+pub returns-in_err-keep_method-in-Chunk-Method-clause-ends : goal.returns-in_err-keep_method-in-Chunk-Method-clause-ends
+returns-in_err-keep_method-in-Chunk-Method-clause-ends g c =
+    let p = err_from_is_err_and c.from_residual-in_err-keep_method-in-Chunk-Method.result c.from_residual-in_err-keep_method-in-Chunk-Method.ensures.1 in
+    rw (p.1, p.2) (keep_end_works {T = Unit {0}} (Err c.in_err-keep_method-in-Chunk-Method.field-0.0) c.in_err-keep_method-in-Chunk-Method.ensures.ends)
+
+pub returns-in_ok-keep_method-in-Chunk-Method-clause-unmarked : goal.returns-in_ok-keep_method-in-Chunk-Method-clause-unmarked
+returns-in_ok-keep_method-in-Chunk-Method-clause-unmarked g c = λ readable grouped. c.keep_method.ensures.others Mark (no_log (keeper_of c.args.self.now).log.number)
+
+pub returns-in_err-keep_method-in-Chunk-Method-clause-unmarked : goal.returns-in_err-keep_method-in-Chunk-Method-clause-unmarked
+returns-in_err-keep_method-in-Chunk-Method-clause-unmarked g c = λ readable grouped. c.keep_method.ensures.others Mark (no_log (keeper_of c.args.self.now).log.number)
+
+-- ---- an item whose change is no more than pending
+
+pub returns-in_err-head_answer-in-Chunk-Head-clause-grouped : goal.returns-in_err-head_answer-in-Chunk-Head-clause-grouped
+returns-in_err-head_answer-in-Chunk-Head-clause-grouped g c = λ work ground readable grouped at.
+    nothing_happens g.O.Disk.moment g.O.Disk.left_since _ (g.O.Outside.shown c.args.outside.now) _ c.args.outside.now work ground (λ told image left. let x = g.met.O.Disk.only_now c.args.outside.now told image left in (x.0, x.1 ∙ told_beside g.met.O.Outside.beside_is g.met.O.Outside.shown_is c.args.outside.now)) at
+
+pub returns-in_ok-head_answer-in-Chunk-Head-clause-grouped : goal.returns-in_ok-head_answer-in-Chunk-Head-clause-grouped
+returns-in_ok-head_answer-in-Chunk-Head-clause-grouped g c = λ work ground readable grouped at.
+    nothing_happens g.O.Disk.moment g.O.Disk.left_since _ (g.O.Outside.shown c.args.outside.now) _ c.args.outside.now work ground (λ told image left. let x = g.met.O.Disk.only_now c.args.outside.now told image left in (x.0, x.1 ∙ told_beside g.met.O.Outside.beside_is g.met.O.Outside.shown_is c.args.outside.now)) at
+
+pub returns-in-Chunk-SectionEnd-clause-grouped : goal.returns-in-Chunk-SectionEnd-clause-grouped
+returns-in-Chunk-SectionEnd-clause-grouped g c = λ work ground readable grouped at.
+    nothing_happens g.O.Disk.moment g.O.Disk.left_since _ (g.O.Outside.shown c.args.outside.now) _ c.args.outside.now work ground (λ told image left. let x = g.met.O.Disk.only_now c.args.outside.now told image left in (x.0, x.1 ∙ told_beside g.met.O.Outside.beside_is g.met.O.Outside.shown_is c.args.outside.now)) at
+
+pub returns-in-Chunk-TooLong-clause-grouped : goal.returns-in-Chunk-TooLong-clause-grouped
+returns-in-Chunk-TooLong-clause-grouped g c = λ work ground readable grouped at.
+    nothing_happens g.O.Disk.moment g.O.Disk.left_since _ (g.O.Outside.shown c.args.outside.now) _ c.args.outside.now work ground (λ told image left. let x = g.met.O.Disk.only_now c.args.outside.now told image left in (x.0, x.1 ∙ told_beside g.met.O.Outside.beside_is g.met.O.Outside.shown_is c.args.outside.now)) at
+
+pub returns-in-Unended-clause-grouped : goal.returns-in-Unended-clause-grouped
+returns-in-Unended-clause-grouped g c = λ work ground readable grouped at.
+    nothing_happens g.O.Disk.moment g.O.Disk.left_since _ (g.O.Outside.shown c.args.outside.now) _ c.args.outside.now work ground (λ told image left. let x = g.met.O.Disk.only_now c.args.outside.now told image left in (x.0, x.1 ∙ told_beside g.met.O.Outside.beside_is g.met.O.Outside.shown_is c.args.outside.now)) at
+
+pub returns-in_ok-keep_text-in-Chunk-Plain-clause-grouped : goal.returns-in_ok-keep_text-in-Chunk-Plain-clause-grouped
+returns-in_ok-keep_text-in-Chunk-Plain-clause-grouped g c = λ work ground readable grouped at.
+    let is = c.in-Chunk-Plain.is ∙ ap Chunk c.in-Chunk-Plain.field-0-is in
+    let sound = subst IsReadable is readable in
+    c.keep_text.ensures.grouped work ground sound.0 sound.1 (subst IsGrouped is grouped) at
+
+pub returns-in_ok-keep_text-in-Chunk-Plain-clause-unmarked : goal.returns-in_ok-keep_text-in-Chunk-Plain-clause-unmarked
+returns-in_ok-keep_text-in-Chunk-Plain-clause-unmarked g c = λ readable grouped.
+    let is = c.in-Chunk-Plain.is ∙ ap Chunk c.in-Chunk-Plain.field-0-is in
+    let sound = subst IsReadable is readable in
+    c.keep_text.ensures.unmarked sound.0 sound.1 (subst IsGrouped is grouped)
+
+pub returns-in_ok-keep_text-in-Chunk-Plain-clause-silent : goal.returns-in_ok-keep_text-in-Chunk-Plain-clause-silent
+returns-in_ok-keep_text-in-Chunk-Plain-clause-silent g c = λ readable grouped.
+    let is = c.in-Chunk-Plain.is ∙ ap Chunk c.in-Chunk-Plain.field-0-is in
+    let sound = subst IsReadable is readable in
+    c.keep_text.ensures.silent sound.0 sound.1 (subst IsGrouped is grouped)
+
+pub returns-in_err-keep_text-in-Chunk-Plain-clause-grouped : goal.returns-in_err-keep_text-in-Chunk-Plain-clause-grouped
+returns-in_err-keep_text-in-Chunk-Plain-clause-grouped g c = λ work ground readable grouped at.
+    let is = c.in-Chunk-Plain.is ∙ ap Chunk c.in-Chunk-Plain.field-0-is in
+    let sound = subst IsReadable is readable in
+    c.keep_text.ensures.grouped work ground sound.0 sound.1 (subst IsGrouped is grouped) at
+
+pub returns-in_err-keep_text-in-Chunk-Plain-clause-unmarked : goal.returns-in_err-keep_text-in-Chunk-Plain-clause-unmarked
+returns-in_err-keep_text-in-Chunk-Plain-clause-unmarked g c = λ readable grouped.
+    let is = c.in-Chunk-Plain.is ∙ ap Chunk c.in-Chunk-Plain.field-0-is in
+    let sound = subst IsReadable is readable in
+    c.keep_text.ensures.unmarked sound.0 sound.1 (subst IsGrouped is grouped)
+
+pub returns-in_err-keep_text-in-Chunk-Plain-clause-silent : goal.returns-in_err-keep_text-in-Chunk-Plain-clause-silent
+returns-in_err-keep_text-in-Chunk-Plain-clause-silent g c = λ readable grouped.
+    let is = c.in-Chunk-Plain.is ∙ ap Chunk c.in-Chunk-Plain.field-0-is in
+    let sound = subst IsReadable is readable in
+    c.keep_text.ensures.silent sound.0 sound.1 (subst IsGrouped is grouped)
+
+pub returns-in_ok-keep_method-in-Chunk-Method-clause-grouped : goal.returns-in_ok-keep_method-in-Chunk-Method-clause-grouped
+returns-in_ok-keep_method-in-Chunk-Method-clause-grouped g c = λ work ground readable grouped at.
+    let is = c.in-Chunk-Method.is ∙ ap Chunk c.in-Chunk-Method.field-0-is in
+    let sound = subst IsReadable is readable in
+    c.keep_method.ensures.any_moment work ground sound.0 sound.1 at
+
+pub returns-in_err-keep_method-in-Chunk-Method-clause-grouped : goal.returns-in_err-keep_method-in-Chunk-Method-clause-grouped
+returns-in_err-keep_method-in-Chunk-Method-clause-grouped g c = λ work ground readable grouped at.
+    let is = c.in-Chunk-Method.is ∙ ap Chunk c.in-Chunk-Method.field-0-is in
+    let sound = subst IsReadable is readable in
+    c.keep_method.ensures.any_moment work ground sound.0 sound.1 at
+
+pub returns-in_ok-work_query-in-Query-clause-grouped : goal.returns-in_ok-work_query-in-Query-clause-grouped
+returns-in_ok-work_query-in-Query-clause-grouped g c = λ work ground readable grouped at. absurd (subst IsGrouped c.in-Query.is grouped)
+
+pub returns-in_ok-work_query-in-Query-clause-unmarked : goal.returns-in_ok-work_query-in-Query-clause-unmarked
+returns-in_ok-work_query-in-Query-clause-unmarked g c = λ readable grouped. absurd (subst IsGrouped c.in-Query.is grouped)
+
+pub returns-in_ok-work_query-in-Query-clause-silent : goal.returns-in_ok-work_query-in-Query-clause-silent
+returns-in_ok-work_query-in-Query-clause-silent g c = λ readable grouped. absurd (subst IsGrouped c.in-Query.is grouped)
+
+pub returns-in_err-work_query-in-Query-clause-grouped : goal.returns-in_err-work_query-in-Query-clause-grouped
+returns-in_err-work_query-in-Query-clause-grouped g c = λ work ground readable grouped at. absurd (subst IsGrouped c.in-Query.is grouped)
+
+pub returns-in_err-work_query-in-Query-clause-unmarked : goal.returns-in_err-work_query-in-Query-clause-unmarked
+returns-in_err-work_query-in-Query-clause-unmarked g c = λ readable grouped. absurd (subst IsGrouped c.in-Query.is grouped)
+
+pub returns-in_err-work_query-in-Query-clause-silent : goal.returns-in_err-work_query-in-Query-clause-silent
+returns-in_err-work_query-in-Query-clause-silent g c = λ readable grouped. absurd (subst IsGrouped c.in-Query.is grouped)
+
+pub returns-in_err-flush-in-Query-clause-grouped : goal.returns-in_err-flush-in-Query-clause-grouped
+returns-in_err-flush-in-Query-clause-grouped g c = λ work ground readable grouped at. absurd (subst IsGrouped c.in-Query.is grouped)
+
+pub returns-in_err-flush-in-Query-clause-unmarked : goal.returns-in_err-flush-in-Query-clause-unmarked
+returns-in_err-flush-in-Query-clause-unmarked g c = λ readable grouped. absurd (subst IsGrouped c.in-Query.is grouped)
+
+pub returns-in_err-flush-in-Query-clause-silent : goal.returns-in_err-flush-in-Query-clause-silent
+returns-in_err-flush-in-Query-clause-silent g c = λ readable grouped. absurd (subst IsGrouped c.in-Query.is grouped)

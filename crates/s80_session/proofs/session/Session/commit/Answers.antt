@@ -1,0 +1,68 @@
+use Rattle.std.proofs.Common.{refl, ◌≡◌, Result, Ok, Err, sym, ap, subst, ◌∙◌, arith}
+use Rattle.std.specs.Prelude.{IfErr}
+use Rattle.std.proofs.lemmas.Result.{err_from_is_err_and}
+use Rattle.s80_base.specs.declared.outside.Failed.{Failed}
+use Rattle.s80_form.specs.declared.refusal.Refusal.{Refusal}
+use Rattle.s80_disk.specs.Shown.{Shown, Faults}
+use Rattle.s80_keeper.specs.declared.keep.KeepFault.TheVariants as faults
+use Rattle.s80_session.specs.declared.end.SessionEnd.{SessionEnd}
+use Rattle.s80_session.specs.Ending.{HasReason, NoFewer}
+use Rattle.s80_session.specs.Session.{keeper_of}
+use Rattle.s80_session.specs.Working.{Committed}
+use Rattle.s80_session.proofs.Adding.{stands_on}
+use Rattle.s80_session.proofs.Flushing.{commit_fault, commit_lasts, commit_lost, commit_reason, not_refused}
+use Rattle.s80_session.proofs.session.Session.commit.Goals as goal
+use Rattle.s80_session.proofs.session.Session.commit.Goals.{In-Err}
+
+-- what the paths behind a fault share
+module _ (g : _) (c : In-Err g) where
+  fault : (failed : Failed) × (c.in-Err.fault ≡ faults.Disk failed)
+  fault = commit_fault c.commit.result (keeper_of c.args.self.now) c.commit.new.keeper c.in-Err.fault c.in-Err.is c.commit.ensures.after c.commit.ensures.closed c.requires.faultless
+
+pub returns-in_err-refusal_at_fault-clause-committed : goal.returns-in_err-refusal_at_fault-clause-committed
+returns-in_err-refusal_at_fault-clause-committed g c = λ work ground at.
+    let is = fault g (goal.at.returns-in_err-refusal_at_fault-clause-committed g c).In-Err in
+    let p = err_from_is_err_and c.from_residual.result c.from_residual.ensures.1 in
+    let now = record c.args.self.now { keeper = c.commit.new.keeper } in
+    let P : Result Refusal SessionEnd → Type 0 = λ r. IfErr r (λ end. Committed {T = Unit {0}} (Err end) (g.O.Disk.may_leave c.commit.new.outside) (g.O.Outside.shown c.commit.new.outside) now work ground) in
+    rw (p.1, p.2) (subst P (sym c.in_err-refusal_at_fault.ensures) (commit_lost c.in-Err.fault is.0 (g.O.Disk.may_leave c.args.outside.now) (g.O.Disk.may_leave c.commit.new.outside) (g.O.Outside.shown c.args.outside.now) (g.O.Outside.shown c.commit.new.outside) c.args.self.now now work ground is.1 (c.in-Err.ensures.committed ground.kept work.changes at.keeps) c.commit.ensures.shown at))
+
+pub returns-in_err-refusal_at_fault-clause-any_moment : goal.returns-in_err-refusal_at_fault-clause-any_moment
+returns-in_err-refusal_at_fault-clause-any_moment g c = λ work ground at.
+    commit_lasts g.O.Disk.moment g.O.Disk.left_since c.args.outside.now c.commit.new.outside work ground (g.O.Outside.shown c.args.outside.now).told at.told (c.commit.ensures.any_moment ground.kept work.changes at.keeps)
+
+pub returns-in_err-refusal_at_fault-clause-idle : goal.returns-in_err-refusal_at_fault-clause-idle
+returns-in_err-refusal_at_fault-clause-idle g c = λ none. let ok = sym c.in-Err.is ∙ c.commit.ensures.idle c.requires.faultless none in absurd (cc)
+
+pub returns-in_err-refusal_at_fault-clause-counts : goal.returns-in_err-refusal_at_fault-clause-counts
+returns-in_err-refusal_at_fault-clause-counts g c =
+    let is = fault g (goal.at.returns-in_err-refusal_at_fault-clause-counts g c).In-Err in
+    let counts = c.commit.ensures.faults in
+    let old = g.O.Outside.faults c.args.outside.now in
+    let new = g.O.Outside.faults c.commit.new.outside in
+    let later : NoFewer old new = record {
+      read = let e = ap (λ (f : Faults). f.read) counts in omega (arith, e);
+      write = let e = ap (λ (f : Faults). f.write) counts in omega (arith, e);
+      disk = c.commit.ensures.later;
+    } in
+    let P : Result Refusal SessionEnd → Type 0 = λ r. IfErr r (HasReason old new) in
+    let p = err_from_is_err_and c.from_residual.result c.from_residual.ensures.1 in
+    rw (p.1, p.2) (record { later = later; reason = subst P (sym c.in_err-refusal_at_fault.ensures) (commit_reason c.commit.result c.in-Err.fault is.0 old new c.in-Err.is is.1 c.commit.ensures.cause) })
+
+-- no fault is answered
+pub returns-in_ok-refusal_at_fault-clause-committed : goal.returns-in_ok-refusal_at_fault-clause-committed
+returns-in_ok-refusal_at_fault-clause-committed g c = λ work ground at.
+    let is = fault g (goal.at.returns-in_ok-refusal_at_fault-clause-committed g c).In-Err in
+    absurd (not_refused is.0 c.in-Err.fault c.in_ok-refusal_at_fault.field-0 is.1 (sym c.in_ok-refusal_at_fault.ensures))
+
+pub returns-in_ok-refusal_at_fault-clause-any_moment : goal.returns-in_ok-refusal_at_fault-clause-any_moment
+returns-in_ok-refusal_at_fault-clause-any_moment g c = λ work ground at.
+    commit_lasts g.O.Disk.moment g.O.Disk.left_since c.args.outside.now c.commit.new.outside work ground (g.O.Outside.shown c.args.outside.now).told at.told (c.commit.ensures.any_moment ground.kept work.changes at.keeps)
+
+pub returns-in_default-clause-committed : goal.returns-in_default-clause-committed
+returns-in_default-clause-committed g c = λ work ground at.
+    stands_on (g.O.Disk.may_leave c.args.outside.now) (g.O.Disk.may_leave c.commit.new.outside) (g.O.Outside.shown c.args.outside.now) (g.O.Outside.shown c.commit.new.outside) c.args.self.now (record c.args.self.now { keeper = c.commit.new.keeper }) work ground work.changes work.changes (c.in_default.ensures.committed ground.kept work.changes at.keeps) refl c.commit.ensures.shown at
+
+pub returns-in_default-clause-any_moment : goal.returns-in_default-clause-any_moment
+returns-in_default-clause-any_moment g c = λ work ground at.
+    commit_lasts g.O.Disk.moment g.O.Disk.left_since c.args.outside.now c.commit.new.outside work ground (g.O.Outside.shown c.args.outside.now).told at.told (c.commit.ensures.any_moment ground.kept work.changes at.keeps)

@@ -1,0 +1,33 @@
+-- Replies that are held, and the room for them.
+use Rattle.std.specs.Prelude.{ℕ, ◌<◌, ◌≤◌, List, length, ⊤}
+use Rattle.s80_chunk.specs.declared.item.Item.TheVariants as items
+use Rattle.s80_model.specs.declared.item.SessionItem.{SessionItem}
+use Rattle.s80_model.specs.declared.item.SessionItem.TheVariants.{Chunk}
+use Rattle.s80_model.specs.declared.reply.Reply.{Reply}
+use Rattle.s80_model.specs.declared.reply.Reply.TheVariants.{Silent, Accepted, Refused, Evaluated, Told}
+
+-- their bytes, and for how many more there is room
+pub record HeldReplies : Type 0 where
+  pub bytes : List ℕ
+  pub room : ℕ
+
+-- there is room for a reply, where what it answers was kept
+abbrev pub HasRoom : Reply → ℕ → Type 0
+HasRoom Silent room = ⊤
+HasRoom Accepted room = 3 ≤ room
+HasRoom (Refused refusal) room = ⊤
+HasRoom (Evaluated lines stopped) room = length lines ≤ room
+HasRoom (Told text) room = ⊤
+
+-- a head keeps nothing, and may go unanswered
+abbrev pub HasRoomFor : SessionItem → Reply → ℕ → Type 0
+HasRoomFor (Chunk (items.Head text)) reply room = ⊤
+HasRoomFor item reply room = HasRoom reply room
+
+-- a reply isn't held: there is no such room, or nothing was kept for it
+abbrev pub LacksRoom : Reply → ℕ → Type 0
+LacksRoom Silent room = ⊥
+LacksRoom Accepted room = room < 3
+LacksRoom (Refused refusal) room = ⊤
+LacksRoom (Evaluated lines stopped) room = room < length lines
+LacksRoom (Told text) room = ⊤
