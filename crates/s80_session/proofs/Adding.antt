@@ -33,14 +33,14 @@ add_refuses : (changes : List Change) (change : Change) (refusal : Refusal) → 
 add_refuses changes change refusal is = ap (λ r. added r (changes ++ change ∷ [])) is
 
 -- a keeper's log is as long as the blocks of its list
-log_is : (may_leave : Image → Type 0) (o : Shown) (session : Session) (work : Work) (ground : Ground) → IsAmid may_leave o session work ground → (keeper_of session).log.end ≡ length (blocks work.changes)
-log_is may_leave o session work ground h = h.keeps.holds.whole
+log_is : (may_leave : Image → Type 0) (o : Shown) (session : Session) (work : Work) (basis : Ground) → IsAmid may_leave o session work basis → (keeper_of session).log.end ≡ length (blocks work.changes)
+log_is may_leave o session work basis h = h.keeps.holds.whole
 
 -- a session before and after its keeper prepared a change
-module _ (may_leave : Image → Type 0) (o : Shown) (before now : Session) (work : Work) (ground : Ground) (change : Change) (same : keeper_of now ≡ record (keeper_of before) { system = (keeper_of now).system; history = (keeper_of now).history }) (system : IsSystemOf (keeper_of now).system (state_of work.changes)) (places : HasPlaces (keeper_of now).system (placed_of work.changes)) (history : IsHistoryOf (keeper_of now).history work.changes) (rest : now ≡ record before { keeper = keeper_of now }) (at : IsAmid may_leave o before work ground) where
-  pub still_at : IsAmid may_leave o now work ground
+module _ (may_leave : Image → Type 0) (o : Shown) (before now : Session) (work : Work) (basis : Ground) (change : Change) (same : keeper_of now ≡ record (keeper_of before) { system = (keeper_of now).system; history = (keeper_of now).history }) (system : IsSystemOf (keeper_of now).system (state_of work.changes)) (places : HasPlaces (keeper_of now).system (placed_of work.changes)) (history : IsHistoryOf (keeper_of now).history work.changes) (rest : now ≡ record before { keeper = keeper_of now }) (at : IsAmid may_leave o before work basis) where
+  pub still_at : IsAmid may_leave o now work basis
   still_at = record {
-    keeps = keeps_prepared o.tells o.files may_leave (keeper_of before) ground.kept (keeper_of now) same system places history at.keeps;
+    keeps = keeps_prepared o.tells o.files may_leave (keeper_of before) basis.kept (keeper_of now) same system places history at.keeps;
     section = ap section_of rest ∙ at.section;
     brief = at.brief;
     budget = ap budget_of rest ∙ at.budget;
@@ -49,9 +49,9 @@ module _ (may_leave : Image → Type 0) (o : Shown) (before now : Session) (work
     held = ap held_of rest ∙ at.held;
   }
 
-  pub refused : (refusal : Refusal) → refusal_to (state_of work.changes) (keeper_of before).log.end change ≡ Some refusal → (Refused refusal ≡ reply_to_adding (add work.changes change)) × IsAmid may_leave o now (adding work change) ground
+  pub refused : (refusal : Refusal) → refusal_to (state_of work.changes) (keeper_of before).log.end change ≡ Some refusal → (Refused refusal ≡ reply_to_adding (add work.changes change)) × IsAmid may_leave o now (adding work change) basis
   refused refusal is =
-      let end = log_is may_leave o before work ground at in
+      let end = log_is may_leave o before work basis at in
       let refuses = add_refuses work.changes change refusal (ap (λ n. refusal_to (state_of work.changes) n change) (sym end) ∙ is) in
       rw refuses (refl, still_at)
 
@@ -62,7 +62,7 @@ module _ (may_leave : Image → Type 0) (o : Shown) (before now : Session) (work
         (makes.0, ap (λ x. accept x (state_of work.changes)) (sym is) ∙ makes.1)
 
     pub takes : (keeper_of before).log.end + length (block change) ≤ log_limit → add work.changes change ≡ Ok (work.changes ++ change ∷ [])
-    takes fits = let end = log_is may_leave o before work ground at in add_takes work.changes change accepts.0 accepts.1 (omega (arith, fits, end))
+    takes fits = let end = log_is may_leave o before work basis at in add_takes work.changes change accepts.0 accepts.1 (omega (arith, fits, end))
 
     pub lawful_on : IsLawfulFor work.changes change → IsLawful prepared.change
     lawful_on lawful =
@@ -70,10 +70,10 @@ module _ (may_leave : Image → Type 0) (o : Shown) (before now : Session) (work
         let Q : Result State Refusal → Type 0 = λ r. IsAccepted r in
         subst P (sym is) (lawful (subst Q (sym accepts.1) tt))
 
--- a session whose keeper has kept or committed something stands on another ground, or at work behind another list
-pub stands_on : (was may_leave : Image → Type 0) (o now : Shown) (before session : Session) (work : Work) (ground : Ground) (front all : List Change) → Keeps now.tells now.files may_leave (keeper_of session) front all → session ≡ record before { keeper = keeper_of session } → now ≡ record o { files = now.files } → IsAmid was o before work ground
-    → IsAmid may_leave now session (record work { changes = all }) (record ground { kept = front })
-stands_on was may_leave o now before session work ground front all keeps rest shown at = record {
+-- a session whose keeper has kept or committed something stands on another basis, or at work behind another list
+pub stands_on : (was may_leave : Image → Type 0) (o now : Shown) (before session : Session) (work : Work) (basis : Ground) (front all : List Change) → Keeps now.tells now.files may_leave (keeper_of session) front all → session ≡ record before { keeper = keeper_of session } → now ≡ record o { files = now.files } → IsAmid was o before work basis
+    → IsAmid may_leave now session (record work { changes = all }) (record basis { kept = front })
+stands_on was may_leave o now before session work basis front all keeps rest shown at = record {
   keeps = keeps;
   section = ap section_of rest ∙ at.section;
   brief = at.brief;
@@ -84,17 +84,17 @@ stands_on was may_leave o now before session work ground front all keeps rest sh
 }
 
 -- what was kept
-pub kept : (was may_leave : Image → Type 0) (o now : Shown) (before session : Session) (work : Work) (ground : Ground) (change : Change) → add work.changes change ≡ Ok (work.changes ++ change ∷ []) → Keeps now.tells now.files may_leave (keeper_of session) ground.kept (work.changes ++ change ∷ []) → session ≡ record before { keeper = keeper_of session } → now ≡ record o { files = now.files } → IsAmid was o before work ground
-    → (Accepted ≡ reply_to_adding (add work.changes change)) × IsAmid may_leave now session (adding work change) ground
-kept was may_leave o now before session work ground change takes keeps rest shown at = rw takes (refl, stands_on was may_leave o now before session work ground ground.kept (work.changes ++ change ∷ []) keeps rest shown at)
+pub kept : (was may_leave : Image → Type 0) (o now : Shown) (before session : Session) (work : Work) (basis : Ground) (change : Change) → add work.changes change ≡ Ok (work.changes ++ change ∷ []) → Keeps now.tells now.files may_leave (keeper_of session) basis.kept (work.changes ++ change ∷ []) → session ≡ record before { keeper = keeper_of session } → now ≡ record o { files = now.files } → IsAmid was o before work basis
+    → (Accepted ≡ reply_to_adding (add work.changes change)) × IsAmid may_leave now session (adding work change) basis
+kept was may_leave o now before session work basis change takes keeps rest shown at = rw takes (refl, stands_on was may_leave o now before session work basis basis.kept (work.changes ++ change ∷ []) keeps rest shown at)
 
 -- a call of the disk failed as a change was to be kept: the disk goes on to stand for what is kept
-pub lost_keeping : (was may_leave : Image → Type 0) (o now : Shown) (session : Session) (work : Work) (ground : Ground) → StandsFor now.tells now.files may_leave ground.kept → now ≡ record o { files = now.files } → IsAmid was o session work ground → IsLost may_leave now ground.put (λ list. list ≡ ground.kept)
-lost_keeping was may_leave o now session work ground stands shown at = record {
+pub lost_keeping : (was may_leave : Image → Type 0) (o now : Shown) (session : Session) (work : Work) (basis : Ground) → StandsFor now.tells now.files may_leave basis.kept → now ≡ record o { files = now.files } → IsAmid was o session work basis → IsLost may_leave now basis.put (λ list. list ≡ basis.kept)
+lost_keeping was may_leave o now session work basis stands shown at = record {
   taken = ap (λ (s : Shown). s.taken) shown ∙ at.taken;
-  list = ground.kept;
+  list = basis.kept;
   is = refl;
-  reads = reads_so now.tells now.files may_leave ground.kept stands;
+  reads = reads_so now.tells now.files may_leave basis.kept stands;
 }
 
 -- no fault is met where one is

@@ -61,15 +61,15 @@ run_by_now work (first ∷ asks) ask before mid now all one = (all.0, all.1, run
 
 -- an item more that a reader gave is worked
 pub worked_on : (was_left may_leave : Image → Type 0) (mid now : Shown) (at_work session : Session) (had reader : Held) (was : Was) (work : Work) (before bytes : List ℕ) (given : List Item) (item : Item) → (w : IsWorking was_left mid at_work had was work before bytes given) → HasRead reader bytes (given ++ item ∷ [])
-    → Worked {T = Unit {0}} (Ok tt) may_leave now session (was_of at_work) (work_after_all work w.asks) w.ground (Chunk item)
+    → Worked {T = Unit {0}} (Ok tt) may_leave now session (was_of at_work) (work_after_all work w.asks) w.basis (Chunk item)
     → IsWorking may_leave now session reader was work before bytes (given ++ item ∷ [])
 worked_on was_left may_leave mid now at_work session had reader was work before bytes given item w read h =
-    let stands = stands_more work before w.asks h.0 w.ground w.behind may_leave now session h.4 in
+    let stands = stands_more work before w.asks h.0 w.basis w.behind may_leave now session h.4 in
     record {
       asks = w.asks ++ h.0 ∷ [];
       read = read;
       asked = given_asks_more work given w.asks item h.0 w.asked h.1;
-      ground = stands.0;
+      basis = stands.0;
       behind = stands.1;
       at = stands.2;
       troubled = troubled_by_now was.troubled work w.asks h.0 (troubled_of at_work) (troubled_of session) w.troubled h.2;
@@ -77,7 +77,7 @@ worked_on was_left may_leave mid now at_work session had reader was work before 
     }
 
 -- all that was worked is flushed
-pub flushed_on : (was_left may_leave : Image → Type 0) (mid now : Shown) (at_work session : Session) (reader : Held) (was : Was) (work : Work) (before bytes : List ℕ) (given : List Item) → (w : IsWorking was_left mid at_work reader was work before bytes given) → Flushed {T = Unit {0}} (Ok tt) may_leave now session (work_after_all work w.asks) w.ground → HasSameRest at_work session
+pub flushed_on : (was_left may_leave : Image → Type 0) (mid now : Shown) (at_work session : Session) (reader : Held) (was : Was) (work : Work) (before bytes : List ℕ) (given : List Item) → (w : IsWorking was_left mid at_work reader was work before bytes given) → Flushed {T = Unit {0}} (Ok tt) may_leave now session (work_after_all work w.asks) w.basis → HasSameRest at_work session
     → IsDone may_leave now session reader was work before bytes given
 flushed_on was_left may_leave mid now at_work session reader was work before bytes given w h same =
     let P : List ℕ → Type 0 = λ l. IsAt may_leave now session (work_after_all work w.asks) l in
@@ -90,7 +90,7 @@ done_on may_leave o session reader was work before bytes given d = record {
   asks = d.asks;
   read = d.read;
   asked = d.asked;
-  ground = at_rest (work_after_all work d.asks) (before ++ replies work d.asks);
+  basis = at_rest (work_after_all work d.asks) (before ++ replies work d.asks);
   behind = behind_done work before d.asks;
   at = d.at;
   troubled = d.troubled;

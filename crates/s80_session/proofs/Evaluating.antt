@@ -75,8 +75,8 @@ run_refused (Ok changes) text settings refusal before now e same = absurd (cc)
 run_refused (Err other) text settings refusal before now e same = same
 
 -- a doIt that isn't kept isn't evaluated
-pub replied_unkept : (may_leave : Image → Type 0) (now : Shown) (session : Session) (was : Was) (work : Work) (ground : Ground) (text : List ℕ) (refusal : Refusal) → Fits text → IsNoFormText text → last_run_of session ≡ was.last_run → Kept (Ok (Some refusal)) may_leave now session work ground (DoIt text) → Replied (Ok (Refused refusal)) may_leave now session was work ground (Chunk (items.Plain text))
-replied_unkept may_leave now session was work ground text refusal fits none same h =
+pub replied_unkept : (may_leave : Image → Type 0) (now : Shown) (session : Session) (was : Was) (work : Work) (basis : Ground) (text : List ℕ) (refusal : Refusal) → Fits text → IsNoFormText text → last_run_of session ≡ was.last_run → Kept (Ok (Some refusal)) may_leave now session work basis (DoIt text) → Replied (Ok (Refused refusal)) may_leave now session was work basis (Chunk (items.Plain text))
+replied_unkept may_leave now session was work basis text refusal fits none same h =
     let r : Result (List Change) Refusal = add work.changes (DoIt text) in (
       evaluates text [] false,
       ((fits, refl, none), evaluated_refused r text work.settings refusal h.0),
@@ -86,10 +86,10 @@ replied_unkept may_leave now session was work ground text refusal fits none same
     )
 
 -- a doIt that is kept
-module _ (may_leave : Image → Type 0) (now : Shown) (mid session : Session) (work : Work) (ground : Ground) (text : List ℕ) (fits : Fits text) (none : IsNoFormText text) (rest : session ≡ record mid { last_run = last_run_of session; held = session.held }) (held : held_of session ≡ held_of mid) (h : Kept (Ok None) may_leave now mid work ground (DoIt text)) where
-  is_at : IsAmid may_leave now session (adding work (DoIt text)) ground
+module _ (may_leave : Image → Type 0) (now : Shown) (mid session : Session) (work : Work) (basis : Ground) (text : List ℕ) (fits : Fits text) (none : IsNoFormText text) (rest : session ≡ record mid { last_run = last_run_of session; held = session.held }) (held : held_of session ≡ held_of mid) (h : Kept (Ok None) may_leave now mid work basis (DoIt text)) where
+  is_at : IsAmid may_leave now session (adding work (DoIt text)) basis
   is_at = record {
-    keeps = let P : KeeperState → Type 0 = λ k. Keeps now.tells now.files may_leave k ground.kept (adding work (DoIt text)).changes in subst P (sym (ap keeper_of rest)) h.1.keeps;
+    keeps = let P : KeeperState → Type 0 = λ k. Keeps now.tells now.files may_leave k basis.kept (adding work (DoIt text)).changes in subst P (sym (ap keeper_of rest)) h.1.keeps;
     section = ap section_of rest ∙ h.1.section;
     brief = h.1.brief;
     budget = ap budget_of rest ∙ h.1.budget;
@@ -99,7 +99,7 @@ module _ (may_leave : Image → Type 0) (now : Shown) (mid session : Session) (w
   }
 
   -- and is evaluated
-  pub replied_evaluated : (was : Was) (reply : Reply) → Evaluates {E = Unit {0}} (Ok reply) mid session text → Replied (Ok reply) may_leave now session was work ground (Chunk (items.Plain text))
+  pub replied_evaluated : (was : Was) (reply : Reply) → Evaluates {E = Unit {0}} (Ok reply) mid session text → Replied (Ok reply) may_leave now session was work basis (Chunk (items.Plain text))
   replied_evaluated was reply (ran, given, run, evaluated, reply_is, last) =
       let r : Result (List Change) Refusal = add work.changes (DoIt text) in
       let system : SystemState = (keeper_of mid).system in
@@ -115,5 +115,5 @@ module _ (may_leave : Image → Type 0) (now : Shown) (mid session : Session) (w
       )
 
   -- or memory was wanting for that
-  pub unevaluated : (told : List ℕ) (stopped : Bool) → AsksIn work (Chunk (items.Plain text)) (evaluates text told stopped) → IsUnevaluated work (Chunk (items.Plain text)) (λ w. IsAmid may_leave now session w ground)
+  pub unevaluated : (told : List ℕ) (stopped : Bool) → AsksIn work (Chunk (items.Plain text)) (evaluates text told stopped) → IsUnevaluated work (Chunk (items.Plain text)) (λ w. IsAmid may_leave now session w basis)
   unevaluated told stopped asks = (text, told, stopped, asks, is_at)

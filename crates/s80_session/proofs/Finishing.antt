@@ -29,7 +29,7 @@ clean_end may_leave now session reader was work input before given h w left with
   all = (chunks given, (given, h.0, h.1, inl (h.2, refl)), w.asked);
   within = within;
   left = left;
-  ground = w.ground;
+  basis = w.basis;
   behind = w.behind;
   at = w.at;
   troubled = w.troubled;
@@ -61,15 +61,15 @@ unended_input rest work input given asks place is h asked =
     }
 
 pub finished_unended : {T : Type 0} (r : Result T SessionEnd) (was_left may_leave : Image → Type 0) (mid now : Shown) (at_work session : Session) (reader : Held) (was : Was) (work : Work) (input before : List ℕ) (given : List Item) → (w : IsWorking was_left mid at_work reader was work before input given) → IsUnendedInput work input given w.asks
-    → Worked r may_leave now session (was_of at_work) (work_after_all work w.asks) w.ground Unended → now.left ≡ Some [] → length input ≤ input_limit → Finishes r may_leave now session was work input before
+    → Worked r may_leave now session (was_of at_work) (work_after_all work w.asks) w.basis Unended → now.left ≡ Some [] → length input ≤ input_limit → Finishes r may_leave now session was work input before
 finished_unended (Ok done) was_left may_leave mid now at_work session reader was work input before given w u h left within =
-    let stands = stands_more work before w.asks h.0 w.ground w.behind may_leave now session h.4 in
+    let stands = stands_more work before w.asks h.0 w.basis w.behind may_leave now session h.4 in
     record {
       asks = w.asks ++ h.0 ∷ [];
       all = (chunks given ++ Unended ∷ [], u.items, asks_more work (chunks given) w.asks Unended h.0 w.asked h.1);
       within = within;
       left = left;
-      ground = stands.0;
+      basis = stands.0;
       behind = stands.1;
       at = stands.2;
       troubled = troubled_by_now was.troubled work w.asks h.0 (troubled_of at_work) (troubled_of session) w.troubled h.2;
@@ -77,10 +77,10 @@ finished_unended (Ok done) was_left may_leave mid now at_work session reader was
     }
 finished_unended (Err end) was_left may_leave mid now at_work session reader was work input before given w u h left within =
     breaks (Unit {0}) end may_leave now session (FirstAsksOf work input) was (was_of session) work before input (λ asks first. first)
-    (broke_by_work (FirstAsksOf work input) (first_front work input) work before w.asks w.ground u.first w.behind Unended u.grows (Unit {0}) end may_leave now session (was_of at_work) h)
+    (broke_by_work (FirstAsksOf work input) (first_front work input) work before w.asks w.basis u.first w.behind Unended u.grows (Unit {0}) end may_leave now session (was_of at_work) h)
 
 -- all of it is flushed
-pub finished_ends : {T : Type 0} (r : Result T SessionEnd) (was_left may_leave : Image → Type 0) (mid now : Shown) (at_work session : Session) (was : Was) (work : Work) (input before : List ℕ) → (f : IsFinished was_left mid at_work was work input before) → Flushed r may_leave now session (work_after_all work f.asks) f.ground → HasSameRest at_work session → now.left ≡ mid.left
+pub finished_ends : {T : Type 0} (r : Result T SessionEnd) (was_left may_leave : Image → Type 0) (mid now : Shown) (at_work session : Session) (was : Was) (work : Work) (input before : List ℕ) → (f : IsFinished was_left mid at_work was work input before) → Flushed r may_leave now session (work_after_all work f.asks) f.basis → HasSameRest at_work session → now.left ≡ mid.left
     → Ends r may_leave now was (was_of session) work input before
 finished_ends (Ok done) was_left may_leave mid now at_work session was work input before f h same left =
     let P : List ℕ → Type 0 = λ l. IsAt may_leave now session (work_after_all work f.asks) l in
@@ -99,4 +99,4 @@ finished_ends (Ok done) was_left may_leave mid now at_work session was work inpu
     )
 finished_ends (Err end) was_left may_leave mid now at_work session was work input before f h same left =
     breaks (Unit {0}) end may_leave now session (FirstAsksOf work input) was (was_of session) work before input (λ asks first. first)
-    (broke_by_flush (FirstAsksOf work input) (first_front work input) work before f.asks f.ground (first_of_all work input f.asks f.all) f.behind (Unit {0}) end may_leave now session h)
+    (broke_by_flush (FirstAsksOf work input) (first_front work input) work before f.asks f.basis (first_of_all work input f.asks f.all) f.behind (Unit {0}) end may_leave now session h)

@@ -51,16 +51,16 @@ not_refused failed (faults.Full n) refusal is gives = cc is
 not_refused failed (faults.Damaged damage) refusal is gives = cc
 
 -- what it leaves then
-pub commit_lost : (fault : KeepFault) (failed : Failed) (was may_leave : Image → Type 0) (o now : Shown) (before session : Session) (work : Work) (ground : Ground) → fault ≡ faults.Disk failed → KeeperCommitted {T = Unit {0}} (Err fault) now.tells now.files may_leave (keeper_of session) ground.kept work.changes → now ≡ record o { files = now.files } → IsAmid was o before work ground
-    → IfErr (refusal_at_fault fault) (λ end. Committed {T = Unit {0}} (Err end) may_leave now session work ground)
-commit_lost (faults.Disk other) failed was may_leave o now before session work ground is h shown at =
-    let Lists : List Change → Type 0 = λ list. (list ≡ ground.kept) ⊎ (list ≡ work.changes) in
+pub commit_lost : (fault : KeepFault) (failed : Failed) (was may_leave : Image → Type 0) (o now : Shown) (before session : Session) (work : Work) (basis : Ground) → fault ≡ faults.Disk failed → KeeperCommitted {T = Unit {0}} (Err fault) now.tells now.files may_leave (keeper_of session) basis.kept work.changes → now ≡ record o { files = now.files } → IsAmid was o before work basis
+    → IfErr (refusal_at_fault fault) (λ end. Committed {T = Unit {0}} (Err end) may_leave now session work basis)
+commit_lost (faults.Disk other) failed was may_leave o now before session work basis is h shown at =
+    let Lists : List Change → Type 0 = λ list. (list ≡ basis.kept) ⊎ (list ≡ work.changes) in
     let taken = ap (λ (s : Shown). s.taken) shown ∙ at.taken in
-    ⊎_elim (λ (reads : ReadsFor now.tells now.files may_leave ground.kept). record { taken = taken; list = ground.kept; is = inl refl; reads = reads }) (λ (reads : ReadsFor now.tells now.files may_leave work.changes). record { taken = taken; list = work.changes; is = inr refl; reads = reads }) h.stands
-commit_lost faults.Memory failed was may_leave o now before session work ground is h shown at = absurd h
-commit_lost (faults.Closed other) failed was may_leave o now before session work ground is h shown at = absurd h
-commit_lost (faults.Full n) failed was may_leave o now before session work ground is h shown at = absurd h
-commit_lost (faults.Damaged damage) failed was may_leave o now before session work ground is h shown at = absurd h
+    ⊎_elim (λ (reads : ReadsFor now.tells now.files may_leave basis.kept). record { taken = taken; list = basis.kept; is = inl refl; reads = reads }) (λ (reads : ReadsFor now.tells now.files may_leave work.changes). record { taken = taken; list = work.changes; is = inr refl; reads = reads }) h.stands
+commit_lost faults.Memory failed was may_leave o now before session work basis is h shown at = absurd h
+commit_lost (faults.Closed other) failed was may_leave o now before session work basis is h shown at = absurd h
+commit_lost (faults.Full n) failed was may_leave o now before session work basis is h shown at = absurd h
+commit_lost (faults.Damaged damage) failed was may_leave o now before session work basis is h shown at = absurd h
 
 -- and its reason
 pub commit_reason : (result : Result (Unit {0}) KeepFault) (fault : KeepFault) (failed : Failed) (a b : Faults) → result ≡ Err fault → fault ≡ faults.Disk failed → IfKeepDisk result (λ failed. Rose a.disk b.disk) → IfErr (refusal_at_fault fault) (HasReason a b)
@@ -70,9 +70,9 @@ commit_reason result fault failed a b is disk cause =
     subst Q (sym disk) (subst P (is ∙ ap Err disk) cause)
 
 module _ {D : Type 0} (moment : D → ℕ) (left_since : D → ℕ → ℕ → Image → Type 0) where
-  pub commit_lasts : (old new : D) (work : Work) (ground : Ground) (told_before : ℕ) → told_before ≡ length ground.put → LeavesOnly moment left_since old new (LeavesEither told_before ground.kept work.changes) → LeavesOnly moment left_since old new (CommitLeaves work ground)
-  commit_lasts old new work ground told_before is run = weaker moment left_since old new (LeavesEither told_before ground.kept work.changes) (CommitLeaves work ground) run (λ told c h.
-      ⊎_elim (λ (files : FilesStandFor c ground.kept). inl (record { no_more = omega (arith, h.told_is, is); files = files })) (λ (files : FilesStandFor c work.changes). inr (record { no_more = omega (arith, h.told_is, is); files = files })) h.files)
+  pub commit_lasts : (old new : D) (work : Work) (basis : Ground) (told_before : ℕ) → told_before ≡ length basis.put → LeavesOnly moment left_since old new (LeavesEither told_before basis.kept work.changes) → LeavesOnly moment left_since old new (CommitLeaves work basis)
+  commit_lasts old new work basis told_before is run = weaker moment left_since old new (LeavesEither told_before basis.kept work.changes) (CommitLeaves work basis) run (λ told c h.
+      ⊎_elim (λ (files : FilesStandFor c basis.kept). inl (record { no_more = omega (arith, h.told_is, is); files = files })) (λ (files : FilesStandFor c work.changes). inr (record { no_more = omega (arith, h.told_is, is); files = files })) h.files)
 
 -- the files but for the mark are as they were, and what is known of them
 pub knows_committed : (files now : Image) (before after : KeeperState) (changes : List Change) → HasCommitted before after → ((other : FileId) → other ≢ Mark → now other ≡ files other) → Knows files before changes → Knows now after changes
@@ -84,8 +84,8 @@ knows_committed files now before after changes committed same h =
 -- ---- what is held is put
 
 -- where a session stands then
-put_at : (was may_leave : Image → Type 0) (mid now : Shown) (before session : Session) (work : Work) (ground : Ground) (put : List ℕ) → ((c : Image) → may_leave c → was c) → session ≡ record before { held = session.held } → held_of session ≡ [] → now ≡ record mid { taken = now.taken; told = now.told } → IsPut now.taken now.told put → IsAmid was mid before work (record ground { kept = work.changes }) → IsAt may_leave now session work put
-put_at was may_leave mid now before session work ground put less rest none shown is_put at = record {
+put_at : (was may_leave : Image → Type 0) (mid now : Shown) (before session : Session) (work : Work) (basis : Ground) (put : List ℕ) → ((c : Image) → may_leave c → was c) → session ≡ record before { held = session.held } → held_of session ≡ [] → now ≡ record mid { taken = now.taken; told = now.told } → IsPut now.taken now.told put → IsAmid was mid before work (record basis { kept = work.changes }) → IsAt may_leave now session work put
+put_at was may_leave mid now before session work basis put less rest none shown is_put at = record {
   keeps =
       let P : Shown → KeeperState → Type 0 = λ o k. Keeps o.tells o.files may_leave k work.changes work.changes in
       let here = keeps_less mid.tells mid.files may_leave (keeper_of before) work.changes was less at.keeps in
@@ -99,44 +99,44 @@ put_at was may_leave mid now before session work ground put less rest none shown
 }
 
 -- behind a commit
-pub flushed_so : (r : Result (Unit {0}) SessionEnd) (was may_leave : Image → Type 0) (mid now : Shown) (before session : Session) (work : Work) (ground : Ground) → ((c : Image) → may_leave c → was c) → session ≡ record before { held = session.held } → held_of session ≡ [] → now ≡ record mid { taken = now.taken; told = now.told } → HeldPut r now.taken now.told ground.put (held_of before) → IsAmid was mid before work (record ground { kept = work.changes })
-    → Flushed r may_leave now session work ground
-flushed_so (Ok done) was may_leave mid now before session work ground less rest none shown put at =
-    let P : List ℕ → Type 0 = λ l. IsPut now.taken now.told (ground.put ++ l) in
-    put_at was may_leave mid now before session work ground (ground.put ++ ground.held) less rest none shown (subst P at.held put) at
-flushed_so (Err (ends.Write failed)) was may_leave mid now before session work ground less rest none shown put at =
-    let P : List ℕ → Type 0 = λ l. (put.0 < length l) × IsPut now.taken now.told (ground.put ++ take put.0 l) in
+pub flushed_so : (r : Result (Unit {0}) SessionEnd) (was may_leave : Image → Type 0) (mid now : Shown) (before session : Session) (work : Work) (basis : Ground) → ((c : Image) → may_leave c → was c) → session ≡ record before { held = session.held } → held_of session ≡ [] → now ≡ record mid { taken = now.taken; told = now.told } → HeldPut r now.taken now.told basis.put (held_of before) → IsAmid was mid before work (record basis { kept = work.changes })
+    → Flushed r may_leave now session work basis
+flushed_so (Ok done) was may_leave mid now before session work basis less rest none shown put at =
+    let P : List ℕ → Type 0 = λ l. IsPut now.taken now.told (basis.put ++ l) in
+    put_at was may_leave mid now before session work basis (basis.put ++ basis.held) less rest none shown (subst P at.held put) at
+flushed_so (Err (ends.Write failed)) was may_leave mid now before session work basis less rest none shown put at =
+    let P : List ℕ → Type 0 = λ l. (put.0 < length l) × IsPut now.taken now.told (basis.put ++ take put.0 l) in
     let so = subst P at.held (put.1, put.2) in
-    (put.0, so.0, put_at was may_leave mid now before session work ground (ground.put ++ take put.0 ground.held) less rest none shown so.1 at)
-flushed_so (Err ends.Memory) was may_leave mid now before session work ground less rest none shown put at = absurd put
-flushed_so (Err (ends.Disk failed)) was may_leave mid now before session work ground less rest none shown put at = absurd put
-flushed_so (Err (ends.Read failed)) was may_leave mid now before session work ground less rest none shown put at = absurd put
-flushed_so (Err ends.TooLong) was may_leave mid now before session work ground less rest none shown put at = absurd put
-flushed_so (Err (ends.Damaged damage)) was may_leave mid now before session work ground less rest none shown put at = absurd put
+    (put.0, so.0, put_at was may_leave mid now before session work basis (basis.put ++ take put.0 basis.held) less rest none shown so.1 at)
+flushed_so (Err ends.Memory) was may_leave mid now before session work basis less rest none shown put at = absurd put
+flushed_so (Err (ends.Disk failed)) was may_leave mid now before session work basis less rest none shown put at = absurd put
+flushed_so (Err (ends.Read failed)) was may_leave mid now before session work basis less rest none shown put at = absurd put
+flushed_so (Err ends.TooLong) was may_leave mid now before session work basis less rest none shown put at = absurd put
+flushed_so (Err (ends.Damaged damage)) was may_leave mid now before session work basis less rest none shown put at = absurd put
 
 -- the commit before it failed
-pub uncommitted : (end : SessionEnd) (may_leave : Image → Type 0) (now : Shown) (session : Session) (work : Work) (ground : Ground) → Committed {T = Unit {0}} (Err end) may_leave now session work ground → Flushed {T = Unit {0}} (Err end) may_leave now session work ground
-uncommitted ends.Memory may_leave now session work ground h = h
-uncommitted (ends.Disk failed) may_leave now session work ground h = h
-uncommitted (ends.Read failed) may_leave now session work ground h = h
-uncommitted (ends.Write failed) may_leave now session work ground h = absurd h
-uncommitted ends.TooLong may_leave now session work ground h = h
-uncommitted (ends.Damaged damage) may_leave now session work ground h = h
+pub uncommitted : (end : SessionEnd) (may_leave : Image → Type 0) (now : Shown) (session : Session) (work : Work) (basis : Ground) → Committed {T = Unit {0}} (Err end) may_leave now session work basis → Flushed {T = Unit {0}} (Err end) may_leave now session work basis
+uncommitted ends.Memory may_leave now session work basis h = h
+uncommitted (ends.Disk failed) may_leave now session work basis h = h
+uncommitted (ends.Read failed) may_leave now session work basis h = h
+uncommitted (ends.Write failed) may_leave now session work basis h = absurd h
+uncommitted ends.TooLong may_leave now session work basis h = h
+uncommitted (ends.Damaged damage) may_leave now session work basis h = h
 
 -- memory was wanting before it
-pub memory_ends : (end : SessionEnd) (may_leave : Image → Type 0) (now : Shown) (session : Session) (work : Work) (ground : Ground) → Flushed {T = Unit {0}} (Err end) may_leave now session work ground → EndsForMemory end may_leave now session work ground
-memory_ends ends.Memory may_leave now session work ground h = absurd h
-memory_ends (ends.Disk failed) may_leave now session work ground h = h
-memory_ends (ends.Write failed) may_leave now session work ground h = h
-memory_ends (ends.Read failed) may_leave now session work ground h = h
-memory_ends ends.TooLong may_leave now session work ground h = h
-memory_ends (ends.Damaged damage) may_leave now session work ground h = h
+pub memory_ends : (end : SessionEnd) (may_leave : Image → Type 0) (now : Shown) (session : Session) (work : Work) (basis : Ground) → Flushed {T = Unit {0}} (Err end) may_leave now session work basis → EndsForMemory end may_leave now session work basis
+memory_ends ends.Memory may_leave now session work basis h = absurd h
+memory_ends (ends.Disk failed) may_leave now session work basis h = h
+memory_ends (ends.Write failed) may_leave now session work basis h = h
+memory_ends (ends.Read failed) may_leave now session work basis h = h
+memory_ends ends.TooLong may_leave now session work basis h = h
+memory_ends (ends.Damaged damage) may_leave now session work basis h = h
 
 module _ {D : Type 0} (moment : D → ℕ) (left_since : D → ℕ → ℕ → Image → Type 0) where
   -- a commit alone
-  pub commit_last : (old new : D) (work : Work) (ground : Ground) → LeavesOnly moment left_since old new (CommitLeaves work ground) → LeavesOnly moment left_since old new (FlushLeaves work ground)
-  commit_last old new work ground run = weaker moment left_since old new (CommitLeaves work ground) (FlushLeaves work ground) run (commit_flushes work ground)
+  pub commit_last : (old new : D) (work : Work) (basis : Ground) → LeavesOnly moment left_since old new (CommitLeaves work basis) → LeavesOnly moment left_since old new (FlushLeaves work basis)
+  commit_last old new work basis run = weaker moment left_since old new (CommitLeaves work basis) (FlushLeaves work basis) run (commit_flushes work basis)
 
   -- and what was held behind it
-  pub flush_last : (old mid new : D) (work : Work) (ground : Ground) → LeavesOnly moment left_since old mid (CommitLeaves work ground) → LeavesOnly moment left_since mid new (HasKept work.changes (length (ground.put ++ ground.held))) → LeavesOnly moment left_since old new (FlushLeaves work ground)
-  flush_last old mid new work ground first second = joined moment left_since old mid new (FlushLeaves work ground) (HasKept work.changes (length (ground.put ++ ground.held))) (commit_last old mid work ground first) second (λ told c h. inr h)
+  pub flush_last : (old mid new : D) (work : Work) (basis : Ground) → LeavesOnly moment left_since old mid (CommitLeaves work basis) → LeavesOnly moment left_since mid new (HasKept work.changes (length (basis.put ++ basis.held))) → LeavesOnly moment left_since old new (FlushLeaves work basis)
+  flush_last old mid new work basis first second = joined moment left_since old mid new (FlushLeaves work basis) (HasKept work.changes (length (basis.put ++ basis.held))) (commit_last old mid work basis first) second (λ told c h. inr h)

@@ -28,62 +28,62 @@ use Rattle.s80_session.proofs.lemmas.Grounds.{flush_again, more_told, longer}
 -- ---- the end of an item that wasn't worked
 
 -- what ended otherwise than for memory
-pub worked_err : (end : SessionEnd) (may_leave : Image → Type 0) (now : Shown) (session : Session) (was : Was) (work : Work) (ground : Ground) (item : SessionItem) → (end ≡ ends.Memory → ⊥) → Unreplied end may_leave now session work ground item → Worked {T = Unit {0}} (Err end) may_leave now session was work ground item
-worked_err ends.Memory may_leave now session was work ground item other h = absurd (other refl)
-worked_err (ends.Disk failed) may_leave now session was work ground item other h = h
-worked_err (ends.Write failed) may_leave now session was work ground item other h = (h.0, h.1, inl h.2)
-worked_err (ends.Read failed) may_leave now session was work ground item other h = h
-worked_err ends.TooLong may_leave now session was work ground item other h = h
-worked_err (ends.Damaged damage) may_leave now session was work ground item other h = h
+pub worked_err : (end : SessionEnd) (may_leave : Image → Type 0) (now : Shown) (session : Session) (was : Was) (work : Work) (basis : Ground) (item : SessionItem) → (end ≡ ends.Memory → ⊥) → Unreplied end may_leave now session work basis item → Worked {T = Unit {0}} (Err end) may_leave now session was work basis item
+worked_err ends.Memory may_leave now session was work basis item other h = absurd (other refl)
+worked_err (ends.Disk failed) may_leave now session was work basis item other h = h
+worked_err (ends.Write failed) may_leave now session was work basis item other h = (h.0, h.1, inl h.2)
+worked_err (ends.Read failed) may_leave now session was work basis item other h = h
+worked_err ends.TooLong may_leave now session was work basis item other h = h
+worked_err (ends.Damaged damage) may_leave now session was work basis item other h = h
 
 -- for memory: all is as it was, and flushed
-memory_here : (end : SessionEnd) (may_leave : Image → Type 0) (now : Shown) (session : Session) (was : Was) (work : Work) (ground : Ground) (item : SessionItem) → EndsForMemory end may_leave now session work ground → Worked {T = Unit {0}} (Err end) may_leave now session was work ground item
-memory_here ends.Memory may_leave now session was work ground item h = inl h
-memory_here (ends.Disk failed) may_leave now session was work ground item h = inl (lost_among may_leave now ground.put (λ list. (list ≡ ground.kept) ⊎ (list ≡ work.changes)) (λ list. (list ≡ ground.kept) ⊎ IsPast work item list) (λ list. ⊎_elim (λ same. inl same) (λ same. inr (inl same))) h)
-memory_here (ends.Write failed) may_leave now session was work ground item h = (h.0, h.1, inl h.2)
-memory_here (ends.Read failed) may_leave now session was work ground item h = h
-memory_here ends.TooLong may_leave now session was work ground item h = h
-memory_here (ends.Damaged damage) may_leave now session was work ground item h = h
+memory_here : (end : SessionEnd) (may_leave : Image → Type 0) (now : Shown) (session : Session) (was : Was) (work : Work) (basis : Ground) (item : SessionItem) → EndsForMemory end may_leave now session work basis → Worked {T = Unit {0}} (Err end) may_leave now session was work basis item
+memory_here ends.Memory may_leave now session was work basis item h = inl h
+memory_here (ends.Disk failed) may_leave now session was work basis item h = inl (lost_among may_leave now basis.put (λ list. (list ≡ basis.kept) ⊎ (list ≡ work.changes)) (λ list. (list ≡ basis.kept) ⊎ IsPast work item list) (λ list. ⊎_elim (λ same. inl same) (λ same. inr (inl same))) h)
+memory_here (ends.Write failed) may_leave now session was work basis item h = (h.0, h.1, inl h.2)
+memory_here (ends.Read failed) may_leave now session was work basis item h = h
+memory_here ends.TooLong may_leave now session was work basis item h = h
+memory_here (ends.Damaged damage) may_leave now session was work basis item h = h
 
 -- or it was flushed before
-memory_behind : (end : SessionEnd) (may_leave : Image → Type 0) (now : Shown) (session : Session) (was : Was) (work : Work) (ground : Ground) (item : SessionItem) → EndsForMemory end may_leave now session work (flushed work ground) → Worked {T = Unit {0}} (Err end) may_leave now session was work ground item
-memory_behind ends.Memory may_leave now session was work ground item h = inl (let P : List ℕ → Type 0 = λ l. IsAt may_leave now session work l in subst P (append-nil (ground.put ++ ground.held)) h)
-memory_behind (ends.Disk failed) may_leave now session was work ground item h = inr (lost_among may_leave now (ground.put ++ ground.held) (λ list. (list ≡ work.changes) ⊎ (list ≡ work.changes)) (IsPast work item) (λ list. ⊎_elim (λ same. inl same) (λ same. inl same)) h)
-memory_behind (ends.Write failed) may_leave now session was work ground item h = absurd (omega (arith, h.1))
-memory_behind (ends.Read failed) may_leave now session was work ground item h = h
-memory_behind ends.TooLong may_leave now session was work ground item h = h
-memory_behind (ends.Damaged damage) may_leave now session was work ground item h = h
+memory_behind : (end : SessionEnd) (may_leave : Image → Type 0) (now : Shown) (session : Session) (was : Was) (work : Work) (basis : Ground) (item : SessionItem) → EndsForMemory end may_leave now session work (flushed work basis) → Worked {T = Unit {0}} (Err end) may_leave now session was work basis item
+memory_behind ends.Memory may_leave now session was work basis item h = inl (let P : List ℕ → Type 0 = λ l. IsAt may_leave now session work l in subst P (append-nil (basis.put ++ basis.held)) h)
+memory_behind (ends.Disk failed) may_leave now session was work basis item h = inr (lost_among may_leave now (basis.put ++ basis.held) (λ list. (list ≡ work.changes) ⊎ (list ≡ work.changes)) (IsPast work item) (λ list. ⊎_elim (λ same. inl same) (λ same. inl same)) h)
+memory_behind (ends.Write failed) may_leave now session was work basis item h = absurd (omega (arith, h.1))
+memory_behind (ends.Read failed) may_leave now session was work basis item h = h
+memory_behind ends.TooLong may_leave now session was work basis item h = h
+memory_behind (ends.Damaged damage) may_leave now session was work basis item h = h
 
 -- or a doIt was kept that wasn't evaluated
-memory_unevaluated : (end : SessionEnd) (may_leave : Image → Type 0) (now : Shown) (session : Session) (was : Was) (work : Work) (ground : Ground) (item : SessionItem) (text told : List ℕ) (stopped : Bool) → AsksIn work item (evaluates text told stopped) → EndsForMemory end may_leave now session (kept work (evaluates text told stopped)) ground → Worked {T = Unit {0}} (Err end) may_leave now session was work ground item
-memory_unevaluated ends.Memory may_leave now session was work ground item text told stopped asks h = inr (text, told, stopped, asks, h)
-memory_unevaluated (ends.Disk failed) may_leave now session was work ground item text told stopped asks h =
+memory_unevaluated : (end : SessionEnd) (may_leave : Image → Type 0) (now : Shown) (session : Session) (was : Was) (work : Work) (basis : Ground) (item : SessionItem) (text told : List ℕ) (stopped : Bool) → AsksIn work item (evaluates text told stopped) → EndsForMemory end may_leave now session (kept work (evaluates text told stopped)) basis → Worked {T = Unit {0}} (Err end) may_leave now session was work basis item
+memory_unevaluated ends.Memory may_leave now session was work basis item text told stopped asks h = inr (text, told, stopped, asks, h)
+memory_unevaluated (ends.Disk failed) may_leave now session was work basis item text told stopped asks h =
     let w = kept work (evaluates text told stopped) in
-    inl (lost_among may_leave now ground.put (λ list. (list ≡ ground.kept) ⊎ (list ≡ w.changes)) (λ list. (list ≡ ground.kept) ⊎ IsPast work item list) (λ list. ⊎_elim (λ same. inl same) (λ same. inr (inr (evaluates text told stopped, asks, same)))) h)
-memory_unevaluated (ends.Write failed) may_leave now session was work ground item text told stopped asks h = (h.0, h.1, inr (text, told, stopped, asks, h.2))
-memory_unevaluated (ends.Read failed) may_leave now session was work ground item text told stopped asks h = h
-memory_unevaluated ends.TooLong may_leave now session was work ground item text told stopped asks h = h
-memory_unevaluated (ends.Damaged damage) may_leave now session was work ground item text told stopped asks h = h
+    inl (lost_among may_leave now basis.put (λ list. (list ≡ basis.kept) ⊎ (list ≡ w.changes)) (λ list. (list ≡ basis.kept) ⊎ IsPast work item list) (λ list. ⊎_elim (λ same. inl same) (λ same. inr (inr (evaluates text told stopped, asks, same)))) h)
+memory_unevaluated (ends.Write failed) may_leave now session was work basis item text told stopped asks h = (h.0, h.1, inr (text, told, stopped, asks, h.2))
+memory_unevaluated (ends.Read failed) may_leave now session was work basis item text told stopped asks h = h
+memory_unevaluated ends.TooLong may_leave now session was work basis item text told stopped asks h = h
+memory_unevaluated (ends.Damaged damage) may_leave now session was work basis item text told stopped asks h = h
 
-pub worked_memory : (end : SessionEnd) (was_left may_leave : Image → Type 0) (mid now : Shown) (before session : Session) (was : Was) (work : Work) (ground : Ground) (item : SessionItem) → ((w : Work) (g : Ground) → IsAmid was_left mid before w g → EndsForMemory end may_leave now session w g) → Unreplied ends.Memory was_left mid before work ground item → Worked {T = Unit {0}} (Err end) may_leave now session was work ground item
-worked_memory end was_left may_leave mid now before session was work ground item flush (inl (inl here)) = memory_here end may_leave now session was work ground item (flush work ground here)
-worked_memory end was_left may_leave mid now before session was work ground item flush (inl (inr behind)) = memory_behind end may_leave now session was work ground item (flush work (flushed work ground) behind)
-worked_memory end was_left may_leave mid now before session was work ground item flush (inr (text, told, stopped, asks, at)) = memory_unevaluated end may_leave now session was work ground item text told stopped asks (flush (kept work (evaluates text told stopped)) ground at)
+pub worked_memory : (end : SessionEnd) (was_left may_leave : Image → Type 0) (mid now : Shown) (before session : Session) (was : Was) (work : Work) (basis : Ground) (item : SessionItem) → ((w : Work) (g : Ground) → IsAmid was_left mid before w g → EndsForMemory end may_leave now session w g) → Unreplied ends.Memory was_left mid before work basis item → Worked {T = Unit {0}} (Err end) may_leave now session was work basis item
+worked_memory end was_left may_leave mid now before session was work basis item flush (inl (inl here)) = memory_here end may_leave now session was work basis item (flush work basis here)
+worked_memory end was_left may_leave mid now before session was work basis item flush (inl (inr behind)) = memory_behind end may_leave now session was work basis item (flush work (flushed work basis) behind)
+worked_memory end was_left may_leave mid now before session was work basis item flush (inr (text, told, stopped, asks, at)) = memory_unevaluated end may_leave now session was work basis item text told stopped asks (flush (kept work (evaluates text told stopped)) basis at)
 
 -- what a crash leaves while that is flushed
-unevaluated_flush : (work : Work) (ground : Ground) (item : SessionItem) (text told_text : List ℕ) (stopped : Bool) (told : ℕ) (c : Image) → AsksIn work item (evaluates text told_text stopped) → FlushLeaves (kept work (evaluates text told_text stopped)) ground told c → WorkLeaves work ground item told c
-unevaluated_flush work ground item text told_text stopped told c asks (inl h) = inl (inl h)
-unevaluated_flush work ground item text told_text stopped told c asks (inr h) = inr (evaluates text told_text stopped, asks, h)
+unevaluated_flush : (work : Work) (basis : Ground) (item : SessionItem) (text told_text : List ℕ) (stopped : Bool) (told : ℕ) (c : Image) → AsksIn work item (evaluates text told_text stopped) → FlushLeaves (kept work (evaluates text told_text stopped)) basis told c → WorkLeaves work basis item told c
+unevaluated_flush work basis item text told_text stopped told c asks (inl h) = inl (inl h)
+unevaluated_flush work basis item text told_text stopped told c asks (inr h) = inr (evaluates text told_text stopped, asks, h)
 
 module _ {D : Type 0} (moment : D → ℕ) (left_since : D → ℕ → ℕ → Image → Type 0) where
-  pub memory_lasts : (old mid new : D) (was_left : Image → Type 0) (o : Shown) (before : Session) (work : Work) (ground : Ground) (item : SessionItem) → LeavesOnly moment left_since old mid (WorkLeaves work ground item) → ((w : Work) (g : Ground) → IsAmid was_left o before w g → LeavesOnly moment left_since mid new (FlushLeaves w g)) → Unreplied ends.Memory was_left o before work ground item → LeavesOnly moment left_since old new (WorkLeaves work ground item)
-  memory_lasts old mid new was_left o before work ground item first flush (inl (inl here)) = joined moment left_since old mid new (WorkLeaves work ground item) (FlushLeaves work ground) first (flush work ground here) (λ told c h. inl h)
-  memory_lasts old mid new was_left o before work ground item first flush (inl (inr behind)) = joined moment left_since old mid new (WorkLeaves work ground item) (FlushLeaves work (flushed work ground)) first (flush work (flushed work ground) behind) (λ told c h. inl (flush_again work ground told c h))
-  memory_lasts old mid new was_left o before work ground item first flush (inr (text, told_text, stopped, asks, at)) = joined moment left_since old mid new (WorkLeaves work ground item) (FlushLeaves (kept work (evaluates text told_text stopped)) ground) first (flush (kept work (evaluates text told_text stopped)) ground at) (λ told c h. unevaluated_flush work ground item text told_text stopped told c asks h)
+  pub memory_lasts : (old mid new : D) (was_left : Image → Type 0) (o : Shown) (before : Session) (work : Work) (basis : Ground) (item : SessionItem) → LeavesOnly moment left_since old mid (WorkLeaves work basis item) → ((w : Work) (g : Ground) → IsAmid was_left o before w g → LeavesOnly moment left_since mid new (FlushLeaves w g)) → Unreplied ends.Memory was_left o before work basis item → LeavesOnly moment left_since old new (WorkLeaves work basis item)
+  memory_lasts old mid new was_left o before work basis item first flush (inl (inl here)) = joined moment left_since old mid new (WorkLeaves work basis item) (FlushLeaves work basis) first (flush work basis here) (λ told c h. inl h)
+  memory_lasts old mid new was_left o before work basis item first flush (inl (inr behind)) = joined moment left_since old mid new (WorkLeaves work basis item) (FlushLeaves work (flushed work basis)) first (flush work (flushed work basis) behind) (λ told c h. inl (flush_again work basis told c h))
+  memory_lasts old mid new was_left o before work basis item first flush (inr (text, told_text, stopped, asks, at)) = joined moment left_since old mid new (WorkLeaves work basis item) (FlushLeaves (kept work (evaluates text told_text stopped)) basis) first (flush (kept work (evaluates text told_text stopped)) basis at) (λ told c h. unevaluated_flush work basis item text told_text stopped told c asks h)
 
 -- an item that was worked and whose reply is held
-pub worked_ok : (may_leave : Image → Type 0) (now : Shown) (session : Session) (was : Was) (work : Work) (ground : Ground) (item : SessionItem) → ItemWorked {T = Unit {0}} (Ok tt) may_leave now session was work ground item → Worked {T = Unit {0}} (Ok tt) may_leave now session was work ground item
-worked_ok may_leave now session was work ground item h = h
+pub worked_ok : (may_leave : Image → Type 0) (now : Shown) (session : Session) (was : Was) (work : Work) (basis : Ground) (item : SessionItem) → ItemWorked {T = Unit {0}} (Ok tt) may_leave now session was work basis item → Worked {T = Unit {0}} (Ok tt) may_leave now session was work basis item
+worked_ok may_leave now session was work basis item h = h
 
 -- ---- a step
 
@@ -149,13 +149,13 @@ module _ {D : Type 0} (moment : D → ℕ) (left_since : D → ℕ → ℕ → I
   pub step_lasts : (old mid new : D) (was_left : Image → Type 0) (o : Shown) (before : Session) (was : Was) (work : Work) (put : List ℕ) (item : SessionItem) → LeavesOnly moment left_since old mid (WorkLeaves work (at_rest work put) item) → ((w : Work) (g : Ground) → IsAmid was_left o before w g → LeavesOnly moment left_since mid new (FlushLeaves w g)) → Worked {T = Unit {0}} (Ok tt) was_left o before was work (at_rest work put) item
       → LeavesOnly moment left_since old new (StepLeaves work put item)
   step_lasts old mid new was_left o before was work put item first flush (ask, asks, troubled, run, inl here) =
-      let ground : Ground = holding (at_rest work put) (reply_text (reply_to work ask)) in
-      joined moment left_since old mid new (StepLeaves work put item) (FlushLeaves (work_after work ask) ground) (work_lasts old mid work put item first) (flush (work_after work ask) ground here) (λ told c h. flush_steps work put item ask told c asks h)
+      let basis : Ground = holding (at_rest work put) (reply_text (reply_to work ask)) in
+      joined moment left_since old mid new (StepLeaves work put item) (FlushLeaves (work_after work ask) basis) (work_lasts old mid work put item first) (flush (work_after work ask) basis here) (λ told c h. flush_steps work put item ask told c asks h)
   step_lasts old mid new was_left o before was work put item first flush (ask, asks, troubled, run, inr behind) =
       let line : List ℕ = reply_text (reply_to work ask) in
-      let ground : List ℕ → Ground = λ l. record { kept = (work_after work ask).changes; put = l; held = line } in
-      let Q : List ℕ → Type 0 = λ l. LeavesOnly moment left_since mid new (FlushLeaves (work_after work ask) (ground l)) in
-      joined moment left_since old mid new (StepLeaves work put item) (FlushLeaves (work_after work ask) (ground put)) (work_lasts old mid work put item first) (subst Q (append-nil put) (flush (work_after work ask) (holding (flushed (work_after work ask) (at_rest work put)) line) behind)) (λ told c h. put_steps work put item ask told c asks h)
+      let basis : List ℕ → Ground = λ l. record { kept = (work_after work ask).changes; put = l; held = line } in
+      let Q : List ℕ → Type 0 = λ l. LeavesOnly moment left_since mid new (FlushLeaves (work_after work ask) (basis l)) in
+      joined moment left_since old mid new (StepLeaves work put item) (FlushLeaves (work_after work ask) (basis put)) (work_lasts old mid work put item first) (subst Q (append-nil put) (flush (work_after work ask) (holding (flushed (work_after work ask) (at_rest work put)) line) behind)) (λ told c h. put_steps work put item ask told c asks h)
 
 -- ---- trouble
 

@@ -54,15 +54,15 @@ behind_done work before asks = record {
   held = append-nil (before ++ replies work asks);
 }
 
-module _ (work : Work) (before : List ℕ) (asks : List Ask) (ask : Ask) (ground : Ground) (b : IsBehind work before asks ground) where
+module _ (work : Work) (before : List ℕ) (asks : List Ask) (ask : Ask) (basis : Ground) (b : IsBehind work before asks basis) where
   abbrev line : List ℕ
   line = reply_text (reply_to (work_after_all work asks) ask)
 
-  put_more : (ground.put ++ ground.held) ++ line ≡ before ++ replies work (asks ++ ask ∷ [])
+  put_more : (basis.put ++ basis.held) ++ line ≡ before ++ replies work (asks ++ ask ∷ [])
   put_more = ap (λ l. l ++ line) b.held ∙ append_assoc before (replies work asks) line ∙ ap (λ l. before ++ l) (sym (replies_more work asks ask))
 
   -- a reply more is held
-  behind_held : IsBehind work before (asks ++ ask ∷ []) (holding ground line)
+  behind_held : IsBehind work before (asks ++ ask ∷ []) (holding basis line)
   behind_held = record {
     answered = b.answered;
     more = b.more;
@@ -70,11 +70,11 @@ module _ (work : Work) (before : List ℕ) (asks : List Ask) (ask : Ask) (ground
     all = ap (λ l. l ++ ask ∷ []) b.all ∙ append_assoc (b.answered ++ b.more) b.pending (ask ∷ []);
     kept = b.kept;
     put = b.put;
-    held = sym (append_assoc ground.put ground.held line) ∙ put_more;
+    held = sym (append_assoc basis.put basis.held line) ∙ put_more;
   }
 
   -- behind a flush
-  behind_flushed : IsBehind work before (asks ++ ask ∷ []) (holding (at_rest (work_after (work_after_all work asks) ask) (ground.put ++ ground.held)) line)
+  behind_flushed : IsBehind work before (asks ++ ask ∷ []) (holding (at_rest (work_after (work_after_all work asks) ask) (basis.put ++ basis.held)) line)
   behind_flushed = record {
     answered = asks;
     more = ask ∷ [];
@@ -86,13 +86,13 @@ module _ (work : Work) (before : List ℕ) (asks : List Ask) (ask : Ask) (ground
   }
 
   -- one ask more was worked, and its reply is held
-  pub stands_more : (may_leave : Image → Type 0) (now : Shown) (session : Session) → Holds may_leave now session (work_after (work_after_all work asks) ask) ground line
+  pub stands_more : (may_leave : Image → Type 0) (now : Shown) (session : Session) → Holds may_leave now session (work_after (work_after_all work asks) ask) basis line
       → (g : Ground) × IsBehind work before (asks ++ ask ∷ []) g × IsAmid may_leave now session (work_after_all work (asks ++ ask ∷ [])) g
   stands_more may_leave now session (inl at) =
-      let P : Work → Type 0 = λ w. IsAmid may_leave now session w (holding ground line) in
-      (holding ground line, behind_held, subst P (sym (work_after_more work asks ask)) at)
+      let P : Work → Type 0 = λ w. IsAmid may_leave now session w (holding basis line) in
+      (holding basis line, behind_held, subst P (sym (work_after_more work asks ask)) at)
   stands_more may_leave now session (inr at) =
-      let g = holding (at_rest (work_after (work_after_all work asks) ask) (ground.put ++ ground.held)) line in
+      let g = holding (at_rest (work_after (work_after_all work asks) ask) (basis.put ++ basis.held)) line in
       let P : Work → Type 0 = λ w. IsAmid may_leave now session w g in
       (g, behind_flushed, subst P (sym (work_after_more work asks ask)) at)
 
@@ -110,7 +110,7 @@ part_put before answered all put held count put_is held_is short =
 abbrev pub Leaves : (List Ask → Type 0) → Work → List ℕ → ℕ → Image → Type 0
 Leaves Begins work before told c = (asks : List Ask) × Begins asks × HasKept (list_after_all work asks) (length (before ++ replies work asks)) told c
 
-module _ (Begins : List Ask → Type 0) (fronts : (first more : List Ask) → Begins (first ++ more) → Begins first) (work : Work) (before : List ℕ) (asks : List Ask) (ground : Ground) (begins : Begins asks) (b : IsBehind work before asks ground) where
+module _ (Begins : List Ask → Type 0) (fronts : (first more : List Ask) → Begins (first ++ more) → Begins first) (work : Work) (before : List ℕ) (asks : List Ask) (basis : Ground) (begins : Begins asks) (b : IsBehind work before asks basis) where
   begins_kept : Begins (b.answered ++ b.more)
   begins_kept = fronts (b.answered ++ b.more) b.pending (subst Begins b.all begins)
 
@@ -124,36 +124,36 @@ module _ (Begins : List Ask → Type 0) (fronts : (first more : List Ask) → Be
       let P : List Change → Type 0 = λ l. ReadsFor now.tells now.files may_leave l in
       (first, more, begin, record { taken = taken ∙ ap Some put_is; reads = subst P list_is reads })
 
-  lost_flush : (may_leave : Image → Type 0) (now : Shown) → IsLost may_leave now ground.put (λ list. (list ≡ ground.kept) ⊎ (list ≡ list_after_all work asks)) → (x : List Ask) × (y : List Ask) × Begins (x ++ y) × IsLostBehind may_leave now work before x y
+  lost_flush : (may_leave : Image → Type 0) (now : Shown) → IsLost may_leave now basis.put (λ list. (list ≡ basis.kept) ⊎ (list ≡ list_after_all work asks)) → (x : List Ask) × (y : List Ask) × Begins (x ++ y) × IsLostBehind may_leave now work before x y
   lost_flush may_leave now h =
-      ⊎_elim (λ e. lost_at may_leave now ground.put h.list b.answered b.more h.taken h.reads b.put (e ∙ b.kept) begins_kept)
-      (λ e. lost_at may_leave now ground.put h.list b.answered (b.more ++ b.pending) h.taken h.reads b.put (e ∙ ap (list_after_all work) behind_all) (subst Begins behind_all begins))
+      ⊎_elim (λ e. lost_at may_leave now basis.put h.list b.answered b.more h.taken h.reads b.put (e ∙ b.kept) begins_kept)
+      (λ e. lost_at may_leave now basis.put h.list b.answered (b.more ++ b.pending) h.taken h.reads b.put (e ∙ ap (list_after_all work) behind_all) (subst Begins behind_all begins))
       h.is
 
   -- the output failed within the replies that were held
-  part_broke : (may_leave : Image → Type 0) (now : Shown) (session : Session) (count : ℕ) → count < length ground.held → IsAt may_leave now session (work_after_all work asks) (ground.put ++ take count ground.held)
+  part_broke : (may_leave : Image → Type 0) (now : Shown) (session : Session) (count : ℕ) → count < length basis.held → IsAt may_leave now session (work_after_all work asks) (basis.put ++ take count basis.held)
       → (x : List Ask) × (n : ℕ) × (n < length (replies work x)) × Begins x × IsAt may_leave now session (work_after_all work x) (before ++ take n (replies work x))
   part_broke may_leave now session count short at =
-      let part = part_put before (replies work b.answered) (replies work asks) ground.put ground.held count b.put b.held short in
+      let part = part_put before (replies work b.answered) (replies work asks) basis.put basis.held count b.put b.held short in
       let P : List ℕ → Type 0 = λ l. IsAt may_leave now session (work_after_all work asks) l in
       (asks, length (replies work b.answered) + count, part.1, begins, subst P part.0 at)
 
   -- and so it did behind a doIt that was kept
-  part_kept : (may_leave : Image → Type 0) (now : Shown) (session : Session) (ask : Ask) (count : ℕ) → count < length ground.held → Begins (asks ++ ask ∷ []) → IsAt may_leave now session (work_after (work_after_all work asks) ask) (ground.put ++ take count ground.held)
+  part_kept : (may_leave : Image → Type 0) (now : Shown) (session : Session) (ask : Ask) (count : ℕ) → count < length basis.held → Begins (asks ++ ask ∷ []) → IsAt may_leave now session (work_after (work_after_all work asks) ask) (basis.put ++ take count basis.held)
       → (x : List Ask) × (n : ℕ) × (n < length (replies work x)) × Begins x × IsAt may_leave now session (work_after_all work x) (before ++ take n (replies work x))
   part_kept may_leave now session ask count short begin at =
       let n = length (replies work b.answered) + count in
       let line = reply_text (reply_to (work_after_all work asks) ask) in
-      let part = part_put before (replies work b.answered) (replies work asks) ground.put ground.held count b.put b.held short in
+      let part = part_put before (replies work b.answered) (replies work asks) basis.put basis.held count b.put b.held short in
       let same : take n (replies work asks) ≡ take n (replies work (asks ++ ask ∷ [])) =
       sym (take-append-le n (replies work asks) line (omega (arith, part.1))) ∙ ap (take n) (sym (replies_more work asks ask)) in
       let size : length (replies work (asks ++ ask ∷ [])) ≡ length (replies work asks) + length line = ap length (replies_more work asks ask) ∙ length-append (replies work asks) line in
       let P : List ℕ → Type 0 = λ l. IsAt may_leave now session (work_after_all work (asks ++ ask ∷ [])) l in
-      let Q : Work → Type 0 = λ w. IsAt may_leave now session w (ground.put ++ take count ground.held) in
+      let Q : Work → Type 0 = λ w. IsAt may_leave now session w (basis.put ++ take count basis.held) in
       (asks ++ ask ∷ [], n, omega (arith, part.1, size), begin, subst P (part.0 ∙ ap (λ l. before ++ l) same) (subst Q (sym (work_after_more work asks ask)) at))
 
   -- by a flush
-  pub broke_by_flush : (T : Type 0) (end : SessionEnd) (may_leave : Image → Type 0) (now : Shown) (session : Session) → Flushed {T = T} (Err end) may_leave now session (work_after_all work asks) ground → BreaksOff end may_leave now session Begins work before
+  pub broke_by_flush : (T : Type 0) (end : SessionEnd) (may_leave : Image → Type 0) (now : Shown) (session : Session) → Flushed {T = T} (Err end) may_leave now session (work_after_all work asks) basis → BreaksOff end may_leave now session Begins work before
   broke_by_flush T (ends.Disk failed) may_leave now session h = lost_flush may_leave now h
   broke_by_flush T (ends.Write failed) may_leave now session h = part_broke may_leave now session h.0 h.1 h.2
   broke_by_flush T ends.Memory may_leave now session h = absurd h
@@ -162,7 +162,7 @@ module _ (Begins : List Ask → Type 0) (fronts : (first more : List Ask) → Be
   broke_by_flush T ends.TooLong may_leave now session h = absurd h
 
   -- for want of memory
-  pub broke_for_memory : (end : SessionEnd) (may_leave : Image → Type 0) (now : Shown) (session : Session) → EndsForMemory end may_leave now session (work_after_all work asks) ground → BreaksOff end may_leave now session Begins work before
+  pub broke_for_memory : (end : SessionEnd) (may_leave : Image → Type 0) (now : Shown) (session : Session) → EndsForMemory end may_leave now session (work_after_all work asks) basis → BreaksOff end may_leave now session Begins work before
   broke_for_memory ends.Memory may_leave now session at =
       let P : List ℕ → Type 0 = λ l. IsAt may_leave now session (work_after_all work asks) l in
       inl (asks, begins, subst P b.held at)
@@ -172,13 +172,13 @@ module _ (Begins : List Ask → Type 0) (fronts : (first more : List Ask) → Be
   broke_for_memory (ends.Damaged damage) may_leave now session h = absurd h
   broke_for_memory ends.TooLong may_leave now session h = absurd h
 
-  -- what a crash leaves of the ground, and while it is flushed
-  pub ground_leaves : (told : ℕ) (c : Image) → HasKept ground.kept (length ground.put) told c → Leaves Begins work before told c
+  -- what a crash leaves of the basis, and while it is flushed
+  pub ground_leaves : (told : ℕ) (c : Image) → HasKept basis.kept (length basis.put) told c → Leaves Begins work before told c
   ground_leaves told c h =
       let P : List Change → Type 0 = λ l. FilesStandFor c l in
       (b.answered ++ b.more, begins_kept, record { no_more = omega (arith, h.no_more, ap length b.put, put_longer work before b.answered b.more); files = subst P b.kept h.files })
 
-  pub flush_leaves : (told : ℕ) (c : Image) → FlushLeaves (work_after_all work asks) ground told c → Leaves Begins work before told c
+  pub flush_leaves : (told : ℕ) (c : Image) → FlushLeaves (work_after_all work asks) basis told c → Leaves Begins work before told c
   flush_leaves told c (inl h) = ground_leaves told c h
   flush_leaves told c (inr h) = (asks, begins, record { no_more = omega (arith, h.no_more, ap length b.held); files = h.files })
 
@@ -191,14 +191,14 @@ module _ (Begins : List Ask → Type 0) (fronts : (first more : List Ask) → Be
         let behind : list ≡ list_after_all work (asks ++ ask ∷ []) = e ∙ ap (λ (w : Work). w.changes) (sym (work_after_more work asks ask)) in
         lost_at may_leave now put list first (more ++ ask ∷ []) taken reads put_is (behind ∙ ap (list_after_all work) longer) (subst Begins longer (grows ask one))
 
-    lost_work : (may_leave : Image → Type 0) (now : Shown) → IsLostAt may_leave now (work_after_all work asks) ground item → (x : List Ask) × (y : List Ask) × Begins (x ++ y) × IsLostBehind may_leave now work before x y
+    lost_work : (may_leave : Image → Type 0) (now : Shown) → IsLostAt may_leave now (work_after_all work asks) basis item → (x : List Ask) × (y : List Ask) × Begins (x ++ y) × IsLostBehind may_leave now work before x y
     lost_work may_leave now (inl h) =
-        ⊎_elim (λ e. lost_at may_leave now ground.put h.list b.answered b.more h.taken h.reads b.put (e ∙ b.kept) begins_kept)
-        (λ past. lost_past may_leave now ground.put h.list b.answered (b.more ++ b.pending) behind_all h.taken h.reads b.put past) h.is
-    lost_work may_leave now (inr h) = lost_past may_leave now (ground.put ++ ground.held) h.list asks [] (sym (append-nil asks)) h.taken h.reads b.held h.is
+        ⊎_elim (λ e. lost_at may_leave now basis.put h.list b.answered b.more h.taken h.reads b.put (e ∙ b.kept) begins_kept)
+        (λ past. lost_past may_leave now basis.put h.list b.answered (b.more ++ b.pending) behind_all h.taken h.reads b.put past) h.is
+    lost_work may_leave now (inr h) = lost_past may_leave now (basis.put ++ basis.held) h.list asks [] (sym (append-nil asks)) h.taken h.reads b.held h.is
 
     -- by the work on an item
-    pub broke_by_work : (T : Type 0) (end : SessionEnd) (may_leave : Image → Type 0) (now : Shown) (session : Session) (was : Was) → Worked {T = T} (Err end) may_leave now session was (work_after_all work asks) ground item → BreaksOff end may_leave now session Begins work before
+    pub broke_by_work : (T : Type 0) (end : SessionEnd) (may_leave : Image → Type 0) (now : Shown) (session : Session) (was : Was) → Worked {T = T} (Err end) may_leave now session was (work_after_all work asks) basis item → BreaksOff end may_leave now session Begins work before
     broke_by_work T ends.Memory may_leave now session was (inl at) =
         let P : List ℕ → Type 0 = λ l. IsAt may_leave now session (work_after_all work asks) l in
         inl (asks, begins, subst P b.held at)
@@ -214,7 +214,7 @@ module _ (Begins : List Ask → Type 0) (fronts : (first more : List Ask) → Be
     broke_by_work T ends.TooLong may_leave now session was h = absurd h
 
     -- what a crash leaves while an item is worked
-    pub work_leaves : (told : ℕ) (c : Image) → WorkLeaves (work_after_all work asks) ground item told c → Leaves Begins work before told c
+    pub work_leaves : (told : ℕ) (c : Image) → WorkLeaves (work_after_all work asks) basis item told c → Leaves Begins work before told c
     work_leaves told c (inl h) = flush_leaves told c h
     work_leaves told c (inr (ask, one, h)) =
         let P : Work → Type 0 = λ w. FilesStandFor c w.changes in

@@ -41,9 +41,9 @@ use Rattle.s80_session.proofs.Stepping.{head_lists, IsStaying}
 -- ---- what else a session holds is no matter
 
 -- a session with the same keeper, section and budget, and as much held
-pub amid_alike : (may_leave : Image → Type 0) (now : Shown) (mid session : Session) (work : Work) (ground : Ground) → keeper_of session ≡ keeper_of mid → section_of session ≡ section_of mid → budget_of session ≡ budget_of mid → held_of session ≡ held_of mid → IsAmid may_leave now mid work ground → IsAmid may_leave now session work ground
-amid_alike may_leave now mid session work ground keeper section budget held h = record {
-  keeps = let P : KeeperState → Type 0 = λ k. Keeps now.tells now.files may_leave k ground.kept work.changes in subst P (sym keeper) h.keeps;
+pub amid_alike : (may_leave : Image → Type 0) (now : Shown) (mid session : Session) (work : Work) (basis : Ground) → keeper_of session ≡ keeper_of mid → section_of session ≡ section_of mid → budget_of session ≡ budget_of mid → held_of session ≡ held_of mid → IsAmid may_leave now mid work basis → IsAmid may_leave now session work basis
+amid_alike may_leave now mid session work basis keeper section budget held h = record {
+  keeps = let P : KeeperState → Type 0 = λ k. Keeps now.tells now.files may_leave k basis.kept work.changes in subst P (sym keeper) h.keeps;
   section = section ∙ h.section;
   brief = h.brief;
   budget = budget ∙ h.budget;
@@ -54,11 +54,11 @@ amid_alike may_leave now mid session work ground keeper section budget held h = 
 
 -- ---- the reply is held, and the section entered
 
--- what becomes of a session on its ground
+-- what becomes of a session on its basis
 module _ (may_leave : Image → Type 0) (now : Shown) (mid session : Session) (work : Work) (item : SessionItem) (answer : Answer) (keeper : keeper_of session ≡ keeper_of mid) (budget : budget_of session ≡ budget_of mid) (section : section_of session ≡ section_or answer.section (section_of mid)) (held : held_of session ≡ held_of mid ++ reply_text answer.reply) where
-  held_on : (ground : Ground) (ask : Ask) → AsksIn work item ask → IsAnswer work ask answer → IsAmid may_leave now mid (staying work ask) ground → IsAmid may_leave now session (work_after work ask) (holding ground (reply_text (reply_to work ask)))
-  held_on ground ask asks is h = record {
-    keeps = let P : KeeperState → Type 0 = λ k. Keeps now.tells now.files may_leave k ground.kept (work_after work ask).changes in subst P (sym keeper) h.keeps;
+  held_on : (basis : Ground) (ask : Ask) → AsksIn work item ask → IsAnswer work ask answer → IsAmid may_leave now mid (staying work ask) basis → IsAmid may_leave now session (work_after work ask) (holding basis (reply_text (reply_to work ask)))
+  held_on basis ask asks is h = record {
+    keeps = let P : KeeperState → Type 0 = λ k. Keeps now.tells now.files may_leave k basis.kept (work_after work ask).changes in subst P (sym keeper) h.keeps;
     section = section ∙ ap (section_or answer.section) h.section ∙ is.1;
     brief = brief_after work item ask asks.0 h.brief;
     budget = budget ∙ h.budget;
@@ -68,14 +68,14 @@ module _ (may_leave : Image → Type 0) (now : Shown) (mid session : Session) (w
   }
 
   -- an item that was worked
-  pub item_held : (was : Was) (ground : Ground) → troubled_of mid ≡ was.troubled → troubled_of session ≡ (troubled_of mid || is_trouble answer.reply) → last_run_of session ≡ last_run_of mid → Answers (Ok answer) may_leave now mid was work ground item → ItemWorked {T = Unit {0}} (Ok tt) may_leave now session was work ground item
-  item_held was ground calm troubled run (ask, asks, is, behind, goes) =
+  pub item_held : (was : Was) (basis : Ground) → troubled_of mid ≡ was.troubled → troubled_of session ≡ (troubled_of mid || is_trouble answer.reply) → last_run_of session ≡ last_run_of mid → Answers (Ok answer) may_leave now mid was work basis item → ItemWorked {T = Unit {0}} (Ok tt) may_leave now session was work basis item
+  item_held was basis calm troubled run (ask, asks, is, behind, goes) =
       let P : Option RanValue → Type 0 = λ o. RunBehind work ask was.last_run o in (
         ask,
         asks,
         troubled ∙ (λ i. calm i || is_trouble (is.0 i)),
         subst P (sym run) behind,
-        ⊎_elim (λ here. inl (held_on ground ask asks is here)) (λ flushed_here. inr (held_on (flushed (work_after work ask) ground) ask asks is flushed_here)) goes,
+        ⊎_elim (λ here. inl (held_on basis ask asks is here)) (λ flushed_here. inr (held_on (flushed (work_after work ask) basis) ask asks is flushed_here)) goes,
       )
 
 -- and what is held
@@ -157,11 +157,11 @@ item_stays work Unended ask reply room asks is has lacks = unheld_stays work ask
 item_stays work (Query query) ask reply room asks is has lacks = unheld_stays work ask reply room is has lacks
 
 -- so all goes on as if the item weren't there
-pub unheld : (may_leave : Image → Type 0) (now : Shown) (mid session : Session) (was : Was) (work : Work) (ground : Ground) (item : SessionItem) (answer : Answer) (room : ℕ) → keeper_of session ≡ keeper_of mid → section_of session ≡ section_of mid → budget_of session ≡ budget_of mid → held_of session ≡ held_of mid → HasRoomFor item answer.reply room → LacksRoom answer.reply room → Answers (Ok answer) may_leave now mid was work ground item
-    → GoesOn may_leave now session work ground
-unheld may_leave now mid session was work ground item answer room keeper section budget held has lacks (ask, asks, is, behind, goes) =
-    let P : Work → Type 0 = λ w. GoesOn may_leave now session w ground in
-    subst P (item_stays work item ask answer.reply room asks is.0 has lacks) (⊎_elim (λ here. inl (amid_alike may_leave now mid session (staying work ask) ground keeper section budget held here)) (λ flushed_here. inr (amid_alike may_leave now mid session (staying work ask) (flushed (staying work ask) ground) keeper section budget held flushed_here)) goes)
+pub unheld : (may_leave : Image → Type 0) (now : Shown) (mid session : Session) (was : Was) (work : Work) (basis : Ground) (item : SessionItem) (answer : Answer) (room : ℕ) → keeper_of session ≡ keeper_of mid → section_of session ≡ section_of mid → budget_of session ≡ budget_of mid → held_of session ≡ held_of mid → HasRoomFor item answer.reply room → LacksRoom answer.reply room → Answers (Ok answer) may_leave now mid was work basis item
+    → GoesOn may_leave now session work basis
+unheld may_leave now mid session was work basis item answer room keeper section budget held has lacks (ask, asks, is, behind, goes) =
+    let P : Work → Type 0 = λ w. GoesOn may_leave now session w basis in
+    subst P (item_stays work item ask answer.reply room asks is.0 has lacks) (⊎_elim (λ here. inl (amid_alike may_leave now mid session (staying work ask) basis keeper section budget held here)) (λ flushed_here. inr (amid_alike may_leave now mid session (staying work ask) (flushed (staying work ask) basis) keeper section budget held flushed_here)) goes)
 
 -- and the last run is the one before
 evaluation_held : (reply : Reply) (room : ℕ) → HasRoom reply room → LacksRoom reply room → IsEvaluation reply → ⊥

@@ -85,47 +85,47 @@ note_lawful = (note_plain, no_form_text snapshot_note nothing note_tree no_form)
 -- ---- what keeping it leaves
 
 -- the flush before it failed
-pub flush_unnoted : (end : SessionEnd) (may_leave : Image → Type 0) (now : Shown) (session : Session) (work : Work) (ground : Ground) (item : SessionItem) → Flushed {T = Unit {0}} (Err end) may_leave now session work ground → Noted (Err end) may_leave now session work ground item
-flush_unnoted ends.Memory may_leave now session work ground item h = absurd h
-flush_unnoted (ends.Disk failed) may_leave now session work ground item h = inl (lost_among may_leave now ground.put (λ list. (list ≡ ground.kept) ⊎ (list ≡ work.changes)) (λ list. (list ≡ ground.kept) ⊎ IsPast work item list) (λ list. ⊎_elim (λ same. inl same) (λ same. inr (inl same))) h)
-flush_unnoted (ends.Write failed) may_leave now session work ground item h = h
-flush_unnoted (ends.Read failed) may_leave now session work ground item h = h
-flush_unnoted ends.TooLong may_leave now session work ground item h = h
-flush_unnoted (ends.Damaged damage) may_leave now session work ground item h = h
+pub flush_unnoted : (end : SessionEnd) (may_leave : Image → Type 0) (now : Shown) (session : Session) (work : Work) (basis : Ground) (item : SessionItem) → Flushed {T = Unit {0}} (Err end) may_leave now session work basis → Noted (Err end) may_leave now session work basis item
+flush_unnoted ends.Memory may_leave now session work basis item h = absurd h
+flush_unnoted (ends.Disk failed) may_leave now session work basis item h = inl (lost_among may_leave now basis.put (λ list. (list ≡ basis.kept) ⊎ (list ≡ work.changes)) (λ list. (list ≡ basis.kept) ⊎ IsPast work item list) (λ list. ⊎_elim (λ same. inl same) (λ same. inr (inl same))) h)
+flush_unnoted (ends.Write failed) may_leave now session work basis item h = h
+flush_unnoted (ends.Read failed) may_leave now session work basis item h = h
+flush_unnoted ends.TooLong may_leave now session work basis item h = h
+flush_unnoted (ends.Damaged damage) may_leave now session work basis item h = h
 
 -- it wasn't kept
-pub unkept_unnoted : (end : SessionEnd) (may_leave : Image → Type 0) (now : Shown) (session : Session) (work : Work) (ground : Ground) (item : SessionItem) → Unworked end may_leave now session work (flushed work ground) → Noted (Err end) may_leave now session work ground item
-unkept_unnoted ends.Memory may_leave now session work ground item h = inr h
-unkept_unnoted (ends.Disk failed) may_leave now session work ground item h = inr (lost_among may_leave now (ground.put ++ ground.held) (λ list. list ≡ work.changes) (IsPast work item) (λ list same. inl same) h)
-unkept_unnoted (ends.Write failed) may_leave now session work ground item h = absurd h
-unkept_unnoted (ends.Read failed) may_leave now session work ground item h = h
-unkept_unnoted ends.TooLong may_leave now session work ground item h = h
-unkept_unnoted (ends.Damaged damage) may_leave now session work ground item h = h
+pub unkept_unnoted : (end : SessionEnd) (may_leave : Image → Type 0) (now : Shown) (session : Session) (work : Work) (basis : Ground) (item : SessionItem) → Unworked end may_leave now session work (flushed work basis) → Noted (Err end) may_leave now session work basis item
+unkept_unnoted ends.Memory may_leave now session work basis item h = inr h
+unkept_unnoted (ends.Disk failed) may_leave now session work basis item h = inr (lost_among may_leave now (basis.put ++ basis.held) (λ list. list ≡ work.changes) (IsPast work item) (λ list same. inl same) h)
+unkept_unnoted (ends.Write failed) may_leave now session work basis item h = absurd h
+unkept_unnoted (ends.Read failed) may_leave now session work basis item h = h
+unkept_unnoted ends.TooLong may_leave now session work basis item h = h
+unkept_unnoted (ends.Damaged damage) may_leave now session work basis item h = h
 
 -- or it wasn't committed
-pub uncommitted_unnoted : (end : SessionEnd) (may_leave : Image → Type 0) (now : Shown) (session : Session) (work : Work) (ground : Ground) (item : SessionItem) → Asks item (adds (DoIt snapshot_note)) → Committed {T = Unit {0}} (Err end) may_leave now session (adding work (DoIt snapshot_note)) (flushed work ground) → Noted (Err end) may_leave now session work ground item
-uncommitted_unnoted (ends.Disk failed) may_leave now session work ground item asks h =
+pub uncommitted_unnoted : (end : SessionEnd) (may_leave : Image → Type 0) (now : Shown) (session : Session) (work : Work) (basis : Ground) (item : SessionItem) → Asks item (adds (DoIt snapshot_note)) → Committed {T = Unit {0}} (Err end) may_leave now session (adding work (DoIt snapshot_note)) (flushed work basis) → Noted (Err end) may_leave now session work basis item
+uncommitted_unnoted (ends.Disk failed) may_leave now session work basis item asks h =
     let w : Work = adding work (DoIt snapshot_note) in
-    inr (lost_among may_leave now (ground.put ++ ground.held) (λ list. (list ≡ work.changes) ⊎ (list ≡ w.changes)) (IsPast work item) (λ list. ⊎_elim (λ same. inl same) (λ same. inr (adds (DoIt snapshot_note), (asks, tt), same))) h)
-uncommitted_unnoted ends.Memory may_leave now session work ground item asks h = absurd h
-uncommitted_unnoted (ends.Write failed) may_leave now session work ground item asks h = absurd h
-uncommitted_unnoted (ends.Read failed) may_leave now session work ground item asks h = h
-uncommitted_unnoted ends.TooLong may_leave now session work ground item asks h = h
-uncommitted_unnoted (ends.Damaged damage) may_leave now session work ground item asks h = h
+    inr (lost_among may_leave now (basis.put ++ basis.held) (λ list. (list ≡ work.changes) ⊎ (list ≡ w.changes)) (IsPast work item) (λ list. ⊎_elim (λ same. inl same) (λ same. inr (adds (DoIt snapshot_note), (asks, tt), same))) h)
+uncommitted_unnoted ends.Memory may_leave now session work basis item asks h = absurd h
+uncommitted_unnoted (ends.Write failed) may_leave now session work basis item asks h = absurd h
+uncommitted_unnoted (ends.Read failed) may_leave now session work basis item asks h = h
+uncommitted_unnoted ends.TooLong may_leave now session work basis item asks h = h
+uncommitted_unnoted (ends.Damaged damage) may_leave now session work basis item asks h = h
 
 -- what a crash leaves while it is committed
-commit_works : (work : Work) (ground : Ground) (item : SessionItem) (told : ℕ) (c : Image) → Asks item (adds (DoIt snapshot_note)) → CommitLeaves (adding work (DoIt snapshot_note)) (flushed work ground) told c → WorkLeaves work (flushed work ground) item told c
-commit_works work ground item told c asks (inl h) = inl (inl h)
-commit_works work ground item told c asks (inr h) =
+commit_works : (work : Work) (basis : Ground) (item : SessionItem) (told : ℕ) (c : Image) → Asks item (adds (DoIt snapshot_note)) → CommitLeaves (adding work (DoIt snapshot_note)) (flushed work basis) told c → WorkLeaves work (flushed work basis) item told c
+commit_works work basis item told c asks (inl h) = inl (inl h)
+commit_works work basis item told c asks (inr h) =
     let w : Work = adding work (DoIt snapshot_note) in
     let P : List ℕ → Type 0 = λ l. HasKept w.changes (length l) told c in
-    inr (adds (DoIt snapshot_note), (asks, tt), subst P (sym (append-nil (ground.put ++ ground.held))) h)
+    inr (adds (DoIt snapshot_note), (asks, tt), subst P (sym (append-nil (basis.put ++ basis.held))) h)
 
 module _ {D : Type 0} (moment : D → ℕ) (left_since : D → ℕ → ℕ → Image → Type 0) where
   -- behind a flush
-  pub keeping_lasts : (old mid new : D) (work : Work) (ground : Ground) (item : SessionItem) → LeavesOnly moment left_since old mid (FlushLeaves work ground) → LeavesOnly moment left_since mid new (HasKept work.changes (length (ground.put ++ ground.held))) → LeavesOnly moment left_since old new (WorkLeaves work ground item)
-  keeping_lasts old mid new work ground item first second = flushed_works moment left_since old mid new work ground item first (work_still moment left_since mid new work (flushed work ground) item second)
+  pub keeping_lasts : (old mid new : D) (work : Work) (basis : Ground) (item : SessionItem) → LeavesOnly moment left_since old mid (FlushLeaves work basis) → LeavesOnly moment left_since mid new (HasKept work.changes (length (basis.put ++ basis.held))) → LeavesOnly moment left_since old new (WorkLeaves work basis item)
+  keeping_lasts old mid new work basis item first second = flushed_works moment left_since old mid new work basis item first (work_still moment left_since mid new work (flushed work basis) item second)
 
-  pub noting_lasts : (old mid kept new : D) (work : Work) (ground : Ground) (item : SessionItem) → Asks item (adds (DoIt snapshot_note)) → LeavesOnly moment left_since old mid (FlushLeaves work ground) → LeavesOnly moment left_since mid kept (HasKept work.changes (length (ground.put ++ ground.held))) → LeavesOnly moment left_since kept new (CommitLeaves (adding work (DoIt snapshot_note)) (flushed work ground)) → LeavesOnly moment left_since old new (WorkLeaves work ground item)
-  noting_lasts old mid kept new work ground item asks first second third =
-      flushed_works moment left_since old mid new work ground item first (joined moment left_since mid kept new (WorkLeaves work (flushed work ground) item) (CommitLeaves (adding work (DoIt snapshot_note)) (flushed work ground)) (work_still moment left_since mid kept work (flushed work ground) item second) third (λ told c h. commit_works work ground item told c asks h))
+  pub noting_lasts : (old mid kept new : D) (work : Work) (basis : Ground) (item : SessionItem) → Asks item (adds (DoIt snapshot_note)) → LeavesOnly moment left_since old mid (FlushLeaves work basis) → LeavesOnly moment left_since mid kept (HasKept work.changes (length (basis.put ++ basis.held))) → LeavesOnly moment left_since kept new (CommitLeaves (adding work (DoIt snapshot_note)) (flushed work basis)) → LeavesOnly moment left_since old new (WorkLeaves work basis item)
+  noting_lasts old mid kept new work basis item asks first second third =
+      flushed_works moment left_since old mid new work basis item first (joined moment left_since mid kept new (WorkLeaves work (flushed work basis) item) (CommitLeaves (adding work (DoIt snapshot_note)) (flushed work basis)) (work_still moment left_since mid kept work (flushed work basis) item second) third (λ told c h. commit_works work basis item told c asks h))

@@ -74,13 +74,13 @@ keep_calm result prepared before now (faults.Closed failed) refusal is after cal
 keep_calm result prepared before now (faults.Damaged damage) refusal is after calm gives = absurd (cc)
 
 -- the disk goes on to stand for what is kept
-pub fault_unkept : (fault : KeepFault) (was may_leave : Image → Type 0) (o now : Shown) (before session : Session) (work : Work) (ground : Ground) (change : Change) → KeptLater (Err fault) now.tells now.files may_leave (keeper_of session) ground.kept work.changes change → now ≡ record o { files = now.files } → IsAmid was o before work ground
-    → IfErr (refusal_at_fault fault) (λ end. Unworked end may_leave now session work ground)
-fault_unkept faults.Memory was may_leave o now before session work ground change h shown at = absurd h
-fault_unkept (faults.Disk failed) was may_leave o now before session work ground change h shown at = lost_keeping was may_leave o now before work ground h shown at
-fault_unkept (faults.Closed failed) was may_leave o now before session work ground change h shown at = absurd h
-fault_unkept (faults.Full n) was may_leave o now before session work ground change h shown at = tt
-fault_unkept (faults.Damaged damage) was may_leave o now before session work ground change h shown at = absurd h
+pub fault_unkept : (fault : KeepFault) (was may_leave : Image → Type 0) (o now : Shown) (before session : Session) (work : Work) (basis : Ground) (change : Change) → KeptLater (Err fault) now.tells now.files may_leave (keeper_of session) basis.kept work.changes change → now ≡ record o { files = now.files } → IsAmid was o before work basis
+    → IfErr (refusal_at_fault fault) (λ end. Unworked end may_leave now session work basis)
+fault_unkept faults.Memory was may_leave o now before session work basis change h shown at = absurd h
+fault_unkept (faults.Disk failed) was may_leave o now before session work basis change h shown at = lost_keeping was may_leave o now before work basis h shown at
+fault_unkept (faults.Closed failed) was may_leave o now before session work basis change h shown at = absurd h
+fault_unkept (faults.Full n) was may_leave o now before session work basis change h shown at = tt
+fault_unkept (faults.Damaged damage) was may_leave o now before session work basis change h shown at = absurd h
 
 -- ---- something was to be read
 

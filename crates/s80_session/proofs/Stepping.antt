@@ -47,60 +47,60 @@ pub lost_among : (may_leave : Image → Type 0) (now : Shown) (put : List ℕ) (
 lost_among may_leave now put Lists More among h = record { taken = h.taken; list = h.list; is = among h.list h.is; reads = h.reads }
 
 -- what broke off before anything was kept
-pub unreplied : (end : SessionEnd) (may_leave : Image → Type 0) (now : Shown) (session : Session) (work : Work) (ground : Ground) (item : SessionItem) → Unworked end may_leave now session work ground → Unreplied end may_leave now session work ground item
-unreplied ends.Memory may_leave now session work ground item h = inl (inl h)
-unreplied (ends.Disk failed) may_leave now session work ground item h = inl (lost_among may_leave now ground.put (λ list. list ≡ ground.kept) (λ list. (list ≡ ground.kept) ⊎ IsPast work item list) (λ list same. inl same) h)
-unreplied (ends.Read failed) may_leave now session work ground item h = h
-unreplied (ends.Write failed) may_leave now session work ground item h = absurd h
-unreplied ends.TooLong may_leave now session work ground item h = h
-unreplied (ends.Damaged damage) may_leave now session work ground item h = h
+pub unreplied : (end : SessionEnd) (may_leave : Image → Type 0) (now : Shown) (session : Session) (work : Work) (basis : Ground) (item : SessionItem) → Unworked end may_leave now session work basis → Unreplied end may_leave now session work basis item
+unreplied ends.Memory may_leave now session work basis item h = inl (inl h)
+unreplied (ends.Disk failed) may_leave now session work basis item h = inl (lost_among may_leave now basis.put (λ list. list ≡ basis.kept) (λ list. (list ≡ basis.kept) ⊎ IsPast work item list) (λ list same. inl same) h)
+unreplied (ends.Read failed) may_leave now session work basis item h = h
+unreplied (ends.Write failed) may_leave now session work basis item h = absurd h
+unreplied ends.TooLong may_leave now session work basis item h = h
+unreplied (ends.Damaged damage) may_leave now session work basis item h = h
 
 -- an item that adds a change is worked by keeping it
-pub replied_change : (may_leave : Image → Type 0) (now : Shown) (session : Session) (was : Was) (work : Work) (ground : Ground) (item : SessionItem) (change : Change) (refusal : Option Refusal) (reply : Reply) → last_run_of session ≡ was.last_run → Asks item (adds change) → reply ≡ reply_to_keeping refusal → Kept (Ok refusal) may_leave now session work ground change → Replied (Ok reply) may_leave now session was work ground item
-replied_change may_leave now session was work ground item change refusal reply same is reply_is h = (adds change, (is, tt), reply_is ∙ h.0, same, inl h.1)
+pub replied_change : (may_leave : Image → Type 0) (now : Shown) (session : Session) (was : Was) (work : Work) (basis : Ground) (item : SessionItem) (change : Change) (refusal : Option Refusal) (reply : Reply) → last_run_of session ≡ was.last_run → Asks item (adds change) → reply ≡ reply_to_keeping refusal → Kept (Ok refusal) may_leave now session work basis change → Replied (Ok reply) may_leave now session was work basis item
+replied_change may_leave now session was work basis item change refusal reply same is reply_is h = (adds change, (is, tt), reply_is ∙ h.0, same, inl h.1)
 
 -- the same of the note of a snapshot, behind a flush
-pub replied_note : (result : Result Reply SessionEnd) (may_leave : Image → Type 0) (now : Shown) (session : Session) (was : Was) (work : Work) (ground : Ground) (item : SessionItem) → last_run_of session ≡ was.last_run → Asks item (adds (DoIt snapshot_note)) → Noted result may_leave now session work ground item → Replied result may_leave now session was work ground item
-replied_note (Ok reply) may_leave now session was work ground item same is h = (adds (DoIt snapshot_note), (is, tt), h.0, same, inr h.1)
-replied_note (Err ends.Memory) may_leave now session was work ground item same is h = inl h
-replied_note (Err (ends.Disk failed)) may_leave now session was work ground item same is h = h
-replied_note (Err (ends.Write failed)) may_leave now session was work ground item same is h = h
-replied_note (Err (ends.Read failed)) may_leave now session was work ground item same is h = h
-replied_note (Err ends.TooLong) may_leave now session was work ground item same is h = h
-replied_note (Err (ends.Damaged damage)) may_leave now session was work ground item same is h = h
+pub replied_note : (result : Result Reply SessionEnd) (may_leave : Image → Type 0) (now : Shown) (session : Session) (was : Was) (work : Work) (basis : Ground) (item : SessionItem) → last_run_of session ≡ was.last_run → Asks item (adds (DoIt snapshot_note)) → Noted result may_leave now session work basis item → Replied result may_leave now session was work basis item
+replied_note (Ok reply) may_leave now session was work basis item same is h = (adds (DoIt snapshot_note), (is, tt), h.0, same, inr h.1)
+replied_note (Err ends.Memory) may_leave now session was work basis item same is h = inl h
+replied_note (Err (ends.Disk failed)) may_leave now session was work basis item same is h = h
+replied_note (Err (ends.Write failed)) may_leave now session was work basis item same is h = h
+replied_note (Err (ends.Read failed)) may_leave now session was work basis item same is h = h
+replied_note (Err ends.TooLong) may_leave now session was work basis item same is h = h
+replied_note (Err (ends.Damaged damage)) may_leave now session was work basis item same is h = h
 
 -- a text that is none of them is refused
-pub replied_refusal : (may_leave : Image → Type 0) (now : Shown) (session : Session) (was : Was) (work : Work) (ground : Ground) (text : List ℕ) (refusal : Refusal) → last_run_of session ≡ was.last_run → AsksPlain text (refuses refusal) → IsAmid may_leave now session work ground → Replied (Ok (Refused refusal)) may_leave now session was work ground (Chunk (items.Plain text))
-replied_refusal may_leave now session was work ground text refusal same is h = (refuses refusal, (is, tt), refl, same, inl h)
+pub replied_refusal : (may_leave : Image → Type 0) (now : Shown) (session : Session) (was : Was) (work : Work) (basis : Ground) (text : List ℕ) (refusal : Refusal) → last_run_of session ≡ was.last_run → AsksPlain text (refuses refusal) → IsAmid may_leave now session work basis → Replied (Ok (Refused refusal)) may_leave now session was work basis (Chunk (items.Plain text))
+replied_refusal may_leave now session was work basis text refusal same is h = (refuses refusal, (is, tt), refl, same, inl h)
 
 -- a source is worked by keeping its method, in a section that is open
-pub replied_source : (may_leave : Image → Type 0) (now : Shown) (session : Session) (was : Was) (work : Work) (ground : Ground) (text : List ℕ) (source : SourceParts) (head : SectionHead) (change : Change) (refusal : Option Refusal) (reply : Reply) → last_run_of session ≡ was.last_run → change ≡ method_in head source → work.section ≡ sections.Open head → AsksMethod text (adds_source source) → reply ≡ reply_to_keeping refusal → Kept (Ok refusal) may_leave now session work ground change → Replied (Ok reply) may_leave now session was work ground (Chunk (items.Method text))
-replied_source may_leave now session was work ground text source head change refusal reply same method section is reply_is h =
-    let P : Section → Type 0 = λ s. (reply ≡ reply_to_source work.changes s source) × IsAmid may_leave now session (record work { changes = list_after_source work.changes s source }) ground in
-    let Q : Change → Type 0 = λ c. (reply ≡ reply_to_adding (add work.changes c)) × IsAmid may_leave now session (adding work c) ground in
+pub replied_source : (may_leave : Image → Type 0) (now : Shown) (session : Session) (was : Was) (work : Work) (basis : Ground) (text : List ℕ) (source : SourceParts) (head : SectionHead) (change : Change) (refusal : Option Refusal) (reply : Reply) → last_run_of session ≡ was.last_run → change ≡ method_in head source → work.section ≡ sections.Open head → AsksMethod text (adds_source source) → reply ≡ reply_to_keeping refusal → Kept (Ok refusal) may_leave now session work basis change → Replied (Ok reply) may_leave now session was work basis (Chunk (items.Method text))
+replied_source may_leave now session was work basis text source head change refusal reply same method section is reply_is h =
+    let P : Section → Type 0 = λ s. (reply ≡ reply_to_source work.changes s source) × IsAmid may_leave now session (record work { changes = list_after_source work.changes s source }) basis in
+    let Q : Change → Type 0 = λ c. (reply ≡ reply_to_adding (add work.changes c)) × IsAmid may_leave now session (adding work c) basis in
     let both = subst P (sym section) (subst Q method (reply_is ∙ h.0, h.1)) in
     (adds_source source, (is, tt), both.0, same, inl both.1)
 
 -- in every other section it is passed over
-passes_over : (may_leave : Image → Type 0) (now : Shown) (session : Session) (was : Was) (work : Work) (ground : Ground) (text : List ℕ) (source : SourceParts) (section : Section) → last_run_of session ≡ was.last_run → reply_to_source work.changes section source ≡ Silent → list_after_source work.changes section source ≡ work.changes → work.section ≡ section → AsksMethod text (adds_source source) → IsAmid may_leave now session work ground → Replied (Ok Silent) may_leave now session was work ground (Chunk (items.Method text))
-passes_over may_leave now session was work ground text source section same silent stays is asks h =
-    let P : List Change → Type 0 = λ l. IsAmid may_leave now session (record work { changes = l }) ground in
-    let Q : Section → Type 0 = λ s. (Silent ≡ reply_to_source work.changes s source) × IsAmid may_leave now session (record work { changes = list_after_source work.changes s source }) ground in
+passes_over : (may_leave : Image → Type 0) (now : Shown) (session : Session) (was : Was) (work : Work) (basis : Ground) (text : List ℕ) (source : SourceParts) (section : Section) → last_run_of session ≡ was.last_run → reply_to_source work.changes section source ≡ Silent → list_after_source work.changes section source ≡ work.changes → work.section ≡ section → AsksMethod text (adds_source source) → IsAmid may_leave now session work basis → Replied (Ok Silent) may_leave now session was work basis (Chunk (items.Method text))
+passes_over may_leave now session was work basis text source section same silent stays is asks h =
+    let P : List Change → Type 0 = λ l. IsAmid may_leave now session (record work { changes = l }) basis in
+    let Q : Section → Type 0 = λ s. (Silent ≡ reply_to_source work.changes s source) × IsAmid may_leave now session (record work { changes = list_after_source work.changes s source }) basis in
     let both = subst Q (sym is) (sym silent, subst P (sym stays) h) in
     (adds_source source, (asks, tt), both.0, same, inl both.1)
 
-pub passed_top : (may_leave : Image → Type 0) (now : Shown) (session : Session) (was : Was) (work : Work) (ground : Ground) (text : List ℕ) (source : SourceParts) → last_run_of session ≡ was.last_run → work.section ≡ sections.Top → AsksMethod text (adds_source source) → IsAmid may_leave now session work ground → Replied (Ok Silent) may_leave now session was work ground (Chunk (items.Method text))
-passed_top may_leave now session was work ground text source same is asks h = passes_over may_leave now session was work ground text source sections.Top same refl refl is asks h
+pub passed_top : (may_leave : Image → Type 0) (now : Shown) (session : Session) (was : Was) (work : Work) (basis : Ground) (text : List ℕ) (source : SourceParts) → last_run_of session ≡ was.last_run → work.section ≡ sections.Top → AsksMethod text (adds_source source) → IsAmid may_leave now session work basis → Replied (Ok Silent) may_leave now session was work basis (Chunk (items.Method text))
+passed_top may_leave now session was work basis text source same is asks h = passes_over may_leave now session was work basis text source sections.Top same refl refl is asks h
 
-pub passed_refused : (may_leave : Image → Type 0) (now : Shown) (session : Session) (was : Was) (work : Work) (ground : Ground) (text : List ℕ) (source : SourceParts) → last_run_of session ≡ was.last_run → work.section ≡ sections.Refused → AsksMethod text (adds_source source) → IsAmid may_leave now session work ground → Replied (Ok Silent) may_leave now session was work ground (Chunk (items.Method text))
-passed_refused may_leave now session was work ground text source same is asks h = passes_over may_leave now session was work ground text source sections.Refused same refl refl is asks h
+pub passed_refused : (may_leave : Image → Type 0) (now : Shown) (session : Session) (was : Was) (work : Work) (basis : Ground) (text : List ℕ) (source : SourceParts) → last_run_of session ≡ was.last_run → work.section ≡ sections.Refused → AsksMethod text (adds_source source) → IsAmid may_leave now session work basis → Replied (Ok Silent) may_leave now session was work basis (Chunk (items.Method text))
+passed_refused may_leave now session was work basis text source same is asks h = passes_over may_leave now session was work basis text source sections.Refused same refl refl is asks h
 
 -- ---- the answer to an item
 
 -- an answer by which all is as before but for the section
-pub worked_so : (may_leave : Image → Type 0) (now : Shown) (session : Session) (was : Was) (work : Work) (ground : Ground) (item : SessionItem) (ask : Ask) (answer : Answer) → AsksIn work item ask → IsAnswer work ask answer → RunBehind work ask was.last_run (last_run_of session) → staying work ask ≡ work → IsAmid may_leave now session work ground → Answers (Ok answer) may_leave now session was work ground item
-worked_so may_leave now session was work ground item ask answer one is run stays h =
-    let P : Work → Type 0 = λ w. IsAmid may_leave now session w ground in
+pub worked_so : (may_leave : Image → Type 0) (now : Shown) (session : Session) (was : Was) (work : Work) (basis : Ground) (item : SessionItem) (ask : Ask) (answer : Answer) → AsksIn work item ask → IsAnswer work ask answer → RunBehind work ask was.last_run (last_run_of session) → staying work ask ≡ work → IsAmid may_leave now session work basis → Answers (Ok answer) may_leave now session was work basis item
+worked_so may_leave now session was work basis item ask answer one is run stays h =
+    let P : Work → Type 0 = λ w. IsAmid may_leave now session w basis in
     (ask, one, is, run, inl (subst P (sym stays) h))
 
 plain_stays : (work : Work) (text : List ℕ) (ask : Ask) → AsksPlain text ask → (work_after work ask).section ≡ work.section
@@ -126,25 +126,25 @@ method_stays work text closes h = absurd h
 method_stays work text (tells query) h = absurd h
 
 -- the section stays
-staying_at : (may_leave : Image → Type 0) (now : Shown) (session : Session) (work : Work) (ground : Ground) (ask : Ask) → (work_after work ask).section ≡ work.section → IsAmid may_leave now session (work_after work ask) ground → IsAmid may_leave now session (staying work ask) ground
-staying_at may_leave now session work ground ask stays h = record { keeps = h.keeps; section = h.section ∙ stays; brief = subst IsBriefSection stays h.brief; budget = h.budget; taken = h.taken; told = h.told; held = h.held }
+staying_at : (may_leave : Image → Type 0) (now : Shown) (session : Session) (work : Work) (basis : Ground) (ask : Ask) → (work_after work ask).section ≡ work.section → IsAmid may_leave now session (work_after work ask) basis → IsAmid may_leave now session (staying work ask) basis
+staying_at may_leave now session work basis ask stays h = record { keeps = h.keeps; section = h.section ∙ stays; brief = subst IsBriefSection stays h.brief; budget = h.budget; taken = h.taken; told = h.told; held = h.held }
 
 -- a reply to an item that leaves the section is its answer
-stays_there : (may_leave : Image → Type 0) (now : Shown) (session : Session) (was : Was) (work : Work) (ground : Ground) (item : SessionItem) (ask : Ask) (answer : Answer) → AsksIn work item ask → (work_after work ask).section ≡ work.section → answer.reply ≡ reply_to work ask → section_or answer.section work.section ≡ work.section → RunBehind work ask was.last_run (last_run_of session) → GoesOn may_leave now session (work_after work ask) ground → Answers (Ok answer) may_leave now session was work ground item
-stays_there may_leave now session was work ground item ask answer one stays is same run h =
-    (ask, one, (is, same ∙ sym stays), run, ⊎_elim (λ here. inl (staying_at may_leave now session work ground ask stays here)) (λ behind. inr (staying_at may_leave now session work (flushed (work_after work ask) ground) ask stays behind)) h)
+stays_there : (may_leave : Image → Type 0) (now : Shown) (session : Session) (was : Was) (work : Work) (basis : Ground) (item : SessionItem) (ask : Ask) (answer : Answer) → AsksIn work item ask → (work_after work ask).section ≡ work.section → answer.reply ≡ reply_to work ask → section_or answer.section work.section ≡ work.section → RunBehind work ask was.last_run (last_run_of session) → GoesOn may_leave now session (work_after work ask) basis → Answers (Ok answer) may_leave now session was work basis item
+stays_there may_leave now session was work basis item ask answer one stays is same run h =
+    (ask, one, (is, same ∙ sym stays), run, ⊎_elim (λ here. inl (staying_at may_leave now session work basis ask stays here)) (λ behind. inr (staying_at may_leave now session work (flushed (work_after work ask) basis) ask stays behind)) h)
 
 -- it stays where an answer names no section
 abbrev pub IsStaying : Reply → Answer → Type 0
 IsStaying reply answer = answer ≡ record { reply = reply; section = None }
 
-pub worked_plain : (may_leave : Image → Type 0) (now : Shown) (session : Session) (was : Was) (work : Work) (ground : Ground) (text : List ℕ) (reply : Reply) (answer : Answer) → IsStaying reply answer → Replied (Ok reply) may_leave now session was work ground (Chunk (items.Plain text)) → Answers (Ok answer) may_leave now session was work ground (Chunk (items.Plain text))
-worked_plain may_leave now session was work ground text reply answer is h =
-    stays_there may_leave now session was work ground (Chunk (items.Plain text)) h.0 answer h.1 (plain_stays work text h.0 h.1.0) (ap (λ (a : Answer). a.reply) is ∙ h.2) (ap (λ (a : Answer). section_or a.section work.section) is) h.3 h.4
+pub worked_plain : (may_leave : Image → Type 0) (now : Shown) (session : Session) (was : Was) (work : Work) (basis : Ground) (text : List ℕ) (reply : Reply) (answer : Answer) → IsStaying reply answer → Replied (Ok reply) may_leave now session was work basis (Chunk (items.Plain text)) → Answers (Ok answer) may_leave now session was work basis (Chunk (items.Plain text))
+worked_plain may_leave now session was work basis text reply answer is h =
+    stays_there may_leave now session was work basis (Chunk (items.Plain text)) h.0 answer h.1 (plain_stays work text h.0 h.1.0) (ap (λ (a : Answer). a.reply) is ∙ h.2) (ap (λ (a : Answer). section_or a.section work.section) is) h.3 h.4
 
-pub worked_method : (may_leave : Image → Type 0) (now : Shown) (session : Session) (was : Was) (work : Work) (ground : Ground) (text : List ℕ) (reply : Reply) (answer : Answer) → IsStaying reply answer → Replied (Ok reply) may_leave now session was work ground (Chunk (items.Method text)) → Answers (Ok answer) may_leave now session was work ground (Chunk (items.Method text))
-worked_method may_leave now session was work ground text reply answer is h =
-    stays_there may_leave now session was work ground (Chunk (items.Method text)) h.0 answer h.1 (method_stays work text h.0 h.1.0) (ap (λ (a : Answer). a.reply) is ∙ h.2) (ap (λ (a : Answer). section_or a.section work.section) is) h.3 h.4
+pub worked_method : (may_leave : Image → Type 0) (now : Shown) (session : Session) (was : Was) (work : Work) (basis : Ground) (text : List ℕ) (reply : Reply) (answer : Answer) → IsStaying reply answer → Replied (Ok reply) may_leave now session was work basis (Chunk (items.Method text)) → Answers (Ok answer) may_leave now session was work basis (Chunk (items.Method text))
+worked_method may_leave now session was work basis text reply answer is h =
+    stays_there may_leave now session was work basis (Chunk (items.Method text)) h.0 answer h.1 (method_stays work text h.0 h.1.0) (ap (λ (a : Answer). a.reply) is ∙ h.2) (ap (λ (a : Answer). section_or a.section work.section) is) h.3 h.4
 
 query_stays : (work : Work) (query : SessionQuery) → (work_after work (ask_of_query query)).section ≡ work.section
 query_stays work queries.Recover = refl
@@ -155,28 +155,28 @@ query_stays work (queries.Versions spec selector) = refl
 query_stays work queries.Changes = refl
 query_stays work queries.Snapshot = refl
 
-pub worked_query : (may_leave : Image → Type 0) (now : Shown) (session : Session) (was : Was) (work : Work) (ground : Ground) (query : SessionQuery) (reply : Reply) (answer : Answer) → IsStaying reply answer → QueryWorked (Ok reply) may_leave now session was work (ground.put ++ ground.held) (Query query) → Answers (Ok answer) may_leave now session was work ground (Query query)
-worked_query may_leave now session was work ground query reply answer is h =
+pub worked_query : (may_leave : Image → Type 0) (now : Shown) (session : Session) (was : Was) (work : Work) (basis : Ground) (query : SessionQuery) (reply : Reply) (answer : Answer) → IsStaying reply answer → QueryWorked (Ok reply) may_leave now session was work (basis.put ++ basis.held) (Query query) → Answers (Ok answer) may_leave now session was work basis (Query query)
+worked_query may_leave now session was work basis query reply answer is h =
     let P : Ask → Type 0 = λ a. (work_after work a).section ≡ work.section in
-    stays_there may_leave now session was work ground (Query query) h.0 answer h.1 (subst P (sym h.1.0) (query_stays work query)) (ap (λ (a : Answer). a.reply) is ∙ h.2) (ap (λ (a : Answer). section_or a.section work.section) is) h.3 (inr h.4)
+    stays_there may_leave now session was work basis (Query query) h.0 answer h.1 (subst P (sym h.1.0) (query_stays work query)) (ap (λ (a : Answer). a.reply) is ∙ h.2) (ap (λ (a : Answer). section_or a.section work.section) is) h.3 (inr h.4)
 
 -- where a query isn't answered
-pub queried_err : (end : SessionEnd) (may_leave : Image → Type 0) (now : Shown) (session : Session) (was : Was) (work : Work) (ground : Ground) (item : SessionItem) → QueryWorked (Err end) may_leave now session was work (ground.put ++ ground.held) item → Unreplied end may_leave now session work ground item
-queried_err ends.Memory may_leave now session was work ground item h = inl (inr h)
-queried_err (ends.Disk failed) may_leave now session was work ground item h = inr h
-queried_err (ends.Read failed) may_leave now session was work ground item h = h
-queried_err (ends.Write failed) may_leave now session was work ground item h = absurd h
-queried_err ends.TooLong may_leave now session was work ground item h = h
-queried_err (ends.Damaged damage) may_leave now session was work ground item h = h
+pub queried_err : (end : SessionEnd) (may_leave : Image → Type 0) (now : Shown) (session : Session) (was : Was) (work : Work) (basis : Ground) (item : SessionItem) → QueryWorked (Err end) may_leave now session was work (basis.put ++ basis.held) item → Unreplied end may_leave now session work basis item
+queried_err ends.Memory may_leave now session was work basis item h = inl (inr h)
+queried_err (ends.Disk failed) may_leave now session was work basis item h = inr h
+queried_err (ends.Read failed) may_leave now session was work basis item h = h
+queried_err (ends.Write failed) may_leave now session was work basis item h = absurd h
+queried_err ends.TooLong may_leave now session was work basis item h = h
+queried_err (ends.Damaged damage) may_leave now session was work basis item h = h
 
 -- a flush before it broke off
-pub flush_err : (end : SessionEnd) (may_leave : Image → Type 0) (now : Shown) (session : Session) (work : Work) (ground : Ground) (item : SessionItem) → Flushed {T = Unit {0}} (Err end) may_leave now session work ground → Unreplied end may_leave now session work ground item
-flush_err ends.Memory may_leave now session work ground item h = absurd h
-flush_err (ends.Disk failed) may_leave now session work ground item h = inl (lost_among may_leave now ground.put (λ list. (list ≡ ground.kept) ⊎ (list ≡ work.changes)) (λ list. (list ≡ ground.kept) ⊎ IsPast work item list) (λ list. ⊎_elim (λ same. inl same) (λ same. inr (inl same))) h)
-flush_err (ends.Write failed) may_leave now session work ground item h = h
-flush_err (ends.Read failed) may_leave now session work ground item h = h
-flush_err ends.TooLong may_leave now session work ground item h = h
-flush_err (ends.Damaged damage) may_leave now session work ground item h = h
+pub flush_err : (end : SessionEnd) (may_leave : Image → Type 0) (now : Shown) (session : Session) (work : Work) (basis : Ground) (item : SessionItem) → Flushed {T = Unit {0}} (Err end) may_leave now session work basis → Unreplied end may_leave now session work basis item
+flush_err ends.Memory may_leave now session work basis item h = absurd h
+flush_err (ends.Disk failed) may_leave now session work basis item h = inl (lost_among may_leave now basis.put (λ list. (list ≡ basis.kept) ⊎ (list ≡ work.changes)) (λ list. (list ≡ basis.kept) ⊎ IsPast work item list) (λ list. ⊎_elim (λ same. inl same) (λ same. inr (inl same))) h)
+flush_err (ends.Write failed) may_leave now session work basis item h = h
+flush_err (ends.Read failed) may_leave now session work basis item h = h
+flush_err ends.TooLong may_leave now session work basis item h = h
+flush_err (ends.Damaged damage) may_leave now session work basis item h = h
 
 pub head_lists : (work : Work) (text : List ℕ) (ask : Ask) → AsksHead text ask → staying work ask ≡ work
 head_lists work text (opens head) h = refl
@@ -212,9 +212,9 @@ head_runs work text (refuses_source refusal) before now h same = absurd h
 head_runs work text closes before now h same = absurd h
 head_runs work text (tells query) before now h same = absurd h
 
-pub worked_head : (may_leave : Image → Type 0) (now : Shown) (session : Session) (was : Was) (work : Work) (ground : Ground) (text : List ℕ) (answer : Answer) → last_run_of session ≡ was.last_run → (ask : Ask) × AsksHead text ask × IsAnswer work ask answer → IsAmid may_leave now session work ground → Answers (Ok answer) may_leave now session was work ground (Chunk (items.Head text))
-worked_head may_leave now session was work ground text answer same is h =
-    worked_so may_leave now session was work ground (Chunk (items.Head text)) is.0 answer (is.1, head_so work text is.0 is.1) is.2 (head_runs work text is.0 was.last_run (last_run_of session) is.1 same) (head_lists work text is.0 is.1) h
+pub worked_head : (may_leave : Image → Type 0) (now : Shown) (session : Session) (was : Was) (work : Work) (basis : Ground) (text : List ℕ) (answer : Answer) → last_run_of session ≡ was.last_run → (ask : Ask) × AsksHead text ask × IsAnswer work ask answer → IsAmid may_leave now session work basis → Answers (Ok answer) may_leave now session was work basis (Chunk (items.Head text))
+worked_head may_leave now session was work basis text answer same is h =
+    worked_so may_leave now session was work basis (Chunk (items.Head text)) is.0 answer (is.1, head_so work text is.0 is.1) is.2 (head_runs work text is.0 was.last_run (last_run_of session) is.1 same) (head_lists work text is.0 is.1) h
 
 too_long_so : (work : Work) (role : Role) (n : ℕ) → IsSo work (ask_of_too_long role n)
 too_long_so work roles.Plain n = tt
@@ -231,9 +231,9 @@ too_long_runs work roles.Plain n before now same = same
 too_long_runs work roles.Head n before now same = same
 too_long_runs work roles.Method n before now same = same
 
-pub worked_too_long : (may_leave : Image → Type 0) (now : Shown) (session : Session) (was : Was) (work : Work) (ground : Ground) (role : Role) (n : ℕ) (answer : Answer) → last_run_of session ≡ was.last_run → IsAnswer work (ask_of_too_long role n) answer → IsAmid may_leave now session work ground → Answers (Ok answer) may_leave now session was work ground (Chunk (items.TooLong role n))
-worked_too_long may_leave now session was work ground role n answer same is h =
-    worked_so may_leave now session was work ground (Chunk (items.TooLong role n)) (ask_of_too_long role n) answer (refl, too_long_so work role n) is (too_long_runs work role n was.last_run (last_run_of session) same) (too_long_lists work role n) h
+pub worked_too_long : (may_leave : Image → Type 0) (now : Shown) (session : Session) (was : Was) (work : Work) (basis : Ground) (role : Role) (n : ℕ) (answer : Answer) → last_run_of session ≡ was.last_run → IsAnswer work (ask_of_too_long role n) answer → IsAmid may_leave now session work basis → Answers (Ok answer) may_leave now session was work basis (Chunk (items.TooLong role n))
+worked_too_long may_leave now session was work basis role n answer same is h =
+    worked_so may_leave now session was work basis (Chunk (items.TooLong role n)) (ask_of_too_long role n) answer (refl, too_long_so work role n) is (too_long_runs work role n was.last_run (last_run_of session) same) (too_long_lists work role n) h
 
 asks_to_be_told : (query : SessionQuery) → IsQuestion query → tells query ≡ ask_of_query query
 asks_to_be_told queries.Recover h = refl

@@ -101,7 +101,7 @@ breaks T (ends.Damaged damage) may_leave now session Begins was is_now work befo
 
 -- more bytes are fed
 pub fed_on : (may_leave : Image → Type 0) (o : Shown) (session : Session) (held reader : Held) (was : Was) (work : Work) (before bytes more : List ℕ) (given : List Item) → IsWorking may_leave o session held was work before bytes given → HasRead reader more given → IsWorking may_leave o session reader was work before more given
-fed_on may_leave o session held reader was work before bytes more given w read = record { asks = w.asks; read = read; asked = w.asked; ground = w.ground; behind = w.behind; at = w.at; troubled = w.troubled; last_run = w.last_run }
+fed_on may_leave o session held reader was work before bytes more given w read = record { asks = w.asks; read = read; asked = w.asked; basis = w.basis; behind = w.behind; at = w.at; troubled = w.troubled; last_run = w.last_run }
 
 -- ---- a piece
 
@@ -191,7 +191,7 @@ taken_more was_left may_leave mid now session reader was work input before buf n
 
 -- what is whole of it is worked, and all of that is flushed
 pub taking_on : (was_left may_leave : Image → Type 0) (old mid now : Shown) (at_work session : Session) (reader : Held) (was : Was) (work : Work) (input before bytes left : List ℕ) → input ≡ bytes ++ left → old.left ≡ Some left → mid.left ≡ old.left → now.left ≡ mid.left → (p : PieceWorked {T = Unit {0}} (Ok tt) was_left mid at_work reader was work input before bytes)
-    → Flushed {T = Unit {0}} (Ok tt) may_leave now session (work_after_all work p.1.asks) p.1.ground → HasSameRest at_work session → IsTaking may_leave now session reader was work input before
+    → Flushed {T = Unit {0}} (Ok tt) may_leave now session (work_after_all work p.1.asks) p.1.basis → HasSameRest at_work session → IsTaking may_leave now session reader was work input before
 taking_on was_left may_leave old mid now at_work session reader was work input before bytes left is left_is mid_same now_same p flushed same = record {
   bytes = bytes;
   left = left;

@@ -45,7 +45,7 @@ module _ {D : Type 0} (moment : D → ℕ) (left_since : D → ℕ → ℕ → I
     given = given;
     working = w;
     ended_is = ended_is;
-    run = group_starts moment left_since (BeginsAsking work ended bytes) (begins_front work ended bytes) work before w.asks w.ground (begins_so reader ended work bytes given w.asks ended_is w.read w.asked) w.behind (may_leave begun) (shown begun) session begun only w.at;
+    run = group_starts moment left_since (BeginsAsking work ended bytes) (begins_front work ended bytes) work before w.asks w.basis (begins_so reader ended work bytes given w.asks ended_is w.read w.asked) w.behind (may_leave begun) (shown begun) session begun only w.at;
   }
 
   -- a call that leaves all as it was
@@ -57,27 +57,27 @@ module _ {D : Type 0} (moment : D → ℕ) (left_since : D → ℕ → ℕ → I
 
   -- a flush
   module _ (mid now : D) (session self : Session) (reader : Held) (x : Works moment left_since may_leave shown begun mid session reader ended was work before bytes) where
-    pub flush_run : ((w : Work) (ground : Ground) → IsAmid (may_leave mid) (shown mid) session w ground → LeavesOnly moment left_since mid now (FlushLeaves w ground)) → LeavesOnly moment left_since begun now (AnswersLeave ended work before bytes)
+    pub flush_run : ((w : Work) (basis : Ground) → IsAmid (may_leave mid) (shown mid) session w basis → LeavesOnly moment left_since mid now (FlushLeaves w basis)) → LeavesOnly moment left_since begun now (AnswersLeave ended work before bytes)
     flush_run leaves =
         let w = x.working in
-        group_flushed moment left_since (BeginsAsking work ended bytes) (begins_front work ended bytes) work before w.asks w.ground (begins_so reader ended work bytes x.given w.asks x.ended_is w.read w.asked) w.behind begun mid now x.run (leaves (work_after_all work w.asks) w.ground w.at)
+        group_flushed moment left_since (BeginsAsking work ended bytes) (begins_front work ended bytes) work before w.asks w.basis (begins_so reader ended work bytes x.given w.asks x.ended_is w.read w.asked) w.behind begun mid now x.run (leaves (work_after_all work w.asks) w.basis w.at)
 
-    pub works_flushed : ((w : Work) (ground : Ground) → IsAmid (may_leave mid) (shown mid) session w ground → Flushed {T = Unit {0}} (Ok tt) (may_leave now) (shown now) self w ground) → ((w : Work) (ground : Ground) → IsAmid (may_leave mid) (shown mid) session w ground → LeavesOnly moment left_since mid now (FlushLeaves w ground)) → HasSameRest session self
+    pub works_flushed : ((w : Work) (basis : Ground) → IsAmid (may_leave mid) (shown mid) session w basis → Flushed {T = Unit {0}} (Ok tt) (may_leave now) (shown now) self w basis) → ((w : Work) (basis : Ground) → IsAmid (may_leave mid) (shown mid) session w basis → LeavesOnly moment left_since mid now (FlushLeaves w basis)) → HasSameRest session self
         → Works moment left_since may_leave shown begun now self reader ended was work before bytes
     works_flushed flushed leaves same =
         let w = x.working in
-        let done = flushed_on (may_leave mid) (may_leave now) (shown mid) (shown now) session self reader was work before bytes x.given w (flushed (work_after_all work w.asks) w.ground w.at) same in
+        let done = flushed_on (may_leave mid) (may_leave now) (shown mid) (shown now) session self reader was work before bytes x.given w (flushed (work_after_all work w.asks) w.basis w.at) same in
         record { given = x.given; working = done_on (may_leave now) (shown now) self reader was work before bytes x.given done; ended_is = x.ended_is; run = flush_run leaves }
 
-    pub flush_breaks : (T : Type 0) (end : SessionEnd) (b : Bool) → b ≡ ended → ((w : Work) (ground : Ground) → IsAmid (may_leave mid) (shown mid) session w ground → Flushed {T = T} (Err end) (may_leave now) (shown now) self w ground) → BreaksOff end (may_leave now) (shown now) self (BeginsAsking work b bytes) work before
+    pub flush_breaks : (T : Type 0) (end : SessionEnd) (b : Bool) → b ≡ ended → ((w : Work) (basis : Ground) → IsAmid (may_leave mid) (shown mid) session w basis → Flushed {T = T} (Err end) (may_leave now) (shown now) self w basis) → BreaksOff end (may_leave now) (shown now) self (BeginsAsking work b bytes) work before
     flush_breaks T end b is broke =
         let w = x.working in
-        broke_by_flush (BeginsAsking work b bytes) (begins_front work b bytes) work before w.asks w.ground (begins_so reader b work bytes x.given w.asks (x.ended_is ∙ sym is) w.read w.asked) w.behind T end (may_leave now) (shown now) self (broke (work_after_all work w.asks) w.ground w.at)
+        broke_by_flush (BeginsAsking work b bytes) (begins_front work b bytes) work before w.asks w.basis (begins_so reader b work bytes x.given w.asks (x.ended_is ∙ sym is) w.read w.asked) w.behind T end (may_leave now) (shown now) self (broke (work_after_all work w.asks) w.basis w.at)
 
-    pub memory_breaks : (end : SessionEnd) (b : Bool) → b ≡ ended → ((w : Work) (ground : Ground) → IsAmid (may_leave mid) (shown mid) session w ground → EndsForMemory end (may_leave now) (shown now) self w ground) → BreaksOff end (may_leave now) (shown now) self (BeginsAsking work b bytes) work before
+    pub memory_breaks : (end : SessionEnd) (b : Bool) → b ≡ ended → ((w : Work) (basis : Ground) → IsAmid (may_leave mid) (shown mid) session w basis → EndsForMemory end (may_leave now) (shown now) self w basis) → BreaksOff end (may_leave now) (shown now) self (BeginsAsking work b bytes) work before
     memory_breaks end b is broke =
         let w = x.working in
-        broke_for_memory (BeginsAsking work b bytes) (begins_front work b bytes) work before w.asks w.ground (begins_so reader b work bytes x.given w.asks (x.ended_is ∙ sym is) w.read w.asked) w.behind end (may_leave now) (shown now) self (broke (work_after_all work w.asks) w.ground w.at)
+        broke_for_memory (BeginsAsking work b bytes) (begins_front work b bytes) work before w.asks w.basis (begins_so reader b work bytes x.given w.asks (x.ended_is ∙ sym is) w.read w.asked) w.behind end (may_leave now) (shown now) self (broke (work_after_all work w.asks) w.basis w.at)
 
   -- what the reader gives next
   module _ (mid : D) (session : Session) (had reader : Held) (x : Works moment left_since may_leave shown begun mid session had ended was work before bytes) (found : Option Item) (gives : (fed : List ℕ) (items : List Item) → HasRead had fed items → HasRead reader fed (items ++ option_to_list found)) (same_ended : reader.ended ≡ had.ended) where
@@ -86,7 +86,7 @@ module _ {D : Type 0} (moment : D → ℕ) (left_since : D → ℕ → ℕ → I
     works_all is none =
         let w = x.working in (
           x.given,
-          record { asks = w.asks; read = read_none reader bytes x.given found is (gives bytes x.given w.read); asked = w.asked; ground = w.ground; behind = w.behind; at = w.at; troubled = w.troubled; last_run = w.last_run },
+          record { asks = w.asks; read = read_none reader bytes x.given found is (gives bytes x.given w.read); asked = w.asked; basis = w.basis; behind = w.behind; at = w.at; troubled = w.troubled; last_run = w.last_run },
           holds_none found had reader.ended bytes x.given is none w.read same_ended,
         )
 
@@ -101,26 +101,26 @@ module _ {D : Type 0} (moment : D → ℕ) (left_since : D → ℕ → ℕ → I
       grows_at : (b : Bool) → b ≡ ended → (ask : Ask) → AsksIn (work_after_all work x.working.asks) (Chunk item) ask → BeginsAsking work b bytes (x.working.asks ++ ask ∷ [])
       grows_at b same = grows b work bytes x.given x.working.asks item x.working.asked (begins reader b bytes (x.given ++ item ∷ []) (same_ended ∙ x.ended_is ∙ sym same) given_read)
 
-      pub work_run : ((w : Work) (ground : Ground) → IsReadable (Chunk item) → IsAmid (may_leave mid) (shown mid) session w ground → LeavesOnly moment left_since mid now (WorkLeaves w ground (Chunk item))) → LeavesOnly moment left_since begun now (AnswersLeave ended work before bytes)
+      pub work_run : ((w : Work) (basis : Ground) → IsReadable (Chunk item) → IsAmid (may_leave mid) (shown mid) session w basis → LeavesOnly moment left_since mid now (WorkLeaves w basis (Chunk item))) → LeavesOnly moment left_since begun now (AnswersLeave ended work before bytes)
       work_run leaves =
           let w = x.working in
-          group_worked moment left_since (BeginsAsking work ended bytes) (begins_front work ended bytes) work before w.asks w.ground (begins_so had ended work bytes x.given w.asks x.ended_is w.read w.asked) w.behind begun mid now (Chunk item) (grows_at ended refl) x.run (leaves (work_after_all work w.asks) w.ground given_readable w.at)
+          group_worked moment left_since (BeginsAsking work ended bytes) (begins_front work ended bytes) work before w.asks w.basis (begins_so had ended work bytes x.given w.asks x.ended_is w.read w.asked) w.behind begun mid now (Chunk item) (grows_at ended refl) x.run (leaves (work_after_all work w.asks) w.basis given_readable w.at)
 
-      pub works_item : ((w : Work) (ground : Ground) → IsReadable (Chunk item) → IsAmid (may_leave mid) (shown mid) session w ground → Worked {T = Unit {0}} (Ok tt) (may_leave now) (shown now) self (was_of session) w ground (Chunk item))
-          → ((w : Work) (ground : Ground) → IsReadable (Chunk item) → IsAmid (may_leave mid) (shown mid) session w ground → LeavesOnly moment left_since mid now (WorkLeaves w ground (Chunk item))) → Works moment left_since may_leave shown begun now self reader ended was work before bytes
+      pub works_item : ((w : Work) (basis : Ground) → IsReadable (Chunk item) → IsAmid (may_leave mid) (shown mid) session w basis → Worked {T = Unit {0}} (Ok tt) (may_leave now) (shown now) self (was_of session) w basis (Chunk item))
+          → ((w : Work) (basis : Ground) → IsReadable (Chunk item) → IsAmid (may_leave mid) (shown mid) session w basis → LeavesOnly moment left_since mid now (WorkLeaves w basis (Chunk item))) → Works moment left_since may_leave shown begun now self reader ended was work before bytes
       works_item worked leaves =
           let w = x.working in
           record {
             given = x.given ++ item ∷ [];
-            working = worked_on (may_leave mid) (may_leave now) (shown mid) (shown now) session self had reader was work before bytes x.given item w given_read (worked (work_after_all work w.asks) w.ground given_readable w.at);
+            working = worked_on (may_leave mid) (may_leave now) (shown mid) (shown now) session self had reader was work before bytes x.given item w given_read (worked (work_after_all work w.asks) w.basis given_readable w.at);
             ended_is = same_ended ∙ x.ended_is;
             run = work_run leaves;
           }
 
-      pub work_breaks : (T : Type 0) (end : SessionEnd) (b : Bool) → b ≡ ended → ((w : Work) (ground : Ground) → IsReadable (Chunk item) → IsAmid (may_leave mid) (shown mid) session w ground → Worked {T = T} (Err end) (may_leave now) (shown now) self (was_of session) w ground (Chunk item)) → BreaksOff end (may_leave now) (shown now) self (BeginsAsking work b bytes) work before
+      pub work_breaks : (T : Type 0) (end : SessionEnd) (b : Bool) → b ≡ ended → ((w : Work) (basis : Ground) → IsReadable (Chunk item) → IsAmid (may_leave mid) (shown mid) session w basis → Worked {T = T} (Err end) (may_leave now) (shown now) self (was_of session) w basis (Chunk item)) → BreaksOff end (may_leave now) (shown now) self (BeginsAsking work b bytes) work before
       work_breaks T end b same broke =
           let w = x.working in
-          broke_by_work (BeginsAsking work b bytes) (begins_front work b bytes) work before w.asks w.ground (begins_so had b work bytes x.given w.asks (x.ended_is ∙ sym same) w.read w.asked) w.behind (Chunk item) (grows_at b same) T end (may_leave now) (shown now) self (was_of session) (broke (work_after_all work w.asks) w.ground given_readable w.at)
+          broke_by_work (BeginsAsking work b bytes) (begins_front work b bytes) work before w.asks w.basis (begins_so had b work bytes x.given w.asks (x.ended_is ∙ sym same) w.read w.asked) w.behind (Chunk item) (grows_at b same) T end (may_leave now) (shown now) self (was_of session) (broke (work_after_all work w.asks) w.basis given_readable w.at)
 
 -- ---- the parts of a piece
 
@@ -157,7 +157,7 @@ module _ {D : Type 0} (moment : D → ℕ) (left_since : D → ℕ → ℕ → I
         none = λ none. subst Q (sym (append-nil bytes)) none;
         run = λ input left is.
             let firsts = front_first (may_leave begun) (shown begun) session reader was work before bytes first input (piece ++ left) w (is ∙ append_assoc bytes piece left) opened in
-            group_starts moment left_since (FirstAsksOf work input) (first_front work input) work before w.asks w.ground firsts w.behind (may_leave begun) (shown begun) session begun only w.at;
+            group_starts moment left_since (FirstAsksOf work input) (first_front work input) work before w.asks w.basis firsts w.behind (may_leave begun) (shown begun) session begun only w.at;
       }
 
   -- a part more
@@ -216,7 +216,7 @@ module _ {D : Type 0} (moment : D → ℕ) (left_since : D → ℕ → ℕ → I
       record {
         taking = taking;
         opened = opened;
-        run = group_starts moment left_since (FirstAsksOf work input) (first_front work input) work before w.asks w.ground (taking_first (may_leave begun) (shown begun) session reader was work input before taking opened) w.behind (may_leave begun) (shown begun) session begun only w.at;
+        run = group_starts moment left_since (FirstAsksOf work input) (first_front work input) work before w.asks w.basis (taking_first (may_leave begun) (shown begun) session reader was work input before taking opened) w.behind (may_leave begun) (shown begun) session begun only w.at;
       }
 
   module _ (old mid : D) (session : Session) (reader : Held) (x : TakesOn moment left_since may_leave shown begun old session reader was work input before) where
@@ -225,7 +225,7 @@ module _ {D : Type 0} (moment : D → ℕ) (left_since : D → ℕ → ℕ → I
     take_run quiet =
         let h = x.taking in
         let w = done_on (may_leave old) (shown old) session reader was work before h.bytes h.given h.done in
-        group_quiet moment left_since (FirstAsksOf work input) (first_front work input) work before w.asks w.ground (taking_first (may_leave old) (shown old) session reader was work input before h x.opened) w.behind (may_leave old) (shown old) session begun old mid w.at x.run quiet
+        group_quiet moment left_since (FirstAsksOf work input) (first_front work input) work before w.asks w.basis (taking_first (may_leave old) (shown old) session reader was work input before h x.opened) w.behind (may_leave old) (shown old) session begun old mid w.at x.run quiet
 
     -- or none came
     pub take_ends : (T : Type 0) (end : SessionEnd) (is_now : Was) (buf : List ℕ) (n : ℕ) → fed reader ≡ n → shown mid ≡ record (shown old) { left = (shown mid).left } → ((c : Image) → may_leave mid c → may_leave old c) → ((left : List ℕ) → (shown old).left ≡ Some left → Takes (Err end) (shown mid) n buf left) → Ends {T = T} (Err end) (may_leave mid) (shown mid) was is_now work input before
@@ -261,24 +261,24 @@ module _ {D : Type 0} (moment : D → ℕ) (left_since : D → ℕ → ℕ → I
           piece_first = front_first (may_leave now) (shown now) self now_reader was work before (taken.bytes ++ take count buf) piece_worked.0 input taken.left piece_worked.1 taken.input_is opened
 
           -- and flushed
-          module _ (end_of : D) (last : Session) (flush_leaves : (w : Work) (ground : Ground) → IsAmid (may_leave now) (shown now) self w ground → LeavesOnly moment left_since now end_of (FlushLeaves w ground)) where
+          module _ (end_of : D) (last : Session) (flush_leaves : (w : Work) (basis : Ground) → IsAmid (may_leave now) (shown now) self w basis → LeavesOnly moment left_since now end_of (FlushLeaves w basis)) where
             pub piece_flush_run : LeavesOnly moment left_since old mid (IsAsBefore (may_leave old) (shown old).told 0) → LeavesOnly moment left_since begun end_of (Keeps work input before)
             piece_flush_run quiet =
                 let w = piece_worked.1 in
-                group_flushed moment left_since (FirstAsksOf work input) (first_front work input) work before w.asks w.ground piece_first w.behind begun now end_of (piece_run quiet) (flush_leaves (work_after_all work w.asks) w.ground w.at)
+                group_flushed moment left_since (FirstAsksOf work input) (first_front work input) work before w.asks w.basis piece_first w.behind begun now end_of (piece_run quiet) (flush_leaves (work_after_all work w.asks) w.basis w.at)
 
-            pub piece_flush_ends : (T : Type 0) (end : SessionEnd) (is_now : Was) → ((w : Work) (ground : Ground) → IsAmid (may_leave now) (shown now) self w ground → Flushed {T = T} (Err end) (may_leave end_of) (shown end_of) last w ground) → Ends {T = T} (Err end) (may_leave end_of) (shown end_of) was is_now work input before
+            pub piece_flush_ends : (T : Type 0) (end : SessionEnd) (is_now : Was) → ((w : Work) (basis : Ground) → IsAmid (may_leave now) (shown now) self w basis → Flushed {T = T} (Err end) (may_leave end_of) (shown end_of) last w basis) → Ends {T = T} (Err end) (may_leave end_of) (shown end_of) was is_now work input before
             piece_flush_ends T end is_now broke =
                 let w = piece_worked.1 in
                 breaks T end (may_leave end_of) (shown end_of) last (FirstAsksOf work input) was is_now work before input (λ asks first. first)
-                (broke_by_flush (FirstAsksOf work input) (first_front work input) work before w.asks w.ground piece_first w.behind T end (may_leave end_of) (shown end_of) last (broke (work_after_all work w.asks) w.ground w.at))
+                (broke_by_flush (FirstAsksOf work input) (first_front work input) work before w.asks w.basis piece_first w.behind T end (may_leave end_of) (shown end_of) last (broke (work_after_all work w.asks) w.basis w.at))
 
-            pub takes_piece : ((w : Work) (ground : Ground) → IsAmid (may_leave now) (shown now) self w ground → Flushed {T = Unit {0}} (Ok tt) (may_leave end_of) (shown end_of) last w ground) → HasSameRest self last → (shown now).left ≡ (shown mid).left → (shown end_of).left ≡ (shown now).left → LeavesOnly moment left_since old mid (IsAsBefore (may_leave old) (shown old).told 0)
+            pub takes_piece : ((w : Work) (basis : Ground) → IsAmid (may_leave now) (shown now) self w basis → Flushed {T = Unit {0}} (Ok tt) (may_leave end_of) (shown end_of) last w basis) → HasSameRest self last → (shown now).left ≡ (shown mid).left → (shown end_of).left ≡ (shown now).left → LeavesOnly moment left_since old mid (IsAsBefore (may_leave old) (shown old).told 0)
                 → TakesOn moment left_since may_leave shown begun end_of last now_reader was work input before
             takes_piece flushed rest now_left last_left quiet =
                 let w = piece_worked.1 in
                 record {
-                  taking = taking_on (may_leave now) (may_leave end_of) (shown mid) (shown now) (shown end_of) self last now_reader was work input before (taken.bytes ++ take count buf) taken.left taken.input_is taken.left_is now_left last_left piece_worked (flushed (work_after_all work w.asks) w.ground w.at) rest;
+                  taking = taking_on (may_leave now) (may_leave end_of) (shown mid) (shown now) (shown end_of) self last now_reader was work input before (taken.bytes ++ take count buf) taken.left taken.input_is taken.left_is now_left last_left piece_worked (flushed (work_after_all work w.asks) w.basis w.at) rest;
                   opened = opened;
                   run = piece_flush_run quiet;
                 }

@@ -47,14 +47,14 @@ pub record Ground : Type 0 where
 
 -- the session is at work behind this list, of which a front is kept on its disk, in this section, whose head is brief; and these bytes were put,
 -- and those are held
-pub record IsAmid (may_leave : Image → Type 0) (o : Shown) (session : Session) (work : Work) (ground : Ground) : Type 0 where
-  pub keeps : Keeps o.tells o.files may_leave (keeper_of session) ground.kept work.changes
+pub record IsAmid (may_leave : Image → Type 0) (o : Shown) (session : Session) (work : Work) (basis : Ground) : Type 0 where
+  pub keeps : Keeps o.tells o.files may_leave (keeper_of session) basis.kept work.changes
   pub section : section_of session ≡ work.section
   pub brief : IsBriefSection work.section
   pub budget : budget_of session ≡ work.settings.budget
-  pub taken : o.taken ≡ Some ground.put
-  pub told : o.told ≡ length ground.put
-  pub held : held_of session ≡ ground.held
+  pub taken : o.taken ≡ Some basis.put
+  pub told : o.told ≡ length basis.put
+  pub held : held_of session ≡ basis.held
 
 -- all is kept, and nothing is held
 abbrev pub at_rest : Work → List ℕ → Ground
@@ -66,15 +66,15 @@ IsAt may_leave o session work put = IsAmid may_leave o session work (at_rest wor
 
 -- a reply more is held
 abbrev pub holding : Ground → List ℕ → Ground
-holding ground line = record ground { held = ground.held ++ line }
+holding basis line = record basis { held = basis.held ++ line }
 
 -- all is kept, and what was held is put
 abbrev pub flushed : Work → Ground → Ground
-flushed work ground = at_rest work (ground.put ++ ground.held)
+flushed work basis = at_rest work (basis.put ++ basis.held)
 
--- the session goes on behind this list, on the same ground, or on that of a flush
+-- the session goes on behind this list, on the same basis, or on that of a flush
 abbrev pub GoesOn : (Image → Type 0) → Shown → Session → Work → Ground → Type 0
-GoesOn may_leave o session work ground = IsAmid may_leave o session work ground ⊎ IsAmid may_leave o session work (flushed work ground)
+GoesOn may_leave o session work basis = IsAmid may_leave o session work basis ⊎ IsAmid may_leave o session work (flushed work basis)
 
 -- its text is the text of a chunk, which isn't too long, or else its length is
 abbrev pub IsReadable : SessionItem → Type 0
@@ -106,12 +106,12 @@ pub record IsLost (may_leave : Image → Type 0) (now : Shown) (put : List ℕ) 
 
 -- after a change was to be kept that ended so: all is as before, or the disk failed
 abbrev pub Unworked : SessionEnd → (Image → Type 0) → Shown → Session → Work → Ground → Type 0
-Unworked ends.Memory may_leave now session work ground = IsAmid may_leave now session work ground
-Unworked (ends.Disk failed) may_leave now session work ground = IsLost may_leave now ground.put (λ list. list ≡ ground.kept)
-Unworked (ends.Read failed) may_leave now session work ground = ⊥
-Unworked (ends.Write failed) may_leave now session work ground = ⊥
-Unworked (ends.Damaged damage) may_leave now session work ground = ⊥
-Unworked ends.TooLong may_leave now session work ground = ⊥
+Unworked ends.Memory may_leave now session work basis = IsAmid may_leave now session work basis
+Unworked (ends.Disk failed) may_leave now session work basis = IsLost may_leave now basis.put (λ list. list ≡ basis.kept)
+Unworked (ends.Read failed) may_leave now session work basis = ⊥
+Unworked (ends.Write failed) may_leave now session work basis = ⊥
+Unworked (ends.Damaged damage) may_leave now session work basis = ⊥
+Unworked ends.TooLong may_leave now session work basis = ⊥
 
 -- the same section behind the list to which a change is added
 abbrev pub adding : Work → Change → Work
@@ -119,38 +119,38 @@ adding work change = record work { changes = list_or (add work.changes change) w
 
 -- after a change was to be kept
 abbrev pub Kept : Result (Option Refusal) SessionEnd → (Image → Type 0) → Shown → Session → Work → Ground → Change → Type 0
-Kept (Ok refusal) may_leave now session work ground change =
-    (reply_to_keeping refusal ≡ reply_to_adding (add work.changes change)) × IsAmid may_leave now session (adding work change) ground
-Kept (Err end) may_leave now session work ground change = Unworked end may_leave now session work ground
+Kept (Ok refusal) may_leave now session work basis change =
+    (reply_to_keeping refusal ≡ reply_to_adding (add work.changes change)) × IsAmid may_leave now session (adding work change) basis
+Kept (Err end) may_leave now session work basis change = Unworked end may_leave now session work basis
 
 -- after what is pending was to be committed: all is kept, or the disk failed
 abbrev pub Committed : {T : Type 0} → Result T SessionEnd → (Image → Type 0) → Shown → Session → Work → Ground → Type 0
-Committed (Ok done) may_leave now session work ground = IsAmid may_leave now session work (record ground { kept = work.changes })
-Committed (Err (ends.Disk failed)) may_leave now session work ground = IsLost may_leave now ground.put (λ list. (list ≡ ground.kept) ⊎ (list ≡ work.changes))
-Committed (Err ends.Memory) may_leave now session work ground = ⊥
-Committed (Err (ends.Read failed)) may_leave now session work ground = ⊥
-Committed (Err (ends.Write failed)) may_leave now session work ground = ⊥
-Committed (Err (ends.Damaged damage)) may_leave now session work ground = ⊥
-Committed (Err ends.TooLong) may_leave now session work ground = ⊥
+Committed (Ok done) may_leave now session work basis = IsAmid may_leave now session work (record basis { kept = work.changes })
+Committed (Err (ends.Disk failed)) may_leave now session work basis = IsLost may_leave now basis.put (λ list. (list ≡ basis.kept) ⊎ (list ≡ work.changes))
+Committed (Err ends.Memory) may_leave now session work basis = ⊥
+Committed (Err (ends.Read failed)) may_leave now session work basis = ⊥
+Committed (Err (ends.Write failed)) may_leave now session work basis = ⊥
+Committed (Err (ends.Damaged damage)) may_leave now session work basis = ⊥
+Committed (Err ends.TooLong) may_leave now session work basis = ⊥
 
 -- after a flush: all is kept and put; or the disk failed before anything was put; or the output failed, and a front is put
 abbrev pub Flushed : {T : Type 0} → Result T SessionEnd → (Image → Type 0) → Shown → Session → Work → Ground → Type 0
-Flushed (Ok done) may_leave now session work ground = IsAt may_leave now session work (ground.put ++ ground.held)
-Flushed (Err (ends.Disk failed)) may_leave now session work ground = IsLost may_leave now ground.put (λ list. (list ≡ ground.kept) ⊎ (list ≡ work.changes))
-Flushed (Err (ends.Write failed)) may_leave now session work ground = (count : ℕ) × (count < length ground.held) × IsAt may_leave now session work (ground.put ++ take count ground.held)
-Flushed (Err ends.Memory) may_leave now session work ground = ⊥
-Flushed (Err (ends.Read failed)) may_leave now session work ground = ⊥
-Flushed (Err (ends.Damaged damage)) may_leave now session work ground = ⊥
-Flushed (Err ends.TooLong) may_leave now session work ground = ⊥
+Flushed (Ok done) may_leave now session work basis = IsAt may_leave now session work (basis.put ++ basis.held)
+Flushed (Err (ends.Disk failed)) may_leave now session work basis = IsLost may_leave now basis.put (λ list. (list ≡ basis.kept) ⊎ (list ≡ work.changes))
+Flushed (Err (ends.Write failed)) may_leave now session work basis = (count : ℕ) × (count < length basis.held) × IsAt may_leave now session work (basis.put ++ take count basis.held)
+Flushed (Err ends.Memory) may_leave now session work basis = ⊥
+Flushed (Err (ends.Read failed)) may_leave now session work basis = ⊥
+Flushed (Err (ends.Damaged damage)) may_leave now session work basis = ⊥
+Flushed (Err ends.TooLong) may_leave now session work basis = ⊥
 
 -- a session ends for want of memory, once it was flushed, or by the fault of the flush
 abbrev pub EndsForMemory : SessionEnd → (Image → Type 0) → Shown → Session → Work → Ground → Type 0
-EndsForMemory ends.Memory may_leave now session work ground = IsAt may_leave now session work (ground.put ++ ground.held)
-EndsForMemory (ends.Disk failed) may_leave now session work ground = Flushed {T = Unit {0}} (Err (ends.Disk failed)) may_leave now session work ground
-EndsForMemory (ends.Write failed) may_leave now session work ground = Flushed {T = Unit {0}} (Err (ends.Write failed)) may_leave now session work ground
-EndsForMemory (ends.Read failed) may_leave now session work ground = ⊥
-EndsForMemory (ends.Damaged damage) may_leave now session work ground = ⊥
-EndsForMemory ends.TooLong may_leave now session work ground = ⊥
+EndsForMemory ends.Memory may_leave now session work basis = IsAt may_leave now session work (basis.put ++ basis.held)
+EndsForMemory (ends.Disk failed) may_leave now session work basis = Flushed {T = Unit {0}} (Err (ends.Disk failed)) may_leave now session work basis
+EndsForMemory (ends.Write failed) may_leave now session work basis = Flushed {T = Unit {0}} (Err (ends.Write failed)) may_leave now session work basis
+EndsForMemory (ends.Read failed) may_leave now session work basis = ⊥
+EndsForMemory (ends.Damaged damage) may_leave now session work basis = ⊥
+EndsForMemory ends.TooLong may_leave now session work basis = ⊥
 
 -- after the code of this text was to be evaluated among the classes and methods that the session's keeper has
 abbrev pub Evaluates : {E : Type 0} → Result Reply E → Session → Session → List ℕ → Type 0
@@ -166,8 +166,8 @@ IsPast work item list = (list ≡ work.changes) ⊎ ((ask : Ask) × AsksIn work 
 
 -- the disk failed while an item was worked: before a flush, or behind it
 abbrev pub IsLostAt : (Image → Type 0) → Shown → Work → Ground → SessionItem → Type 0
-IsLostAt may_leave now work ground item =
-    IsLost may_leave now ground.put (λ list. (list ≡ ground.kept) ⊎ IsPast work item list) ⊎ IsLost may_leave now (ground.put ++ ground.held) (IsPast work item)
+IsLostAt may_leave now work basis item =
+    IsLost may_leave now basis.put (λ list. (list ≡ basis.kept) ⊎ IsPast work item list) ⊎ IsLost may_leave now (basis.put ++ basis.held) (IsPast work item)
 
 -- the doIt that an item asks to evaluate was kept, and memory was wanting to evaluate it; P holds of the work behind it
 abbrev pub IsUnevaluated : Work → SessionItem → (Work → Type 0) → Type 0
@@ -175,24 +175,24 @@ IsUnevaluated work item P = (text : List ℕ) × (told : List ℕ) × (stopped :
 
 -- after work on an item that ended so, before it is answered: nothing was put but in a flush
 abbrev pub Unreplied : SessionEnd → (Image → Type 0) → Shown → Session → Work → Ground → SessionItem → Type 0
-Unreplied ends.Memory may_leave now session work ground item = GoesOn may_leave now session work ground ⊎ IsUnevaluated work item (λ w. IsAmid may_leave now session w ground)
-Unreplied (ends.Disk failed) may_leave now session work ground item = IsLostAt may_leave now work ground item
-Unreplied (ends.Write failed) may_leave now session work ground item = (count : ℕ) × (count < length ground.held) × IsAt may_leave now session work (ground.put ++ take count ground.held)
-Unreplied (ends.Read failed) may_leave now session work ground item = ⊥
-Unreplied (ends.Damaged damage) may_leave now session work ground item = ⊥
-Unreplied ends.TooLong may_leave now session work ground item = ⊥
+Unreplied ends.Memory may_leave now session work basis item = GoesOn may_leave now session work basis ⊎ IsUnevaluated work item (λ w. IsAmid may_leave now session w basis)
+Unreplied (ends.Disk failed) may_leave now session work basis item = IsLostAt may_leave now work basis item
+Unreplied (ends.Write failed) may_leave now session work basis item = (count : ℕ) × (count < length basis.held) × IsAt may_leave now session work (basis.put ++ take count basis.held)
+Unreplied (ends.Read failed) may_leave now session work basis item = ⊥
+Unreplied (ends.Damaged damage) may_leave now session work basis item = ⊥
+Unreplied ends.TooLong may_leave now session work basis item = ⊥
 
 -- after the note of a snapshot was to be kept, behind a flush
 abbrev pub Noted : Result Reply SessionEnd → (Image → Type 0) → Shown → Session → Work → Ground → SessionItem → Type 0
-Noted (Ok reply) may_leave now session work ground item =
+Noted (Ok reply) may_leave now session work basis item =
     (reply ≡ reply_to_adding (add work.changes (changes.DoIt snapshot_note)))
-    × IsAmid may_leave now session (adding work (changes.DoIt snapshot_note)) (flushed (adding work (changes.DoIt snapshot_note)) ground)
-Noted (Err ends.Memory) may_leave now session work ground item = GoesOn may_leave now session work ground
-Noted (Err (ends.Disk failed)) may_leave now session work ground item = IsLostAt may_leave now work ground item
-Noted (Err (ends.Write failed)) may_leave now session work ground item = (count : ℕ) × (count < length ground.held) × IsAt may_leave now session work (ground.put ++ take count ground.held)
-Noted (Err (ends.Read failed)) may_leave now session work ground item = ⊥
-Noted (Err (ends.Damaged damage)) may_leave now session work ground item = ⊥
-Noted (Err ends.TooLong) may_leave now session work ground item = ⊥
+    × IsAmid may_leave now session (adding work (changes.DoIt snapshot_note)) (flushed (adding work (changes.DoIt snapshot_note)) basis)
+Noted (Err ends.Memory) may_leave now session work basis item = GoesOn may_leave now session work basis
+Noted (Err (ends.Disk failed)) may_leave now session work basis item = IsLostAt may_leave now work basis item
+Noted (Err (ends.Write failed)) may_leave now session work basis item = (count : ℕ) × (count < length basis.held) × IsAt may_leave now session work (basis.put ++ take count basis.held)
+Noted (Err (ends.Read failed)) may_leave now session work basis item = ⊥
+Noted (Err (ends.Damaged damage)) may_leave now session work basis item = ⊥
+Noted (Err ends.TooLong) may_leave now session work basis item = ⊥
 
 -- after a query was worked, at rest
 abbrev pub QueryWorked : Result Reply SessionEnd → (Image → Type 0) → Shown → Session → Was → Work → List ℕ → SessionItem → Type 0
@@ -207,9 +207,9 @@ QueryWorked (Err ends.TooLong) may_leave now session was work put item = ⊥
 
 -- after an item was worked that leaves the section, and before it is answered
 abbrev pub Replied : Result Reply SessionEnd → (Image → Type 0) → Shown → Session → Was → Work → Ground → SessionItem → Type 0
-Replied (Ok reply) may_leave now session was work ground item =
-    (ask : Ask) × AsksIn work item ask × (reply ≡ reply_to work ask) × RunBehind work ask was.last_run (last_run_of session) × GoesOn may_leave now session (work_after work ask) ground
-Replied (Err end) may_leave now session was work ground item = Unreplied end may_leave now session work ground item
+Replied (Ok reply) may_leave now session was work basis item =
+    (ask : Ask) × AsksIn work item ask × (reply ≡ reply_to work ask) × RunBehind work ask was.last_run (last_run_of session) × GoesOn may_leave now session (work_after work ask) basis
+Replied (Err end) may_leave now session was work basis item = Unreplied end may_leave now session work basis item
 
 -- the work behind what was asked, with the section as it was
 abbrev pub staying : Work → Ask → Work
@@ -217,35 +217,35 @@ staying work ask = record (work_after work ask) { section = work.section }
 
 -- after an item was worked, before its section is entered and its reply is held
 abbrev pub Answers : Result Answer SessionEnd → (Image → Type 0) → Shown → Session → Was → Work → Ground → SessionItem → Type 0
-Answers (Ok answer) may_leave now session was work ground item =
-    (ask : Ask) × AsksIn work item ask × IsAnswer work ask answer × RunBehind work ask was.last_run (last_run_of session) × GoesOn may_leave now session (staying work ask) ground
-Answers (Err end) may_leave now session was work ground item = Unreplied end may_leave now session work ground item
+Answers (Ok answer) may_leave now session was work basis item =
+    (ask : Ask) × AsksIn work item ask × IsAnswer work ask answer × RunBehind work ask was.last_run (last_run_of session) × GoesOn may_leave now session (staying work ask) basis
+Answers (Err end) may_leave now session was work basis item = Unreplied end may_leave now session work basis item
 
--- the session goes on with a reply more held, on the same ground, or on that of a flush
+-- the session goes on with a reply more held, on the same basis, or on that of a flush
 abbrev pub Holds : (Image → Type 0) → Shown → Session → Work → Ground → List ℕ → Type 0
-Holds may_leave now session work ground line = IsAmid may_leave now session work (holding ground line) ⊎ IsAmid may_leave now session work (holding (flushed work ground) line)
+Holds may_leave now session work basis line = IsAmid may_leave now session work (holding basis line) ⊎ IsAmid may_leave now session work (holding (flushed work basis) line)
 
 -- after an item was worked, and its reply held, before a flush for want of memory
 abbrev pub ItemWorked : {T : Type 0} → Result T SessionEnd → (Image → Type 0) → Shown → Session → Was → Work → Ground → SessionItem → Type 0
-ItemWorked (Ok done) may_leave now session was work ground item =
+ItemWorked (Ok done) may_leave now session was work basis item =
     (ask : Ask) × AsksIn work item ask × (troubled_of session ≡ (was.troubled || is_trouble (reply_to work ask)))
-    × RunBehind work ask was.last_run (last_run_of session) × Holds may_leave now session (work_after work ask) ground (reply_text (reply_to work ask))
-ItemWorked (Err end) may_leave now session was work ground item = Unreplied end may_leave now session work ground item
+    × RunBehind work ask was.last_run (last_run_of session) × Holds may_leave now session (work_after work ask) basis (reply_text (reply_to work ask))
+ItemWorked (Err end) may_leave now session was work basis item = Unreplied end may_leave now session work basis item
 
 -- After an item was worked, and its reply held: where memory was wanting, all is kept and put that was there before.
 abbrev pub Worked : {T : Type 0} → Result T SessionEnd → (Image → Type 0) → Shown → Session → Was → Work → Ground → SessionItem → Type 0
-Worked (Ok done) may_leave now session was work ground item =
+Worked (Ok done) may_leave now session was work basis item =
     (ask : Ask) × AsksIn work item ask × (troubled_of session ≡ (was.troubled || is_trouble (reply_to work ask)))
-    × RunBehind work ask was.last_run (last_run_of session) × Holds may_leave now session (work_after work ask) ground (reply_text (reply_to work ask))
-Worked (Err ends.Memory) may_leave now session was work ground item =
-    IsAt may_leave now session work (ground.put ++ ground.held) ⊎ IsUnevaluated work item (λ w. IsAt may_leave now session w (ground.put ++ ground.held))
-Worked (Err (ends.Disk failed)) may_leave now session was work ground item = IsLostAt may_leave now work ground item
-Worked (Err (ends.Write failed)) may_leave now session was work ground item =
-    (count : ℕ) × (count < length ground.held)
-    × (IsAt may_leave now session work (ground.put ++ take count ground.held) ⊎ IsUnevaluated work item (λ w. IsAt may_leave now session w (ground.put ++ take count ground.held)))
-Worked (Err (ends.Read failed)) may_leave now session was work ground item = ⊥
-Worked (Err (ends.Damaged damage)) may_leave now session was work ground item = ⊥
-Worked (Err ends.TooLong) may_leave now session was work ground item = ⊥
+    × RunBehind work ask was.last_run (last_run_of session) × Holds may_leave now session (work_after work ask) basis (reply_text (reply_to work ask))
+Worked (Err ends.Memory) may_leave now session was work basis item =
+    IsAt may_leave now session work (basis.put ++ basis.held) ⊎ IsUnevaluated work item (λ w. IsAt may_leave now session w (basis.put ++ basis.held))
+Worked (Err (ends.Disk failed)) may_leave now session was work basis item = IsLostAt may_leave now work basis item
+Worked (Err (ends.Write failed)) may_leave now session was work basis item =
+    (count : ℕ) × (count < length basis.held)
+    × (IsAt may_leave now session work (basis.put ++ take count basis.held) ⊎ IsUnevaluated work item (λ w. IsAt may_leave now session w (basis.put ++ take count basis.held)))
+Worked (Err (ends.Read failed)) may_leave now session was work basis item = ⊥
+Worked (Err (ends.Damaged damage)) may_leave now session was work basis item = ⊥
+Worked (Err ends.TooLong) may_leave now session was work basis item = ⊥
 
 -- after an item was worked and answered, with what the session held before
 abbrev pub Stepped : {T : Type 0} → Result T SessionEnd → (Image → Type 0) → Shown → Session → Was → Work → List ℕ → SessionItem → Type 0
@@ -266,23 +266,23 @@ HasReadSome reader = (bytes : List ℕ) × (given : List Item) × HasRead reader
 
 -- What a session stands on behind what was asked: the replies to the first asks are put, the list behind at least these is kept, and the
 -- replies to the others are held.
-pub record IsBehind (work : Work) (before : List ℕ) (asks : List Ask) (ground : Ground) : Type 0 where
+pub record IsBehind (work : Work) (before : List ℕ) (asks : List Ask) (basis : Ground) : Type 0 where
   pub answered : List Ask
   pub more : List Ask
   pub pending : List Ask
   pub all : asks ≡ (answered ++ more) ++ pending
-  pub kept : ground.kept ≡ list_after_all work (answered ++ more)
-  pub put : ground.put ≡ before ++ replies work answered
-  pub held : ground.put ++ ground.held ≡ before ++ replies work asks
+  pub kept : basis.kept ≡ list_after_all work (answered ++ more)
+  pub put : basis.put ≡ before ++ replies work answered
+  pub held : basis.put ++ basis.held ≡ before ++ replies work asks
 
 -- of these bytes the reader gave these items, and what each asks was worked, since the session held that
 pub record IsWorking (may_leave : Image → Type 0) (o : Shown) (session : Session) (reader : Held) (was : Was) (work : Work) (before bytes : List ℕ) (given : List Item) : Type 0 where
   pub asks : List Ask
   pub read : HasRead reader bytes given
   pub asked : AllAsk work (chunks given) asks
-  pub ground : Ground
-  pub behind : IsBehind work before asks ground
-  pub at : IsAmid may_leave o session (work_after_all work asks) ground
+  pub basis : Ground
+  pub behind : IsBehind work before asks basis
+  pub at : IsAmid may_leave o session (work_after_all work asks) basis
   pub troubled : troubled_of session ≡ (was.troubled || any_trouble work asks)
   pub last_run : RunBehindAll work asks was.last_run (last_run_of session)
 
@@ -361,9 +361,9 @@ pub record IsFinished (may_leave : Image → Type 0) (now : Shown) (session : Se
   pub all : AsksOf work input asks
   pub within : length input ≤ input_limit
   pub left : now.left ≡ Some []
-  pub ground : Ground
-  pub behind : IsBehind work before asks ground
-  pub at : IsAmid may_leave now session (work_after_all work asks) ground
+  pub basis : Ground
+  pub behind : IsBehind work before asks basis
+  pub at : IsAmid may_leave now session (work_after_all work asks) basis
   pub troubled : troubled_of session ≡ (was.troubled || any_trouble work asks)
   pub last_run : RunBehindAll work asks was.last_run (last_run_of session)
 
@@ -373,14 +373,14 @@ Finishes (Err end) may_leave now session was work input before = Ends {T = Unit 
 
 -- what a crash leaves while what is pending is committed, and while it is flushed
 abbrev pub CommitLeaves : Work → Ground → ℕ → Image → Type 0
-CommitLeaves work ground told c = HasKept ground.kept (length ground.put) told c ⊎ HasKept work.changes (length ground.put) told c
+CommitLeaves work basis told c = HasKept basis.kept (length basis.put) told c ⊎ HasKept work.changes (length basis.put) told c
 
 abbrev pub FlushLeaves : Work → Ground → ℕ → Image → Type 0
-FlushLeaves work ground told c = HasKept ground.kept (length ground.put) told c ⊎ HasKept work.changes (length (ground.put ++ ground.held)) told c
+FlushLeaves work basis told c = HasKept basis.kept (length basis.put) told c ⊎ HasKept work.changes (length (basis.put ++ basis.held)) told c
 
 -- what a crash leaves while an item is worked, with a flush in it or none, and before its reply is put
 abbrev pub WorkLeaves : Work → Ground → SessionItem → ℕ → Image → Type 0
-WorkLeaves work ground item told c = FlushLeaves work ground told c ⊎ ((ask : Ask) × AsksIn work item ask × HasKept (work_after work ask).changes (length (ground.put ++ ground.held)) told c)
+WorkLeaves work basis item told c = FlushLeaves work basis told c ⊎ ((ask : Ask) × AsksIn work item ask × HasKept (work_after work ask).changes (length (basis.put ++ basis.held)) told c)
 
 -- what a crash leaves while an item is worked and answered
 abbrev pub StepLeaves : Work → List ℕ → SessionItem → ℕ → Image → Type 0

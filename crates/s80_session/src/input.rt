@@ -81,12 +81,12 @@ impl Session {
         ensures fed { fed reader.new ≡ fed reader.old }
         ensures ended { reader.new.ended ≡ reader.old.ended }
         ensures same { IfOk result (λ item. (self.new ≡ self.old) × (outside.new ≡ outside.old)) }
-        ensures ends { (work : Work) (ground : Ground)
-            → IsAmid (O.may_leave outside.old) (O.shown outside.old) self.old work ground
-            → IfErr result (λ end. EndsForMemory end (O.may_leave outside.new) (O.shown outside.new) self.new work ground) }
-        ensures any_moment { (work : Work) (ground : Ground)
-            → IsAmid (O.may_leave outside.old) (O.shown outside.old) self.old work ground
-            → LeavesOnly O.moment O.left_since outside.old outside.new (FlushLeaves work ground) }
+        ensures ends { (work : Work) (basis : Ground)
+            → IsAmid (O.may_leave outside.old) (O.shown outside.old) self.old work basis
+            → IfErr result (λ end. EndsForMemory end (O.may_leave outside.new) (O.shown outside.new) self.new work basis) }
+        ensures any_moment { (work : Work) (basis : Ground)
+            → IsAmid (O.may_leave outside.old) (O.shown outside.old) self.old work basis
+            → LeavesOnly O.moment O.left_since outside.old outside.new (FlushLeaves work basis) }
         ensures rest { HasSameRest self.old self.new }
         ensures left { (O.shown outside.new).left ≡ (O.shown outside.old).left }
         ensures counts { Counts (O.faults outside.old) (O.faults outside.new) result }

@@ -169,17 +169,17 @@ impl Session {
         outside: &mut O,
     ) -> Result<(), SessionEnd>
         requires faultless { IsFaultless self.old }
-        ensures worked { (work : Work) (ground : Ground) → IsReadable item
-            → IsAmid (O.may_leave outside.old) (O.shown outside.old) self.old work ground
-            → Worked result (O.may_leave outside.new) (O.shown outside.new) self.new (was_of self.old) work ground item }
-        ensures any_moment { (work : Work) (ground : Ground) → IsReadable item
-            → IsAmid (O.may_leave outside.old) (O.shown outside.old) self.old work ground
-            → LeavesOnly O.moment O.left_since outside.old outside.new (WorkLeaves work ground item) }
+        ensures worked { (work : Work) (basis : Ground) → IsReadable item
+            → IsAmid (O.may_leave outside.old) (O.shown outside.old) self.old work basis
+            → Worked result (O.may_leave outside.new) (O.shown outside.new) self.new (was_of self.old) work basis item }
+        ensures any_moment { (work : Work) (basis : Ground) → IsReadable item
+            → IsAmid (O.may_leave outside.old) (O.shown outside.old) self.old work basis
+            → LeavesOnly O.moment O.left_since outside.old outside.new (WorkLeaves work basis item) }
         // Nothing is put and the mark stays where a chunk is worked that asks for no snapshot, and at any moment a crash leaves the list that was
         // kept before.
-        ensures grouped { (work : Work) (ground : Ground) → IsReadable item → IsGrouped item
-            → IsAmid (O.may_leave outside.old) (O.shown outside.old) self.old work ground
-            → OnOk result (LeavesOnly O.moment O.left_since outside.old outside.new (HasKept ground.kept (length ground.put))) }
+        ensures grouped { (work : Work) (basis : Ground) → IsReadable item → IsGrouped item
+            → IsAmid (O.may_leave outside.old) (O.shown outside.old) self.old work basis
+            → OnOk result (LeavesOnly O.moment O.left_since outside.old outside.new (HasKept basis.kept (length basis.put))) }
         ensures unmarked { IsReadable item → IsGrouped item → OnOk result ((O.shown outside.new).files Mark ≡ (O.shown outside.old).files Mark) }
         ensures silent { IsReadable item → IsGrouped item → OnOk result ((O.shown outside.new).taken ≡ (O.shown outside.old).taken) }
         // Whatever the disk stands for, but for the mark and the log the files stay, in what is read and at any moment.
@@ -212,12 +212,12 @@ impl Session {
     /// How the session ends where memory is wanting, once what is pending and held is flushed: so, or by the fault of that flush.
     pub(crate) fn end_for_memory<O: Outside>(&mut self, outside: &mut O) -> SessionEnd
         requires faultless { IsFaultless self.old }
-        ensures ends { (work : Work) (ground : Ground)
-            → IsAmid (O.may_leave outside.old) (O.shown outside.old) self.old work ground
-            → EndsForMemory result (O.may_leave outside.new) (O.shown outside.new) self.new work ground }
-        ensures any_moment { (work : Work) (ground : Ground)
-            → IsAmid (O.may_leave outside.old) (O.shown outside.old) self.old work ground
-            → LeavesOnly O.moment O.left_since outside.old outside.new (FlushLeaves work ground) }
+        ensures ends { (work : Work) (basis : Ground)
+            → IsAmid (O.may_leave outside.old) (O.shown outside.old) self.old work basis
+            → EndsForMemory result (O.may_leave outside.new) (O.shown outside.new) self.new work basis }
+        ensures any_moment { (work : Work) (basis : Ground)
+            → IsAmid (O.may_leave outside.old) (O.shown outside.old) self.old work basis
+            → LeavesOnly O.moment O.left_since outside.old outside.new (FlushLeaves work basis) }
         // Whatever the disk stands for, but for the mark the files stay, in what is read and at any moment.
         ensures others { (other : FileId) → other ≢ Mark → (O.shown outside.new).files other ≡ (O.shown outside.old).files other }
         ensures elsewhere { LeavesOnly O.moment O.left_since outside.old outside.new (IsElsewhere (O.may_leave outside.old) (log_file (keeper_of self.old).log.number)) }
@@ -238,12 +238,12 @@ impl Session {
     /// of the output none is held any more.
     pub fn flush<O: Outside>(&mut self, outside: &mut O) -> Result<(), SessionEnd>
         requires faultless { IsFaultless self.old }
-        ensures flushed { (work : Work) (ground : Ground)
-            → IsAmid (O.may_leave outside.old) (O.shown outside.old) self.old work ground
-            → Flushed result (O.may_leave outside.new) (O.shown outside.new) self.new work ground }
-        ensures any_moment { (work : Work) (ground : Ground)
-            → IsAmid (O.may_leave outside.old) (O.shown outside.old) self.old work ground
-            → LeavesOnly O.moment O.left_since outside.old outside.new (FlushLeaves work ground) }
+        ensures flushed { (work : Work) (basis : Ground)
+            → IsAmid (O.may_leave outside.old) (O.shown outside.old) self.old work basis
+            → Flushed result (O.may_leave outside.new) (O.shown outside.new) self.new work basis }
+        ensures any_moment { (work : Work) (basis : Ground)
+            → IsAmid (O.may_leave outside.old) (O.shown outside.old) self.old work basis
+            → LeavesOnly O.moment O.left_since outside.old outside.new (FlushLeaves work basis) }
         ensures one_mark { OnOk result (HasCommitted (keeper_of self.old) (keeper_of self.new)) }
         ensures put { TakesHeld result (O.shown outside.old).taken (O.shown outside.new).taken (held_of self.old) }
         // Whatever the disk stands for, but for the mark the files stay, in what is read and at any moment.
@@ -274,12 +274,12 @@ impl Session {
     /// Commits what is pending.
     fn commit<O: Outside>(&mut self, outside: &mut O) -> Result<(), SessionEnd>
         requires faultless { IsFaultless self.old }
-        ensures committed { (work : Work) (ground : Ground)
-            → IsAmid (O.may_leave outside.old) (O.shown outside.old) self.old work ground
-            → Committed result (O.may_leave outside.new) (O.shown outside.new) self.new work ground }
-        ensures any_moment { (work : Work) (ground : Ground)
-            → IsAmid (O.may_leave outside.old) (O.shown outside.old) self.old work ground
-            → LeavesOnly O.moment O.left_since outside.old outside.new (CommitLeaves work ground) }
+        ensures committed { (work : Work) (basis : Ground)
+            → IsAmid (O.may_leave outside.old) (O.shown outside.old) self.old work basis
+            → Committed result (O.may_leave outside.new) (O.shown outside.new) self.new work basis }
+        ensures any_moment { (work : Work) (basis : Ground)
+            → IsAmid (O.may_leave outside.old) (O.shown outside.old) self.old work basis
+            → LeavesOnly O.moment O.left_since outside.old outside.new (CommitLeaves work basis) }
         ensures one_mark { OnOk result (HasCommitted (keeper_of self.old) (keeper_of self.new)) }
         // Whatever the disk stands for, but for the mark the files stay, in what is read and at any moment.
         ensures others { (other : FileId) → other ≢ Mark → (O.shown outside.new).files other ≡ (O.shown outside.old).files other }
@@ -332,15 +332,15 @@ impl Session {
         outside: &mut O,
     ) -> Result<(), SessionEnd>
         requires faultless { IsFaultless self.old }
-        ensures worked { (work : Work) (ground : Ground) → IsReadable item
-            → IsAmid (O.may_leave outside.old) (O.shown outside.old) self.old work ground
-            → ItemWorked result (O.may_leave outside.new) (O.shown outside.new) self.new (was_of self.old) work ground item }
-        ensures any_moment { (work : Work) (ground : Ground) → IsReadable item
-            → IsAmid (O.may_leave outside.old) (O.shown outside.old) self.old work ground
-            → LeavesOnly O.moment O.left_since outside.old outside.new (WorkLeaves work ground item) }
-        ensures grouped { (work : Work) (ground : Ground) → IsReadable item → IsGrouped item
-            → IsAmid (O.may_leave outside.old) (O.shown outside.old) self.old work ground
-            → LeavesOnly O.moment O.left_since outside.old outside.new (HasKept ground.kept (length ground.put)) }
+        ensures worked { (work : Work) (basis : Ground) → IsReadable item
+            → IsAmid (O.may_leave outside.old) (O.shown outside.old) self.old work basis
+            → ItemWorked result (O.may_leave outside.new) (O.shown outside.new) self.new (was_of self.old) work basis item }
+        ensures any_moment { (work : Work) (basis : Ground) → IsReadable item
+            → IsAmid (O.may_leave outside.old) (O.shown outside.old) self.old work basis
+            → LeavesOnly O.moment O.left_since outside.old outside.new (WorkLeaves work basis item) }
+        ensures grouped { (work : Work) (basis : Ground) → IsReadable item → IsGrouped item
+            → IsAmid (O.may_leave outside.old) (O.shown outside.old) self.old work basis
+            → LeavesOnly O.moment O.left_since outside.old outside.new (HasKept basis.kept (length basis.put)) }
         ensures unmarked { IsReadable item → IsGrouped item → (O.shown outside.new).files Mark ≡ (O.shown outside.old).files Mark }
         ensures silent { IsReadable item → IsGrouped item → (O.shown outside.new).taken ≡ (O.shown outside.old).taken }
         // Whatever the disk stands for, but for the mark and the log the files stay, in what is read and at any moment.
@@ -413,15 +413,15 @@ impl Session {
         outside: &mut O,
     ) -> Result<Answer, SessionEnd>
         requires faultless { IsFaultless self.old }
-        ensures answers { (work : Work) (ground : Ground) → IsReadable item
-            → IsAmid (O.may_leave outside.old) (O.shown outside.old) self.old work ground
-            → Answers result (O.may_leave outside.new) (O.shown outside.new) self.new (was_of self.old) work ground item }
-        ensures any_moment { (work : Work) (ground : Ground) → IsReadable item
-            → IsAmid (O.may_leave outside.old) (O.shown outside.old) self.old work ground
-            → LeavesOnly O.moment O.left_since outside.old outside.new (WorkLeaves work ground item) }
-        ensures grouped { (work : Work) (ground : Ground) → IsReadable item → IsGrouped item
-            → IsAmid (O.may_leave outside.old) (O.shown outside.old) self.old work ground
-            → LeavesOnly O.moment O.left_since outside.old outside.new (HasKept ground.kept (length ground.put)) }
+        ensures answers { (work : Work) (basis : Ground) → IsReadable item
+            → IsAmid (O.may_leave outside.old) (O.shown outside.old) self.old work basis
+            → Answers result (O.may_leave outside.new) (O.shown outside.new) self.new (was_of self.old) work basis item }
+        ensures any_moment { (work : Work) (basis : Ground) → IsReadable item
+            → IsAmid (O.may_leave outside.old) (O.shown outside.old) self.old work basis
+            → LeavesOnly O.moment O.left_since outside.old outside.new (WorkLeaves work basis item) }
+        ensures grouped { (work : Work) (basis : Ground) → IsReadable item → IsGrouped item
+            → IsAmid (O.may_leave outside.old) (O.shown outside.old) self.old work basis
+            → LeavesOnly O.moment O.left_since outside.old outside.new (HasKept basis.kept (length basis.put)) }
         ensures unmarked { IsReadable item → IsGrouped item → (O.shown outside.new).files Mark ≡ (O.shown outside.old).files Mark }
         ensures silent { IsReadable item → IsGrouped item → ((O.shown outside.new).taken ≡ (O.shown outside.old).taken) × (held_of self.new ≡ held_of self.old) }
         // Whatever the disk stands for, but for the mark and the log the files stay, in what is read and at any moment.
@@ -479,15 +479,15 @@ impl Session {
         outside: &mut O,
     ) -> Result<Reply, SessionEnd>
         requires faultless { IsFaultless self.old }
-        ensures replied { (work : Work) (ground : Ground) → IsChunkText text → length text ≤ longest
-            → IsAmid (O.may_leave outside.old) (O.shown outside.old) self.old work ground
-            → Replied result (O.may_leave outside.new) (O.shown outside.new) self.new (was_of self.old) work ground (SessionItem.Chunk (items.Plain text)) }
-        ensures any_moment { (work : Work) (ground : Ground) → IsChunkText text → length text ≤ longest
-            → IsAmid (O.may_leave outside.old) (O.shown outside.old) self.old work ground
-            → LeavesOnly O.moment O.left_since outside.old outside.new (WorkLeaves work ground (SessionItem.Chunk (items.Plain text))) }
-        ensures grouped { (work : Work) (ground : Ground) → IsChunkText text → length text ≤ longest → IsGrouped (SessionItem.Chunk (items.Plain text))
-            → IsAmid (O.may_leave outside.old) (O.shown outside.old) self.old work ground
-            → LeavesOnly O.moment O.left_since outside.old outside.new (HasKept ground.kept (length ground.put)) }
+        ensures replied { (work : Work) (basis : Ground) → IsChunkText text → length text ≤ longest
+            → IsAmid (O.may_leave outside.old) (O.shown outside.old) self.old work basis
+            → Replied result (O.may_leave outside.new) (O.shown outside.new) self.new (was_of self.old) work basis (SessionItem.Chunk (items.Plain text)) }
+        ensures any_moment { (work : Work) (basis : Ground) → IsChunkText text → length text ≤ longest
+            → IsAmid (O.may_leave outside.old) (O.shown outside.old) self.old work basis
+            → LeavesOnly O.moment O.left_since outside.old outside.new (WorkLeaves work basis (SessionItem.Chunk (items.Plain text))) }
+        ensures grouped { (work : Work) (basis : Ground) → IsChunkText text → length text ≤ longest → IsGrouped (SessionItem.Chunk (items.Plain text))
+            → IsAmid (O.may_leave outside.old) (O.shown outside.old) self.old work basis
+            → LeavesOnly O.moment O.left_since outside.old outside.new (HasKept basis.kept (length basis.put)) }
         ensures unmarked { IsChunkText text → length text ≤ longest → IsGrouped (SessionItem.Chunk (items.Plain text)) → (O.shown outside.new).files Mark ≡ (O.shown outside.old).files Mark }
         ensures silent { IsChunkText text → length text ≤ longest → IsGrouped (SessionItem.Chunk (items.Plain text))
             → ((O.shown outside.new).taken ≡ (O.shown outside.old).taken) × (held_of self.new ≡ held_of self.old) }
@@ -534,12 +534,12 @@ impl Session {
     ) -> Result<Reply, SessionEnd>
         requires faultless { IsFaultless self.old }
         requires method { IsMethodOfDoIt text method.now }
-        ensures replied { (work : Work) (ground : Ground) → IsChunkText text → length text ≤ longest → IsNoFormText text
-            → IsAmid (O.may_leave outside.old) (O.shown outside.old) self.old work ground
-            → Replied result (O.may_leave outside.new) (O.shown outside.new) self.new (was_of self.old) work ground (SessionItem.Chunk (items.Plain text)) }
-        ensures any_moment { (work : Work) (ground : Ground) → IsChunkText text → length text ≤ longest → IsNoFormText text
-            → IsAmid (O.may_leave outside.old) (O.shown outside.old) self.old work ground
-            → LeavesOnly O.moment O.left_since outside.old outside.new (HasKept ground.kept (length ground.put)) }
+        ensures replied { (work : Work) (basis : Ground) → IsChunkText text → length text ≤ longest → IsNoFormText text
+            → IsAmid (O.may_leave outside.old) (O.shown outside.old) self.old work basis
+            → Replied result (O.may_leave outside.new) (O.shown outside.new) self.new (was_of self.old) work basis (SessionItem.Chunk (items.Plain text)) }
+        ensures any_moment { (work : Work) (basis : Ground) → IsChunkText text → length text ≤ longest → IsNoFormText text
+            → IsAmid (O.may_leave outside.old) (O.shown outside.old) self.old work basis
+            → LeavesOnly O.moment O.left_since outside.old outside.new (HasKept basis.kept (length basis.put)) }
         // Whatever the disk stands for, but for the log the files stay, and at any moment but for the mark and the log.
         ensures others { (other : FileId) → other ≢ log_file (keeper_of self.old).log.number → (O.shown outside.new).files other ≡ (O.shown outside.old).files other }
         ensures elsewhere { LeavesOnly O.moment O.left_since outside.old outside.new (IsElsewhere (O.may_leave outside.old) (log_file (keeper_of self.old).log.number)) }
@@ -588,12 +588,12 @@ impl Session {
         outside: &mut O,
     ) -> Result<Reply, SessionEnd>
         requires faultless { IsFaultless self.old }
-        ensures replied { (work : Work) (ground : Ground) → IsChunkText source → length source ≤ longest
-            → IsAmid (O.may_leave outside.old) (O.shown outside.old) self.old work ground
-            → Replied result (O.may_leave outside.new) (O.shown outside.new) self.new (was_of self.old) work ground (SessionItem.Chunk (items.Method source)) }
-        ensures any_moment { (work : Work) (ground : Ground) → IsChunkText source → length source ≤ longest
-            → IsAmid (O.may_leave outside.old) (O.shown outside.old) self.old work ground
-            → LeavesOnly O.moment O.left_since outside.old outside.new (HasKept ground.kept (length ground.put)) }
+        ensures replied { (work : Work) (basis : Ground) → IsChunkText source → length source ≤ longest
+            → IsAmid (O.may_leave outside.old) (O.shown outside.old) self.old work basis
+            → Replied result (O.may_leave outside.new) (O.shown outside.new) self.new (was_of self.old) work basis (SessionItem.Chunk (items.Method source)) }
+        ensures any_moment { (work : Work) (basis : Ground) → IsChunkText source → length source ≤ longest
+            → IsAmid (O.may_leave outside.old) (O.shown outside.old) self.old work basis
+            → LeavesOnly O.moment O.left_since outside.old outside.new (HasKept basis.kept (length basis.put)) }
         // Whatever the disk stands for, but for the log the files stay, and at any moment but for the mark and the log.
         ensures others { (other : FileId) → other ≢ log_file (keeper_of self.old).log.number → (O.shown outside.new).files other ≡ (O.shown outside.old).files other }
         ensures elsewhere { LeavesOnly O.moment O.left_since outside.old outside.new (IsElsewhere (O.may_leave outside.old) (log_file (keeper_of self.old).log.number)) }
@@ -629,12 +629,12 @@ impl Session {
     /// Keeps the note of a snapshot by itself: what is pending and held is flushed before.
     fn keep_note<O: Outside>(&mut self, alloc: Global, outside: &mut O) -> Result<Reply, SessionEnd>
         requires faultless { IsFaultless self.old }
-        ensures noted { (work : Work) (ground : Ground) (item : SessionItem) → Asks item (adds (Change.DoIt snapshot_note))
-            → IsAmid (O.may_leave outside.old) (O.shown outside.old) self.old work ground
-            → Noted result (O.may_leave outside.new) (O.shown outside.new) self.new work ground item }
-        ensures any_moment { (work : Work) (ground : Ground) (item : SessionItem) → Asks item (adds (Change.DoIt snapshot_note))
-            → IsAmid (O.may_leave outside.old) (O.shown outside.old) self.old work ground
-            → LeavesOnly O.moment O.left_since outside.old outside.new (WorkLeaves work ground item) }
+        ensures noted { (work : Work) (basis : Ground) (item : SessionItem) → Asks item (adds (Change.DoIt snapshot_note))
+            → IsAmid (O.may_leave outside.old) (O.shown outside.old) self.old work basis
+            → Noted result (O.may_leave outside.new) (O.shown outside.new) self.new work basis item }
+        ensures any_moment { (work : Work) (basis : Ground) (item : SessionItem) → Asks item (adds (Change.DoIt snapshot_note))
+            → IsAmid (O.may_leave outside.old) (O.shown outside.old) self.old work basis
+            → LeavesOnly O.moment O.left_since outside.old outside.new (WorkLeaves work basis item) }
         // Whatever the disk stands for, but for the mark and the log the files stay, in what is read and at any moment.
         ensures others { (other : FileId) → other ≢ Mark → other ≢ log_file (keeper_of self.old).log.number → (O.shown outside.new).files other ≡ (O.shown outside.old).files other }
         ensures elsewhere { LeavesOnly O.moment O.left_since outside.old outside.new (IsElsewhere (O.may_leave outside.old) (log_file (keeper_of self.old).log.number)) }
@@ -664,12 +664,12 @@ impl Session {
         outside: &mut O,
     ) -> Result<Option<Refusal>, SessionEnd>
         requires faultless { IsFaultless self.old }
-        ensures kept { (work : Work) (ground : Ground) → IsLawfulFor work.changes change
-            → IsAmid (O.may_leave outside.old) (O.shown outside.old) self.old work ground
-            → Kept result (O.may_leave outside.new) (O.shown outside.new) self.new work ground change }
-        ensures any_moment { (work : Work) (ground : Ground) → IsLawfulFor work.changes change
-            → IsAmid (O.may_leave outside.old) (O.shown outside.old) self.old work ground
-            → LeavesOnly O.moment O.left_since outside.old outside.new (HasKept ground.kept (length ground.put)) }
+        ensures kept { (work : Work) (basis : Ground) → IsLawfulFor work.changes change
+            → IsAmid (O.may_leave outside.old) (O.shown outside.old) self.old work basis
+            → Kept result (O.may_leave outside.new) (O.shown outside.new) self.new work basis change }
+        ensures any_moment { (work : Work) (basis : Ground) → IsLawfulFor work.changes change
+            → IsAmid (O.may_leave outside.old) (O.shown outside.old) self.old work basis
+            → LeavesOnly O.moment O.left_since outside.old outside.new (HasKept basis.kept (length basis.put)) }
         // Whatever the disk stands for, but for the log the files stay, and at any moment but for the mark and the log.
         ensures others { (other : FileId) → other ≢ log_file (keeper_of self.old).log.number → (O.shown outside.new).files other ≡ (O.shown outside.old).files other }
         ensures elsewhere { LeavesOnly O.moment O.left_since outside.old outside.new (IsElsewhere (O.may_leave outside.old) (log_file (keeper_of self.old).log.number)) }

@@ -18,30 +18,30 @@ use Rattle.s80_session.proofs.Taking.{first_asks}
 use Rattle.s80_session.proofs.lemmas.Amid.{amid_leaves}
 
 module _ {D : Type 0} (moment : D → ℕ) (left_since : D → ℕ → ℕ → Image → Type 0) where
-  module _ (Begins : List Ask → Type 0) (fronts : (first more : List Ask) → Begins (first ++ more) → Begins first) (work : Work) (before : List ℕ) (asks : List Ask) (ground : Ground) (begins : Begins asks) (b : IsBehind work before asks ground) where
+  module _ (Begins : List Ask → Type 0) (fronts : (first more : List Ask) → Begins (first ++ more) → Begins first) (work : Work) (before : List ℕ) (asks : List Ask) (basis : Ground) (begins : Begins asks) (b : IsBehind work before asks basis) where
     -- no call was made
-    pub group_starts : (may_leave : Image → Type 0) (o : Shown) (session : Session) (now : D) → ((told : ℕ) (c : Image) → left_since now (moment now) told c → may_leave c × (told ≡ o.told)) → IsAmid may_leave o session (work_after_all work asks) ground → LeavesOnly moment left_since now now (Leaves Begins work before)
+    pub group_starts : (may_leave : Image → Type 0) (o : Shown) (session : Session) (now : D) → ((told : ℕ) (c : Image) → left_since now (moment now) told c → may_leave c × (told ≡ o.told)) → IsAmid may_leave o session (work_after_all work asks) basis → LeavesOnly moment left_since now now (Leaves Begins work before)
     group_starts may_leave o session now only at =
-        started moment left_since now (Leaves Begins work before) (λ told c left. let x = only told c left in ground_leaves Begins fronts work before asks ground begins b told c (record { no_more = omega (arith, at.told, x.1); files = amid_leaves may_leave o session (work_after_all work asks) ground at c x.0 }))
+        started moment left_since now (Leaves Begins work before) (λ told c left. let x = only told c left in ground_leaves Begins fronts work before asks basis begins b told c (record { no_more = omega (arith, at.told, x.1); files = amid_leaves may_leave o session (work_after_all work asks) basis at c x.0 }))
 
     -- a call that puts nothing and leaves the files
-    pub group_quiet : (may_leave : Image → Type 0) (o : Shown) (session : Session) (old mid new : D) → IsAmid may_leave o session (work_after_all work asks) ground → LeavesOnly moment left_since old mid (Leaves Begins work before) → LeavesOnly moment left_since mid new (IsAsBefore may_leave o.told 0) → LeavesOnly moment left_since old new (Leaves Begins work before)
+    pub group_quiet : (may_leave : Image → Type 0) (o : Shown) (session : Session) (old mid new : D) → IsAmid may_leave o session (work_after_all work asks) basis → LeavesOnly moment left_since old mid (Leaves Begins work before) → LeavesOnly moment left_since mid new (IsAsBefore may_leave o.told 0) → LeavesOnly moment left_since old new (Leaves Begins work before)
     group_quiet may_leave o session old mid new at first second =
-        joined moment left_since old mid new (Leaves Begins work before) (IsAsBefore may_leave o.told 0) first second (λ told c was. ground_leaves Begins fronts work before asks ground begins b told c (record { no_more = omega (arith, at.told, was.no_more); files = amid_leaves may_leave o session (work_after_all work asks) ground at c was.was }))
+        joined moment left_since old mid new (Leaves Begins work before) (IsAsBefore may_leave o.told 0) first second (λ told c was. ground_leaves Begins fronts work before asks basis begins b told c (record { no_more = omega (arith, at.told, was.no_more); files = amid_leaves may_leave o session (work_after_all work asks) basis at c was.was }))
 
     -- a flush
-    pub group_flushed : (old mid new : D) → LeavesOnly moment left_since old mid (Leaves Begins work before) → LeavesOnly moment left_since mid new (FlushLeaves (work_after_all work asks) ground) → LeavesOnly moment left_since old new (Leaves Begins work before)
+    pub group_flushed : (old mid new : D) → LeavesOnly moment left_since old mid (Leaves Begins work before) → LeavesOnly moment left_since mid new (FlushLeaves (work_after_all work asks) basis) → LeavesOnly moment left_since old new (Leaves Begins work before)
     group_flushed old mid new first second =
-        joined moment left_since old mid new (Leaves Begins work before) (FlushLeaves (work_after_all work asks) ground) first second (flush_leaves Begins fronts work before asks ground begins b)
+        joined moment left_since old mid new (Leaves Begins work before) (FlushLeaves (work_after_all work asks) basis) first second (flush_leaves Begins fronts work before asks basis begins b)
 
     -- the work on an item
-    pub group_worked : (old mid new : D) (item : SessionItem) → ((ask : Ask) → AsksIn (work_after_all work asks) item ask → Begins (asks ++ ask ∷ [])) → LeavesOnly moment left_since old mid (Leaves Begins work before) → LeavesOnly moment left_since mid new (WorkLeaves (work_after_all work asks) ground item) → LeavesOnly moment left_since old new (Leaves Begins work before)
+    pub group_worked : (old mid new : D) (item : SessionItem) → ((ask : Ask) → AsksIn (work_after_all work asks) item ask → Begins (asks ++ ask ∷ [])) → LeavesOnly moment left_since old mid (Leaves Begins work before) → LeavesOnly moment left_since mid new (WorkLeaves (work_after_all work asks) basis item) → LeavesOnly moment left_since old new (Leaves Begins work before)
     group_worked old mid new item grows first second =
-        joined moment left_since old mid new (Leaves Begins work before) (WorkLeaves (work_after_all work asks) ground item) first second (work_leaves Begins fronts work before asks ground begins b item grows)
+        joined moment left_since old mid new (Leaves Begins work before) (WorkLeaves (work_after_all work asks) basis item) first second (work_leaves Begins fronts work before asks basis begins b item grows)
 
-  pub flush_starts : (may_leave : Image → Type 0) (o : Shown) (session : Session) (now : D) (work : Work) (ground : Ground) → ((told : ℕ) (c : Image) → left_since now (moment now) told c → may_leave c × (told ≡ o.told)) → IsAmid may_leave o session work ground → LeavesOnly moment left_since now now (FlushLeaves work ground)
-  flush_starts may_leave o session now work ground only at =
-      started moment left_since now (FlushLeaves work ground) (λ told c left. let x = only told c left in inl (record { no_more = omega (arith, at.told, x.1); files = amid_leaves may_leave o session work ground at c x.0 }))
+  pub flush_starts : (may_leave : Image → Type 0) (o : Shown) (session : Session) (now : D) (work : Work) (basis : Ground) → ((told : ℕ) (c : Image) → left_since now (moment now) told c → may_leave c × (told ≡ o.told)) → IsAmid may_leave o session work basis → LeavesOnly moment left_since now now (FlushLeaves work basis)
+  flush_starts may_leave o session now work basis only at =
+      started moment left_since now (FlushLeaves work basis) (λ told c left. let x = only told c left in inl (record { no_more = omega (arith, at.told, x.1); files = amid_leaves may_leave o session work basis at c x.0 }))
 
   -- what is kept while the items of a front of the input are worked is kept of the input
   pub answers_last : (old new : D) (ended : Bool) (work : Work) (before bytes left input : List ℕ) → input ≡ bytes ++ left → (ended ≡ true → left ≡ []) → LeavesOnly moment left_since old new (AnswersLeave ended work before bytes) → LeavesOnly moment left_since old new (Keeps work input before)

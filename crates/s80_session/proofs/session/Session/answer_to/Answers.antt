@@ -35,112 +35,112 @@ use Rattle.s80_session.proofs.session.Session.answer_to.Goals as goal
 use Rattle.s80_session.proofs.session.Session.answer_to.Goals.{After-work_query}
 
 pub returns-in_err-head_answer-in-Chunk-Head-clause-any_moment : goal.returns-in_err-head_answer-in-Chunk-Head-clause-any_moment
-returns-in_err-head_answer-in-Chunk-Head-clause-any_moment g c = λ work ground readable at.
-    work_still g.O.Disk.moment g.O.Disk.left_since c.args.outside.now c.args.outside.now work ground c.args.item (nothing_happens g.O.Disk.moment g.O.Disk.left_since _ (g.O.Outside.shown c.args.outside.now) _ c.args.outside.now work ground (λ told image left. let x = g.met.O.Disk.only_now c.args.outside.now told image left in (x.0, x.1 ∙ told_beside g.met.O.Outside.beside_is g.met.O.Outside.shown_is c.args.outside.now)) at)
+returns-in_err-head_answer-in-Chunk-Head-clause-any_moment g c = λ work basis readable at.
+    work_still g.O.Disk.moment g.O.Disk.left_since c.args.outside.now c.args.outside.now work basis c.args.item (nothing_happens g.O.Disk.moment g.O.Disk.left_since _ (g.O.Outside.shown c.args.outside.now) _ c.args.outside.now work basis (λ told image left. let x = g.met.O.Disk.only_now c.args.outside.now told image left in (x.0, x.1 ∙ told_beside g.met.O.Outside.beside_is g.met.O.Outside.shown_is c.args.outside.now)) at)
 
 -- a query, behind a flush: what the paths share
-module _ (g : _) (c : After-work_query g) (work : Work) (ground : Ground) (at : IsAmid (g.O.Disk.may_leave c.args.outside.now) (g.O.Outside.shown c.args.outside.now) c.args.self.now work ground) where
-  query_run : LeavesOnly g.O.Disk.moment g.O.Disk.left_since c.args.outside.now c.work_query.new.outside (WorkLeaves work ground c.args.item)
+module _ (g : _) (c : After-work_query g) (work : Work) (basis : Ground) (at : IsAmid (g.O.Disk.may_leave c.args.outside.now) (g.O.Outside.shown c.args.outside.now) c.args.self.now work basis) where
+  query_run : LeavesOnly g.O.Disk.moment g.O.Disk.left_since c.args.outside.now c.work_query.new.outside (WorkLeaves work basis c.args.item)
   query_run =
-      let P : SessionItem → Type 0 = λ i. LeavesOnly g.O.Disk.moment g.O.Disk.left_since c.args.outside.now c.work_query.new.outside (WorkLeaves work ground i) in
-      subst P (sym c.in-Query.is) (flushed_works g.O.Disk.moment g.O.Disk.left_since c.args.outside.now c.flush.new.outside c.work_query.new.outside work ground (Query c.in-Query.query) (c.flush.ensures.any_moment work ground at) (c.work_query.ensures.any_moment work (ground.put ++ ground.held) (c.in_ok-flush-in-Query.ensures.flushed work ground at)))
+      let P : SessionItem → Type 0 = λ i. LeavesOnly g.O.Disk.moment g.O.Disk.left_since c.args.outside.now c.work_query.new.outside (WorkLeaves work basis i) in
+      subst P (sym c.in-Query.is) (flushed_works g.O.Disk.moment g.O.Disk.left_since c.args.outside.now c.flush.new.outside c.work_query.new.outside work basis (Query c.in-Query.query) (c.flush.ensures.any_moment work basis at) (c.work_query.ensures.any_moment work (basis.put ++ basis.held) (c.in_ok-flush-in-Query.ensures.flushed work basis at)))
 
 pub returns-in_err-work_query-in-Query-clause-any_moment : goal.returns-in_err-work_query-in-Query-clause-any_moment
-returns-in_err-work_query-in-Query-clause-any_moment g c = λ work ground readable at. query_run g (goal.at.returns-in_err-work_query-in-Query-clause-any_moment g c).After-work_query work ground at
+returns-in_err-work_query-in-Query-clause-any_moment g c = λ work basis readable at. query_run g (goal.at.returns-in_err-work_query-in-Query-clause-any_moment g c).After-work_query work basis at
 
 pub returns-in_err-work_query-in-Query-clause-answers : goal.returns-in_err-work_query-in-Query-clause-answers
-returns-in_err-work_query-in-Query-clause-answers g c = λ work ground readable at.
+returns-in_err-work_query-in-Query-clause-answers g c = λ work basis readable at.
     let p = err_from_is_err_and c.from_residual-in_err-work_query-in-Query.result c.from_residual-in_err-work_query-in-Query.ensures.1 in
-    let P : SessionItem → Type 0 = λ i. Unreplied c.in_err-work_query-in-Query.field-0.0 (g.O.Disk.may_leave c.work_query.new.outside) (g.O.Outside.shown c.work_query.new.outside) c.work_query.new.self work ground i in
-    rw (p.1, p.2) (subst P (sym c.in-Query.is) (queried_err c.in_err-work_query-in-Query.field-0.0 (g.O.Disk.may_leave c.work_query.new.outside) (g.O.Outside.shown c.work_query.new.outside) c.work_query.new.self (was_of c.flush.new.self) work ground (Query c.in-Query.query) (c.in_err-work_query-in-Query.ensures.replied work (ground.put ++ ground.held) (c.in_ok-flush-in-Query.ensures.flushed work ground at))))
+    let P : SessionItem → Type 0 = λ i. Unreplied c.in_err-work_query-in-Query.field-0.0 (g.O.Disk.may_leave c.work_query.new.outside) (g.O.Outside.shown c.work_query.new.outside) c.work_query.new.self work basis i in
+    rw (p.1, p.2) (subst P (sym c.in-Query.is) (queried_err c.in_err-work_query-in-Query.field-0.0 (g.O.Disk.may_leave c.work_query.new.outside) (g.O.Outside.shown c.work_query.new.outside) c.work_query.new.self (was_of c.flush.new.self) work basis (Query c.in-Query.query) (c.in_err-work_query-in-Query.ensures.replied work (basis.put ++ basis.held) (c.in_ok-flush-in-Query.ensures.flushed work basis at))))
 
 pub returns-in_err-flush-in-Query-clause-any_moment : goal.returns-in_err-flush-in-Query-clause-any_moment
-returns-in_err-flush-in-Query-clause-any_moment g c = λ work ground readable at.
-    flush_works g.O.Disk.moment g.O.Disk.left_since c.args.outside.now c.flush.new.outside work ground c.args.item (c.flush.ensures.any_moment work ground at)
+returns-in_err-flush-in-Query-clause-any_moment g c = λ work basis readable at.
+    flush_works g.O.Disk.moment g.O.Disk.left_since c.args.outside.now c.flush.new.outside work basis c.args.item (c.flush.ensures.any_moment work basis at)
 
 pub returns-in_err-flush-in-Query-clause-answers : goal.returns-in_err-flush-in-Query-clause-answers
-returns-in_err-flush-in-Query-clause-answers g c = λ work ground readable at.
+returns-in_err-flush-in-Query-clause-answers g c = λ work basis readable at.
     let p = err_from_is_err_and c.from_residual-in_err-flush-in-Query.result c.from_residual-in_err-flush-in-Query.ensures.1 in
-    rw (p.1, p.2) (flush_err c.in_err-flush-in-Query.field-0.0 (g.O.Disk.may_leave c.flush.new.outside) (g.O.Outside.shown c.flush.new.outside) c.flush.new.self work ground c.args.item (c.in_err-flush-in-Query.ensures.flushed work ground at))
+    rw (p.1, p.2) (flush_err c.in_err-flush-in-Query.field-0.0 (g.O.Disk.may_leave c.flush.new.outside) (g.O.Outside.shown c.flush.new.outside) c.flush.new.self work basis c.args.item (c.in_err-flush-in-Query.ensures.flushed work basis at))
 
 pub returns-in_ok-keep_text-in-Chunk-Plain-clause-answers : goal.returns-in_ok-keep_text-in-Chunk-Plain-clause-answers
-returns-in_ok-keep_text-in-Chunk-Plain-clause-answers g c = λ work ground readable at.
+returns-in_ok-keep_text-in-Chunk-Plain-clause-answers g c = λ work basis readable at.
     let is = c.in-Chunk-Plain.is ∙ ap Chunk c.in-Chunk-Plain.field-0-is in
     let sound = subst IsReadable is readable in
-    let P : SessionItem → Type 0 = λ i. Answers (Ok c.staying.result) (g.O.Disk.may_leave c.keep_text.new.outside) (g.O.Outside.shown c.keep_text.new.outside) c.keep_text.new.self (was_of c.args.self.now) work ground i in
-    subst P (sym is) (worked_plain (g.O.Disk.may_leave c.keep_text.new.outside) (g.O.Outside.shown c.keep_text.new.outside) _ (was_of c.args.self.now) work ground c.in-Chunk-Plain.text _ c.staying.result c.staying.ensures (c.in_ok-keep_text-in-Chunk-Plain.ensures.replied work ground sound.0 sound.1 at))
+    let P : SessionItem → Type 0 = λ i. Answers (Ok c.staying.result) (g.O.Disk.may_leave c.keep_text.new.outside) (g.O.Outside.shown c.keep_text.new.outside) c.keep_text.new.self (was_of c.args.self.now) work basis i in
+    subst P (sym is) (worked_plain (g.O.Disk.may_leave c.keep_text.new.outside) (g.O.Outside.shown c.keep_text.new.outside) _ (was_of c.args.self.now) work basis c.in-Chunk-Plain.text _ c.staying.result c.staying.ensures (c.in_ok-keep_text-in-Chunk-Plain.ensures.replied work basis sound.0 sound.1 at))
 
 pub returns-in_ok-keep_text-in-Chunk-Plain-clause-any_moment : goal.returns-in_ok-keep_text-in-Chunk-Plain-clause-any_moment
-returns-in_ok-keep_text-in-Chunk-Plain-clause-any_moment g c = λ work ground readable at.
+returns-in_ok-keep_text-in-Chunk-Plain-clause-any_moment g c = λ work basis readable at.
     let is = c.in-Chunk-Plain.is ∙ ap Chunk c.in-Chunk-Plain.field-0-is in
     let sound = subst IsReadable is readable in
-    let P : SessionItem → Type 0 = λ i. LeavesOnly g.O.Disk.moment g.O.Disk.left_since c.args.outside.now c.keep_text.new.outside (WorkLeaves work ground i) in
-    subst P (sym is) (c.keep_text.ensures.any_moment work ground sound.0 sound.1 at)
+    let P : SessionItem → Type 0 = λ i. LeavesOnly g.O.Disk.moment g.O.Disk.left_since c.args.outside.now c.keep_text.new.outside (WorkLeaves work basis i) in
+    subst P (sym is) (c.keep_text.ensures.any_moment work basis sound.0 sound.1 at)
 
 pub returns-in_ok-head_answer-in-Chunk-Head-clause-answers : goal.returns-in_ok-head_answer-in-Chunk-Head-clause-answers
-returns-in_ok-head_answer-in-Chunk-Head-clause-answers g c = λ work ground readable at.
+returns-in_ok-head_answer-in-Chunk-Head-clause-answers g c = λ work basis readable at.
     let is = c.in-Chunk-Head.is ∙ ap Chunk c.in-Chunk-Head.field-0-is in
     let classes = ap (λ (s : SystemState). s.table.classes) c.system.ensures ∙ at.keeps.system.classes in
-    let P : SessionItem → Type 0 = λ i. Answers (Ok c.in_ok-head_answer-in-Chunk-Head.field-0) (g.O.Disk.may_leave c.args.outside.now) (g.O.Outside.shown c.args.outside.now) c.args.self.now (was_of c.args.self.now) work ground i in
-    subst P (sym is) (worked_head (g.O.Disk.may_leave c.args.outside.now) (g.O.Outside.shown c.args.outside.now) _ (was_of c.args.self.now) work ground c.in-Chunk-Head.text c.in_ok-head_answer-in-Chunk-Head.field-0 refl (c.in_ok-head_answer-in-Chunk-Head.ensures.answer work classes (subst IsReadable is readable).1) at)
+    let P : SessionItem → Type 0 = λ i. Answers (Ok c.in_ok-head_answer-in-Chunk-Head.field-0) (g.O.Disk.may_leave c.args.outside.now) (g.O.Outside.shown c.args.outside.now) c.args.self.now (was_of c.args.self.now) work basis i in
+    subst P (sym is) (worked_head (g.O.Disk.may_leave c.args.outside.now) (g.O.Outside.shown c.args.outside.now) _ (was_of c.args.self.now) work basis c.in-Chunk-Head.text c.in_ok-head_answer-in-Chunk-Head.field-0 refl (c.in_ok-head_answer-in-Chunk-Head.ensures.answer work classes (subst IsReadable is readable).1) at)
 
 pub returns-in_ok-head_answer-in-Chunk-Head-clause-any_moment : goal.returns-in_ok-head_answer-in-Chunk-Head-clause-any_moment
-returns-in_ok-head_answer-in-Chunk-Head-clause-any_moment g c = λ work ground readable at.
-    work_still g.O.Disk.moment g.O.Disk.left_since c.args.outside.now c.args.outside.now work ground c.args.item (nothing_happens g.O.Disk.moment g.O.Disk.left_since _ (g.O.Outside.shown c.args.outside.now) _ c.args.outside.now work ground (λ told image left. let x = g.met.O.Disk.only_now c.args.outside.now told image left in (x.0, x.1 ∙ told_beside g.met.O.Outside.beside_is g.met.O.Outside.shown_is c.args.outside.now)) at)
+returns-in_ok-head_answer-in-Chunk-Head-clause-any_moment g c = λ work basis readable at.
+    work_still g.O.Disk.moment g.O.Disk.left_since c.args.outside.now c.args.outside.now work basis c.args.item (nothing_happens g.O.Disk.moment g.O.Disk.left_since _ (g.O.Outside.shown c.args.outside.now) _ c.args.outside.now work basis (λ told image left. let x = g.met.O.Disk.only_now c.args.outside.now told image left in (x.0, x.1 ∙ told_beside g.met.O.Outside.beside_is g.met.O.Outside.shown_is c.args.outside.now)) at)
 
 pub returns-in_ok-keep_method-in-Chunk-Method-clause-answers : goal.returns-in_ok-keep_method-in-Chunk-Method-clause-answers
-returns-in_ok-keep_method-in-Chunk-Method-clause-answers g c = λ work ground readable at.
+returns-in_ok-keep_method-in-Chunk-Method-clause-answers g c = λ work basis readable at.
     let is = c.in-Chunk-Method.is ∙ ap Chunk c.in-Chunk-Method.field-0-is in
     let sound = subst IsReadable is readable in
-    let P : SessionItem → Type 0 = λ i. Answers (Ok c.staying-in-Chunk-Method.result) (g.O.Disk.may_leave c.keep_method.new.outside) (g.O.Outside.shown c.keep_method.new.outside) c.keep_method.new.self (was_of c.args.self.now) work ground i in
-    subst P (sym is) (worked_method (g.O.Disk.may_leave c.keep_method.new.outside) (g.O.Outside.shown c.keep_method.new.outside) _ (was_of c.args.self.now) work ground c.in-Chunk-Method.text _ c.staying-in-Chunk-Method.result c.staying-in-Chunk-Method.ensures (c.in_ok-keep_method-in-Chunk-Method.ensures.replied work ground sound.0 sound.1 at))
+    let P : SessionItem → Type 0 = λ i. Answers (Ok c.staying-in-Chunk-Method.result) (g.O.Disk.may_leave c.keep_method.new.outside) (g.O.Outside.shown c.keep_method.new.outside) c.keep_method.new.self (was_of c.args.self.now) work basis i in
+    subst P (sym is) (worked_method (g.O.Disk.may_leave c.keep_method.new.outside) (g.O.Outside.shown c.keep_method.new.outside) _ (was_of c.args.self.now) work basis c.in-Chunk-Method.text _ c.staying-in-Chunk-Method.result c.staying-in-Chunk-Method.ensures (c.in_ok-keep_method-in-Chunk-Method.ensures.replied work basis sound.0 sound.1 at))
 
 pub returns-in_ok-keep_method-in-Chunk-Method-clause-any_moment : goal.returns-in_ok-keep_method-in-Chunk-Method-clause-any_moment
-returns-in_ok-keep_method-in-Chunk-Method-clause-any_moment g c = λ work ground readable at.
+returns-in_ok-keep_method-in-Chunk-Method-clause-any_moment g c = λ work basis readable at.
     let is = c.in-Chunk-Method.is ∙ ap Chunk c.in-Chunk-Method.field-0-is in
     let sound = subst IsReadable is readable in
-    let P : SessionItem → Type 0 = λ i. LeavesOnly g.O.Disk.moment g.O.Disk.left_since c.args.outside.now c.keep_method.new.outside (WorkLeaves work ground i) in
-    subst P (sym is) (work_still g.O.Disk.moment g.O.Disk.left_since c.args.outside.now c.keep_method.new.outside work ground (Chunk (items.Method c.in-Chunk-Method.text)) (c.keep_method.ensures.any_moment work ground sound.0 sound.1 at))
+    let P : SessionItem → Type 0 = λ i. LeavesOnly g.O.Disk.moment g.O.Disk.left_since c.args.outside.now c.keep_method.new.outside (WorkLeaves work basis i) in
+    subst P (sym is) (work_still g.O.Disk.moment g.O.Disk.left_since c.args.outside.now c.keep_method.new.outside work basis (Chunk (items.Method c.in-Chunk-Method.text)) (c.keep_method.ensures.any_moment work basis sound.0 sound.1 at))
 
 pub returns-in-Chunk-SectionEnd-clause-answers : goal.returns-in-Chunk-SectionEnd-clause-answers
-returns-in-Chunk-SectionEnd-clause-answers g c = λ work ground readable at.
+returns-in-Chunk-SectionEnd-clause-answers g c = λ work basis readable at.
     let is = c.in-Chunk-SectionEnd.is ∙ ap Chunk c.in-Chunk-SectionEnd.field-0-is in
-    let P : SessionItem → Type 0 = λ i. Answers (Ok (record { reply = Silent; section = Some Top })) (g.O.Disk.may_leave c.args.outside.now) (g.O.Outside.shown c.args.outside.now) c.args.self.now (was_of c.args.self.now) work ground i in
-    subst P (sym is) (worked_so (g.O.Disk.may_leave c.args.outside.now) (g.O.Outside.shown c.args.outside.now) _ (was_of c.args.self.now) work ground (Chunk items.SectionEnd) closes (record { reply = Silent; section = Some Top }) (refl, tt) (refl, refl) refl refl at)
+    let P : SessionItem → Type 0 = λ i. Answers (Ok (record { reply = Silent; section = Some Top })) (g.O.Disk.may_leave c.args.outside.now) (g.O.Outside.shown c.args.outside.now) c.args.self.now (was_of c.args.self.now) work basis i in
+    subst P (sym is) (worked_so (g.O.Disk.may_leave c.args.outside.now) (g.O.Outside.shown c.args.outside.now) _ (was_of c.args.self.now) work basis (Chunk items.SectionEnd) closes (record { reply = Silent; section = Some Top }) (refl, tt) (refl, refl) refl refl at)
 
 pub returns-in-Chunk-SectionEnd-clause-any_moment : goal.returns-in-Chunk-SectionEnd-clause-any_moment
-returns-in-Chunk-SectionEnd-clause-any_moment g c = λ work ground readable at.
-    work_still g.O.Disk.moment g.O.Disk.left_since c.args.outside.now c.args.outside.now work ground c.args.item (nothing_happens g.O.Disk.moment g.O.Disk.left_since _ (g.O.Outside.shown c.args.outside.now) _ c.args.outside.now work ground (λ told image left. let x = g.met.O.Disk.only_now c.args.outside.now told image left in (x.0, x.1 ∙ told_beside g.met.O.Outside.beside_is g.met.O.Outside.shown_is c.args.outside.now)) at)
+returns-in-Chunk-SectionEnd-clause-any_moment g c = λ work basis readable at.
+    work_still g.O.Disk.moment g.O.Disk.left_since c.args.outside.now c.args.outside.now work basis c.args.item (nothing_happens g.O.Disk.moment g.O.Disk.left_since _ (g.O.Outside.shown c.args.outside.now) _ c.args.outside.now work basis (λ told image left. let x = g.met.O.Disk.only_now c.args.outside.now told image left in (x.0, x.1 ∙ told_beside g.met.O.Outside.beside_is g.met.O.Outside.shown_is c.args.outside.now)) at)
 
 pub returns-in-Chunk-TooLong-clause-answers : goal.returns-in-Chunk-TooLong-clause-answers
-returns-in-Chunk-TooLong-clause-answers g c = λ work ground readable at.
+returns-in-Chunk-TooLong-clause-answers g c = λ work basis readable at.
     let is = c.in-Chunk-TooLong.is ∙ ap Chunk c.in-Chunk-TooLong.field-0-is in
-    let P : SessionItem → Type 0 = λ i. Answers (Ok c.too_long_answer.result) (g.O.Disk.may_leave c.args.outside.now) (g.O.Outside.shown c.args.outside.now) c.args.self.now (was_of c.args.self.now) work ground i in
-    subst P (sym is) (worked_too_long (g.O.Disk.may_leave c.args.outside.now) (g.O.Outside.shown c.args.outside.now) _ (was_of c.args.self.now) work ground c.in-Chunk-TooLong.role c.in-Chunk-TooLong.length c.too_long_answer.result refl (c.too_long_answer.ensures work (sym at.section)) at)
+    let P : SessionItem → Type 0 = λ i. Answers (Ok c.too_long_answer.result) (g.O.Disk.may_leave c.args.outside.now) (g.O.Outside.shown c.args.outside.now) c.args.self.now (was_of c.args.self.now) work basis i in
+    subst P (sym is) (worked_too_long (g.O.Disk.may_leave c.args.outside.now) (g.O.Outside.shown c.args.outside.now) _ (was_of c.args.self.now) work basis c.in-Chunk-TooLong.role c.in-Chunk-TooLong.length c.too_long_answer.result refl (c.too_long_answer.ensures work (sym at.section)) at)
 
 pub returns-in-Chunk-TooLong-clause-any_moment : goal.returns-in-Chunk-TooLong-clause-any_moment
-returns-in-Chunk-TooLong-clause-any_moment g c = λ work ground readable at.
-    work_still g.O.Disk.moment g.O.Disk.left_since c.args.outside.now c.args.outside.now work ground c.args.item (nothing_happens g.O.Disk.moment g.O.Disk.left_since _ (g.O.Outside.shown c.args.outside.now) _ c.args.outside.now work ground (λ told image left. let x = g.met.O.Disk.only_now c.args.outside.now told image left in (x.0, x.1 ∙ told_beside g.met.O.Outside.beside_is g.met.O.Outside.shown_is c.args.outside.now)) at)
+returns-in-Chunk-TooLong-clause-any_moment g c = λ work basis readable at.
+    work_still g.O.Disk.moment g.O.Disk.left_since c.args.outside.now c.args.outside.now work basis c.args.item (nothing_happens g.O.Disk.moment g.O.Disk.left_since _ (g.O.Outside.shown c.args.outside.now) _ c.args.outside.now work basis (λ told image left. let x = g.met.O.Disk.only_now c.args.outside.now told image left in (x.0, x.1 ∙ told_beside g.met.O.Outside.beside_is g.met.O.Outside.shown_is c.args.outside.now)) at)
 
 pub returns-in-Unended-clause-answers : goal.returns-in-Unended-clause-answers
-returns-in-Unended-clause-answers g c = λ work ground readable at.
+returns-in-Unended-clause-answers g c = λ work basis readable at.
     let is = c.staying-in-Unended.ensures in
-    let P : SessionItem → Type 0 = λ i. Answers (Ok c.staying-in-Unended.result) (g.O.Disk.may_leave c.args.outside.now) (g.O.Outside.shown c.args.outside.now) c.args.self.now (was_of c.args.self.now) work ground i in
-    subst P (sym c.in-Unended.is) (worked_so (g.O.Disk.may_leave c.args.outside.now) (g.O.Outside.shown c.args.outside.now) _ (was_of c.args.self.now) work ground Unended (refuses refusals.Unended) c.staying-in-Unended.result (refl, tt) (ap (λ (a : Answer). a.reply) is, ap (λ (a : Answer). section_or a.section work.section) is) refl refl at)
+    let P : SessionItem → Type 0 = λ i. Answers (Ok c.staying-in-Unended.result) (g.O.Disk.may_leave c.args.outside.now) (g.O.Outside.shown c.args.outside.now) c.args.self.now (was_of c.args.self.now) work basis i in
+    subst P (sym c.in-Unended.is) (worked_so (g.O.Disk.may_leave c.args.outside.now) (g.O.Outside.shown c.args.outside.now) _ (was_of c.args.self.now) work basis Unended (refuses refusals.Unended) c.staying-in-Unended.result (refl, tt) (ap (λ (a : Answer). a.reply) is, ap (λ (a : Answer). section_or a.section work.section) is) refl refl at)
 
 pub returns-in-Unended-clause-any_moment : goal.returns-in-Unended-clause-any_moment
-returns-in-Unended-clause-any_moment g c = λ work ground readable at.
-    work_still g.O.Disk.moment g.O.Disk.left_since c.args.outside.now c.args.outside.now work ground c.args.item (nothing_happens g.O.Disk.moment g.O.Disk.left_since _ (g.O.Outside.shown c.args.outside.now) _ c.args.outside.now work ground (λ told image left. let x = g.met.O.Disk.only_now c.args.outside.now told image left in (x.0, x.1 ∙ told_beside g.met.O.Outside.beside_is g.met.O.Outside.shown_is c.args.outside.now)) at)
+returns-in-Unended-clause-any_moment g c = λ work basis readable at.
+    work_still g.O.Disk.moment g.O.Disk.left_since c.args.outside.now c.args.outside.now work basis c.args.item (nothing_happens g.O.Disk.moment g.O.Disk.left_since _ (g.O.Outside.shown c.args.outside.now) _ c.args.outside.now work basis (λ told image left. let x = g.met.O.Disk.only_now c.args.outside.now told image left in (x.0, x.1 ∙ told_beside g.met.O.Outside.beside_is g.met.O.Outside.shown_is c.args.outside.now)) at)
 
 pub returns-in_ok-work_query-in-Query-clause-answers : goal.returns-in_ok-work_query-in-Query-clause-answers
-returns-in_ok-work_query-in-Query-clause-answers g c = λ work ground readable at.
-    let P : SessionItem → Type 0 = λ i. Answers (Ok c.staying-in-Query.result) (g.O.Disk.may_leave c.work_query.new.outside) (g.O.Outside.shown c.work_query.new.outside) c.work_query.new.self (was_of c.args.self.now) work ground i in
-    let Q : Was → Type 0 = λ w. Answers (Ok c.staying-in-Query.result) (g.O.Disk.may_leave c.work_query.new.outside) (g.O.Outside.shown c.work_query.new.outside) c.work_query.new.self w work ground (Query c.in-Query.query) in
+returns-in_ok-work_query-in-Query-clause-answers g c = λ work basis readable at.
+    let P : SessionItem → Type 0 = λ i. Answers (Ok c.staying-in-Query.result) (g.O.Disk.may_leave c.work_query.new.outside) (g.O.Outside.shown c.work_query.new.outside) c.work_query.new.self (was_of c.args.self.now) work basis i in
+    let Q : Was → Type 0 = λ w. Answers (Ok c.staying-in-Query.result) (g.O.Disk.may_leave c.work_query.new.outside) (g.O.Outside.shown c.work_query.new.outside) c.work_query.new.self w work basis (Query c.in-Query.query) in
     let same : was_of c.flush.new.self ≡ was_of c.args.self.now = λ i. record { troubled = c.flush.ensures.rest.troubled i; last_run = c.flush.ensures.rest.last_run i } in
-    subst P (sym c.in-Query.is) (subst Q same (worked_query (g.O.Disk.may_leave c.work_query.new.outside) (g.O.Outside.shown c.work_query.new.outside) _ (was_of c.flush.new.self) work ground c.in-Query.query _ c.staying-in-Query.result c.staying-in-Query.ensures (c.in_ok-work_query-in-Query.ensures.replied work (ground.put ++ ground.held) (c.in_ok-flush-in-Query.ensures.flushed work ground at))))
+    subst P (sym c.in-Query.is) (subst Q same (worked_query (g.O.Disk.may_leave c.work_query.new.outside) (g.O.Outside.shown c.work_query.new.outside) _ (was_of c.flush.new.self) work basis c.in-Query.query _ c.staying-in-Query.result c.staying-in-Query.ensures (c.in_ok-work_query-in-Query.ensures.replied work (basis.put ++ basis.held) (c.in_ok-flush-in-Query.ensures.flushed work basis at))))
 
 pub returns-in_ok-work_query-in-Query-clause-any_moment : goal.returns-in_ok-work_query-in-Query-clause-any_moment
-returns-in_ok-work_query-in-Query-clause-any_moment g c = λ work ground readable at. query_run g (goal.at.returns-in_ok-work_query-in-Query-clause-any_moment g c).After-work_query work ground at
+returns-in_ok-work_query-in-Query-clause-any_moment g c = λ work basis readable at. query_run g (goal.at.returns-in_ok-work_query-in-Query-clause-any_moment g c).After-work_query work basis at
 
 pub returns-in_ok-keep_text-in-Chunk-Plain-clause-last_run : goal.returns-in_ok-keep_text-in-Chunk-Plain-clause-last_run
 returns-in_ok-keep_text-in-Chunk-Plain-clause-last_run g c =
@@ -366,30 +366,30 @@ returns-in_err-keep_method-in-Chunk-Method-clause-unmarked g c = λ readable gro
 -- ---- an item whose change is no more than pending
 
 pub returns-in_err-head_answer-in-Chunk-Head-clause-grouped : goal.returns-in_err-head_answer-in-Chunk-Head-clause-grouped
-returns-in_err-head_answer-in-Chunk-Head-clause-grouped g c = λ work ground readable grouped at.
-    nothing_happens g.O.Disk.moment g.O.Disk.left_since _ (g.O.Outside.shown c.args.outside.now) _ c.args.outside.now work ground (λ told image left. let x = g.met.O.Disk.only_now c.args.outside.now told image left in (x.0, x.1 ∙ told_beside g.met.O.Outside.beside_is g.met.O.Outside.shown_is c.args.outside.now)) at
+returns-in_err-head_answer-in-Chunk-Head-clause-grouped g c = λ work basis readable grouped at.
+    nothing_happens g.O.Disk.moment g.O.Disk.left_since _ (g.O.Outside.shown c.args.outside.now) _ c.args.outside.now work basis (λ told image left. let x = g.met.O.Disk.only_now c.args.outside.now told image left in (x.0, x.1 ∙ told_beside g.met.O.Outside.beside_is g.met.O.Outside.shown_is c.args.outside.now)) at
 
 pub returns-in_ok-head_answer-in-Chunk-Head-clause-grouped : goal.returns-in_ok-head_answer-in-Chunk-Head-clause-grouped
-returns-in_ok-head_answer-in-Chunk-Head-clause-grouped g c = λ work ground readable grouped at.
-    nothing_happens g.O.Disk.moment g.O.Disk.left_since _ (g.O.Outside.shown c.args.outside.now) _ c.args.outside.now work ground (λ told image left. let x = g.met.O.Disk.only_now c.args.outside.now told image left in (x.0, x.1 ∙ told_beside g.met.O.Outside.beside_is g.met.O.Outside.shown_is c.args.outside.now)) at
+returns-in_ok-head_answer-in-Chunk-Head-clause-grouped g c = λ work basis readable grouped at.
+    nothing_happens g.O.Disk.moment g.O.Disk.left_since _ (g.O.Outside.shown c.args.outside.now) _ c.args.outside.now work basis (λ told image left. let x = g.met.O.Disk.only_now c.args.outside.now told image left in (x.0, x.1 ∙ told_beside g.met.O.Outside.beside_is g.met.O.Outside.shown_is c.args.outside.now)) at
 
 pub returns-in-Chunk-SectionEnd-clause-grouped : goal.returns-in-Chunk-SectionEnd-clause-grouped
-returns-in-Chunk-SectionEnd-clause-grouped g c = λ work ground readable grouped at.
-    nothing_happens g.O.Disk.moment g.O.Disk.left_since _ (g.O.Outside.shown c.args.outside.now) _ c.args.outside.now work ground (λ told image left. let x = g.met.O.Disk.only_now c.args.outside.now told image left in (x.0, x.1 ∙ told_beside g.met.O.Outside.beside_is g.met.O.Outside.shown_is c.args.outside.now)) at
+returns-in-Chunk-SectionEnd-clause-grouped g c = λ work basis readable grouped at.
+    nothing_happens g.O.Disk.moment g.O.Disk.left_since _ (g.O.Outside.shown c.args.outside.now) _ c.args.outside.now work basis (λ told image left. let x = g.met.O.Disk.only_now c.args.outside.now told image left in (x.0, x.1 ∙ told_beside g.met.O.Outside.beside_is g.met.O.Outside.shown_is c.args.outside.now)) at
 
 pub returns-in-Chunk-TooLong-clause-grouped : goal.returns-in-Chunk-TooLong-clause-grouped
-returns-in-Chunk-TooLong-clause-grouped g c = λ work ground readable grouped at.
-    nothing_happens g.O.Disk.moment g.O.Disk.left_since _ (g.O.Outside.shown c.args.outside.now) _ c.args.outside.now work ground (λ told image left. let x = g.met.O.Disk.only_now c.args.outside.now told image left in (x.0, x.1 ∙ told_beside g.met.O.Outside.beside_is g.met.O.Outside.shown_is c.args.outside.now)) at
+returns-in-Chunk-TooLong-clause-grouped g c = λ work basis readable grouped at.
+    nothing_happens g.O.Disk.moment g.O.Disk.left_since _ (g.O.Outside.shown c.args.outside.now) _ c.args.outside.now work basis (λ told image left. let x = g.met.O.Disk.only_now c.args.outside.now told image left in (x.0, x.1 ∙ told_beside g.met.O.Outside.beside_is g.met.O.Outside.shown_is c.args.outside.now)) at
 
 pub returns-in-Unended-clause-grouped : goal.returns-in-Unended-clause-grouped
-returns-in-Unended-clause-grouped g c = λ work ground readable grouped at.
-    nothing_happens g.O.Disk.moment g.O.Disk.left_since _ (g.O.Outside.shown c.args.outside.now) _ c.args.outside.now work ground (λ told image left. let x = g.met.O.Disk.only_now c.args.outside.now told image left in (x.0, x.1 ∙ told_beside g.met.O.Outside.beside_is g.met.O.Outside.shown_is c.args.outside.now)) at
+returns-in-Unended-clause-grouped g c = λ work basis readable grouped at.
+    nothing_happens g.O.Disk.moment g.O.Disk.left_since _ (g.O.Outside.shown c.args.outside.now) _ c.args.outside.now work basis (λ told image left. let x = g.met.O.Disk.only_now c.args.outside.now told image left in (x.0, x.1 ∙ told_beside g.met.O.Outside.beside_is g.met.O.Outside.shown_is c.args.outside.now)) at
 
 pub returns-in_ok-keep_text-in-Chunk-Plain-clause-grouped : goal.returns-in_ok-keep_text-in-Chunk-Plain-clause-grouped
-returns-in_ok-keep_text-in-Chunk-Plain-clause-grouped g c = λ work ground readable grouped at.
+returns-in_ok-keep_text-in-Chunk-Plain-clause-grouped g c = λ work basis readable grouped at.
     let is = c.in-Chunk-Plain.is ∙ ap Chunk c.in-Chunk-Plain.field-0-is in
     let sound = subst IsReadable is readable in
-    c.keep_text.ensures.grouped work ground sound.0 sound.1 (subst IsGrouped is grouped) at
+    c.keep_text.ensures.grouped work basis sound.0 sound.1 (subst IsGrouped is grouped) at
 
 pub returns-in_ok-keep_text-in-Chunk-Plain-clause-unmarked : goal.returns-in_ok-keep_text-in-Chunk-Plain-clause-unmarked
 returns-in_ok-keep_text-in-Chunk-Plain-clause-unmarked g c = λ readable grouped.
@@ -404,10 +404,10 @@ returns-in_ok-keep_text-in-Chunk-Plain-clause-silent g c = λ readable grouped.
     c.keep_text.ensures.silent sound.0 sound.1 (subst IsGrouped is grouped)
 
 pub returns-in_err-keep_text-in-Chunk-Plain-clause-grouped : goal.returns-in_err-keep_text-in-Chunk-Plain-clause-grouped
-returns-in_err-keep_text-in-Chunk-Plain-clause-grouped g c = λ work ground readable grouped at.
+returns-in_err-keep_text-in-Chunk-Plain-clause-grouped g c = λ work basis readable grouped at.
     let is = c.in-Chunk-Plain.is ∙ ap Chunk c.in-Chunk-Plain.field-0-is in
     let sound = subst IsReadable is readable in
-    c.keep_text.ensures.grouped work ground sound.0 sound.1 (subst IsGrouped is grouped) at
+    c.keep_text.ensures.grouped work basis sound.0 sound.1 (subst IsGrouped is grouped) at
 
 pub returns-in_err-keep_text-in-Chunk-Plain-clause-unmarked : goal.returns-in_err-keep_text-in-Chunk-Plain-clause-unmarked
 returns-in_err-keep_text-in-Chunk-Plain-clause-unmarked g c = λ readable grouped.
@@ -422,19 +422,19 @@ returns-in_err-keep_text-in-Chunk-Plain-clause-silent g c = λ readable grouped.
     c.keep_text.ensures.silent sound.0 sound.1 (subst IsGrouped is grouped)
 
 pub returns-in_ok-keep_method-in-Chunk-Method-clause-grouped : goal.returns-in_ok-keep_method-in-Chunk-Method-clause-grouped
-returns-in_ok-keep_method-in-Chunk-Method-clause-grouped g c = λ work ground readable grouped at.
+returns-in_ok-keep_method-in-Chunk-Method-clause-grouped g c = λ work basis readable grouped at.
     let is = c.in-Chunk-Method.is ∙ ap Chunk c.in-Chunk-Method.field-0-is in
     let sound = subst IsReadable is readable in
-    c.keep_method.ensures.any_moment work ground sound.0 sound.1 at
+    c.keep_method.ensures.any_moment work basis sound.0 sound.1 at
 
 pub returns-in_err-keep_method-in-Chunk-Method-clause-grouped : goal.returns-in_err-keep_method-in-Chunk-Method-clause-grouped
-returns-in_err-keep_method-in-Chunk-Method-clause-grouped g c = λ work ground readable grouped at.
+returns-in_err-keep_method-in-Chunk-Method-clause-grouped g c = λ work basis readable grouped at.
     let is = c.in-Chunk-Method.is ∙ ap Chunk c.in-Chunk-Method.field-0-is in
     let sound = subst IsReadable is readable in
-    c.keep_method.ensures.any_moment work ground sound.0 sound.1 at
+    c.keep_method.ensures.any_moment work basis sound.0 sound.1 at
 
 pub returns-in_ok-work_query-in-Query-clause-grouped : goal.returns-in_ok-work_query-in-Query-clause-grouped
-returns-in_ok-work_query-in-Query-clause-grouped g c = λ work ground readable grouped at. absurd (subst IsGrouped c.in-Query.is grouped)
+returns-in_ok-work_query-in-Query-clause-grouped g c = λ work basis readable grouped at. absurd (subst IsGrouped c.in-Query.is grouped)
 
 pub returns-in_ok-work_query-in-Query-clause-unmarked : goal.returns-in_ok-work_query-in-Query-clause-unmarked
 returns-in_ok-work_query-in-Query-clause-unmarked g c = λ readable grouped. absurd (subst IsGrouped c.in-Query.is grouped)
@@ -443,7 +443,7 @@ pub returns-in_ok-work_query-in-Query-clause-silent : goal.returns-in_ok-work_qu
 returns-in_ok-work_query-in-Query-clause-silent g c = λ readable grouped. absurd (subst IsGrouped c.in-Query.is grouped)
 
 pub returns-in_err-work_query-in-Query-clause-grouped : goal.returns-in_err-work_query-in-Query-clause-grouped
-returns-in_err-work_query-in-Query-clause-grouped g c = λ work ground readable grouped at. absurd (subst IsGrouped c.in-Query.is grouped)
+returns-in_err-work_query-in-Query-clause-grouped g c = λ work basis readable grouped at. absurd (subst IsGrouped c.in-Query.is grouped)
 
 pub returns-in_err-work_query-in-Query-clause-unmarked : goal.returns-in_err-work_query-in-Query-clause-unmarked
 returns-in_err-work_query-in-Query-clause-unmarked g c = λ readable grouped. absurd (subst IsGrouped c.in-Query.is grouped)
@@ -452,7 +452,7 @@ pub returns-in_err-work_query-in-Query-clause-silent : goal.returns-in_err-work_
 returns-in_err-work_query-in-Query-clause-silent g c = λ readable grouped. absurd (subst IsGrouped c.in-Query.is grouped)
 
 pub returns-in_err-flush-in-Query-clause-grouped : goal.returns-in_err-flush-in-Query-clause-grouped
-returns-in_err-flush-in-Query-clause-grouped g c = λ work ground readable grouped at. absurd (subst IsGrouped c.in-Query.is grouped)
+returns-in_err-flush-in-Query-clause-grouped g c = λ work basis readable grouped at. absurd (subst IsGrouped c.in-Query.is grouped)
 
 pub returns-in_err-flush-in-Query-clause-unmarked : goal.returns-in_err-flush-in-Query-clause-unmarked
 returns-in_err-flush-in-Query-clause-unmarked g c = λ readable grouped. absurd (subst IsGrouped c.in-Query.is grouped)

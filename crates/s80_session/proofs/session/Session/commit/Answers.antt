@@ -20,16 +20,16 @@ module _ (g : _) (c : In-Err g) where
   fault = commit_fault c.commit.result (keeper_of c.args.self.now) c.commit.new.keeper c.in-Err.fault c.in-Err.is c.commit.ensures.after c.commit.ensures.closed c.requires.faultless
 
 pub returns-in_err-refusal_at_fault-clause-committed : goal.returns-in_err-refusal_at_fault-clause-committed
-returns-in_err-refusal_at_fault-clause-committed g c = λ work ground at.
+returns-in_err-refusal_at_fault-clause-committed g c = λ work basis at.
     let is = fault g (goal.at.returns-in_err-refusal_at_fault-clause-committed g c).In-Err in
     let p = err_from_is_err_and c.from_residual.result c.from_residual.ensures.1 in
     let now = record c.args.self.now { keeper = c.commit.new.keeper } in
-    let P : Result Refusal SessionEnd → Type 0 = λ r. IfErr r (λ end. Committed {T = Unit {0}} (Err end) (g.O.Disk.may_leave c.commit.new.outside) (g.O.Outside.shown c.commit.new.outside) now work ground) in
-    rw (p.1, p.2) (subst P (sym c.in_err-refusal_at_fault.ensures) (commit_lost c.in-Err.fault is.0 (g.O.Disk.may_leave c.args.outside.now) (g.O.Disk.may_leave c.commit.new.outside) (g.O.Outside.shown c.args.outside.now) (g.O.Outside.shown c.commit.new.outside) c.args.self.now now work ground is.1 (c.in-Err.ensures.committed ground.kept work.changes at.keeps) c.commit.ensures.shown at))
+    let P : Result Refusal SessionEnd → Type 0 = λ r. IfErr r (λ end. Committed {T = Unit {0}} (Err end) (g.O.Disk.may_leave c.commit.new.outside) (g.O.Outside.shown c.commit.new.outside) now work basis) in
+    rw (p.1, p.2) (subst P (sym c.in_err-refusal_at_fault.ensures) (commit_lost c.in-Err.fault is.0 (g.O.Disk.may_leave c.args.outside.now) (g.O.Disk.may_leave c.commit.new.outside) (g.O.Outside.shown c.args.outside.now) (g.O.Outside.shown c.commit.new.outside) c.args.self.now now work basis is.1 (c.in-Err.ensures.committed basis.kept work.changes at.keeps) c.commit.ensures.shown at))
 
 pub returns-in_err-refusal_at_fault-clause-any_moment : goal.returns-in_err-refusal_at_fault-clause-any_moment
-returns-in_err-refusal_at_fault-clause-any_moment g c = λ work ground at.
-    commit_lasts g.O.Disk.moment g.O.Disk.left_since c.args.outside.now c.commit.new.outside work ground (g.O.Outside.shown c.args.outside.now).told at.told (c.commit.ensures.any_moment ground.kept work.changes at.keeps)
+returns-in_err-refusal_at_fault-clause-any_moment g c = λ work basis at.
+    commit_lasts g.O.Disk.moment g.O.Disk.left_since c.args.outside.now c.commit.new.outside work basis (g.O.Outside.shown c.args.outside.now).told at.told (c.commit.ensures.any_moment basis.kept work.changes at.keeps)
 
 pub returns-in_err-refusal_at_fault-clause-idle : goal.returns-in_err-refusal_at_fault-clause-idle
 returns-in_err-refusal_at_fault-clause-idle g c = λ none. let ok = sym c.in-Err.is ∙ c.commit.ensures.idle c.requires.faultless none in absurd (cc)
@@ -51,18 +51,18 @@ returns-in_err-refusal_at_fault-clause-counts g c =
 
 -- no fault is answered
 pub returns-in_ok-refusal_at_fault-clause-committed : goal.returns-in_ok-refusal_at_fault-clause-committed
-returns-in_ok-refusal_at_fault-clause-committed g c = λ work ground at.
+returns-in_ok-refusal_at_fault-clause-committed g c = λ work basis at.
     let is = fault g (goal.at.returns-in_ok-refusal_at_fault-clause-committed g c).In-Err in
     absurd (not_refused is.0 c.in-Err.fault c.in_ok-refusal_at_fault.field-0 is.1 (sym c.in_ok-refusal_at_fault.ensures))
 
 pub returns-in_ok-refusal_at_fault-clause-any_moment : goal.returns-in_ok-refusal_at_fault-clause-any_moment
-returns-in_ok-refusal_at_fault-clause-any_moment g c = λ work ground at.
-    commit_lasts g.O.Disk.moment g.O.Disk.left_since c.args.outside.now c.commit.new.outside work ground (g.O.Outside.shown c.args.outside.now).told at.told (c.commit.ensures.any_moment ground.kept work.changes at.keeps)
+returns-in_ok-refusal_at_fault-clause-any_moment g c = λ work basis at.
+    commit_lasts g.O.Disk.moment g.O.Disk.left_since c.args.outside.now c.commit.new.outside work basis (g.O.Outside.shown c.args.outside.now).told at.told (c.commit.ensures.any_moment basis.kept work.changes at.keeps)
 
 pub returns-in_default-clause-committed : goal.returns-in_default-clause-committed
-returns-in_default-clause-committed g c = λ work ground at.
-    stands_on (g.O.Disk.may_leave c.args.outside.now) (g.O.Disk.may_leave c.commit.new.outside) (g.O.Outside.shown c.args.outside.now) (g.O.Outside.shown c.commit.new.outside) c.args.self.now (record c.args.self.now { keeper = c.commit.new.keeper }) work ground work.changes work.changes (c.in_default.ensures.committed ground.kept work.changes at.keeps) refl c.commit.ensures.shown at
+returns-in_default-clause-committed g c = λ work basis at.
+    stands_on (g.O.Disk.may_leave c.args.outside.now) (g.O.Disk.may_leave c.commit.new.outside) (g.O.Outside.shown c.args.outside.now) (g.O.Outside.shown c.commit.new.outside) c.args.self.now (record c.args.self.now { keeper = c.commit.new.keeper }) work basis work.changes work.changes (c.in_default.ensures.committed basis.kept work.changes at.keeps) refl c.commit.ensures.shown at
 
 pub returns-in_default-clause-any_moment : goal.returns-in_default-clause-any_moment
-returns-in_default-clause-any_moment g c = λ work ground at.
-    commit_lasts g.O.Disk.moment g.O.Disk.left_since c.args.outside.now c.commit.new.outside work ground (g.O.Outside.shown c.args.outside.now).told at.told (c.commit.ensures.any_moment ground.kept work.changes at.keeps)
+returns-in_default-clause-any_moment g c = λ work basis at.
+    commit_lasts g.O.Disk.moment g.O.Disk.left_since c.args.outside.now c.commit.new.outside work basis (g.O.Outside.shown c.args.outside.now).told at.told (c.commit.ensures.any_moment basis.kept work.changes at.keeps)

@@ -12,28 +12,28 @@ use Rattle.s80_session.proofs.lemmas.Grounds.{put_last}
 use Rattle.s80_session.proofs.session.Session.flush.Goals as goal
 
 pub returns-in_err-commit-clause-flushed : goal.returns-in_err-commit-clause-flushed
-returns-in_err-commit-clause-flushed g c = λ work ground at.
+returns-in_err-commit-clause-flushed g c = λ work basis at.
     let p = err_from_is_err_and c.from_residual.result c.from_residual.ensures.1 in
-    rw (p.1, p.2) (uncommitted c.in_err-commit.field-0.0 (g.O.Disk.may_leave c.commit.new.outside) (g.O.Outside.shown c.commit.new.outside) c.commit.new.self work ground (c.in_err-commit.ensures.committed work ground at))
+    rw (p.1, p.2) (uncommitted c.in_err-commit.field-0.0 (g.O.Disk.may_leave c.commit.new.outside) (g.O.Outside.shown c.commit.new.outside) c.commit.new.self work basis (c.in_err-commit.ensures.committed work basis at))
 
 pub returns-in_err-commit-clause-any_moment : goal.returns-in_err-commit-clause-any_moment
-returns-in_err-commit-clause-any_moment g c = λ work ground at. commit_last g.O.Disk.moment g.O.Disk.left_since c.args.outside.now c.commit.new.outside work ground (c.commit.ensures.any_moment work ground at)
+returns-in_err-commit-clause-any_moment g c = λ work basis at. commit_last g.O.Disk.moment g.O.Disk.left_since c.args.outside.now c.commit.new.outside work basis (c.commit.ensures.any_moment work basis at)
 
 pub returns-clause-flushed : goal.returns-clause-flushed
-returns-clause-flushed g c = λ work ground at.
+returns-clause-flushed g c = λ work basis at.
     let mid = c.commit.new.outside in
     let new = c.put_held.new.outside in
-    let here = c.in_ok-commit.ensures.committed work ground at in
-    flushed_so c.put_held.result (g.O.Disk.may_leave mid) (g.O.Disk.may_leave new) (g.O.Outside.shown mid) (g.O.Outside.shown new) c.commit.new.self c.put_held.new.self work ground c.put_held.ensures.images c.put_held.ensures.rest c.put_held.ensures.none c.put_held.ensures.shown (c.put_held.ensures.told ground.put here.taken here.told) here
+    let here = c.in_ok-commit.ensures.committed work basis at in
+    flushed_so c.put_held.result (g.O.Disk.may_leave mid) (g.O.Disk.may_leave new) (g.O.Outside.shown mid) (g.O.Outside.shown new) c.commit.new.self c.put_held.new.self work basis c.put_held.ensures.images c.put_held.ensures.rest c.put_held.ensures.none c.put_held.ensures.shown (c.put_held.ensures.told basis.put here.taken here.told) here
 
 pub returns-clause-any_moment : goal.returns-clause-any_moment
-returns-clause-any_moment g c = λ work ground at.
+returns-clause-any_moment g c = λ work basis at.
     let D = g.O.Disk in
     let mid = c.commit.new.outside in
     let new = c.put_held.new.outside in
-    let here = c.in_ok-commit.ensures.committed work ground at in
+    let here = c.in_ok-commit.ensures.committed work basis at in
     let P : List ℕ → Type 0 = λ l. LeavesOnly D.moment D.left_since mid new (IsAsBefore (D.may_leave mid) (g.O.Outside.shown mid).told (length l)) in
-    flush_last D.moment D.left_since c.args.outside.now mid new work ground (c.commit.ensures.any_moment work ground at) (put_last D.moment D.left_since (D.may_leave mid) (g.O.Outside.shown mid) c.commit.new.self mid new work (record ground { kept = work.changes }) here (subst P here.held c.put_held.ensures.any_moment))
+    flush_last D.moment D.left_since c.args.outside.now mid new work basis (c.commit.ensures.any_moment work basis at) (put_last D.moment D.left_since (D.may_leave mid) (g.O.Outside.shown mid) c.commit.new.self mid new work (record basis { kept = work.changes }) here (subst P here.held c.put_held.ensures.any_moment))
 
 pub returns-clause-put : goal.returns-clause-put
 returns-clause-put g c =

@@ -31,31 +31,31 @@ use Rattle.s80_session.proofs.session.Session.keep.Goals as goal
 use Rattle.s80_session.proofs.session.Session.keep.Goals.{After-keep_later}
 
 pub returns-in-Err-Memory-clause-any_moment : goal.returns-in-Err-Memory-clause-any_moment
-returns-in-Err-Memory-clause-any_moment g c = λ work ground lawful at.
-    nothing_happens g.O.Disk.moment g.O.Disk.left_since _ (g.O.Outside.shown c.args.outside.now) _ c.args.outside.now work ground (λ told image left. let x = g.met.O.Disk.only_now c.args.outside.now told image left in (x.0, x.1 ∙ told_beside g.met.O.Outside.beside_is g.met.O.Outside.shown_is c.args.outside.now)) at
+returns-in-Err-Memory-clause-any_moment g c = λ work basis lawful at.
+    nothing_happens g.O.Disk.moment g.O.Disk.left_since _ (g.O.Outside.shown c.args.outside.now) _ c.args.outside.now work basis (λ told image left. let x = g.met.O.Disk.only_now c.args.outside.now told image left in (x.0, x.1 ∙ told_beside g.met.O.Outside.beside_is g.met.O.Outside.shown_is c.args.outside.now)) at
 
 pub returns-in-Err-Refusal-clause-any_moment : goal.returns-in-Err-Refusal-clause-any_moment
-returns-in-Err-Refusal-clause-any_moment g c = λ work ground lawful at.
-    nothing_happens g.O.Disk.moment g.O.Disk.left_since _ (g.O.Outside.shown c.args.outside.now) _ c.args.outside.now work ground (λ told image left. let x = g.met.O.Disk.only_now c.args.outside.now told image left in (x.0, x.1 ∙ told_beside g.met.O.Outside.beside_is g.met.O.Outside.shown_is c.args.outside.now)) at
+returns-in-Err-Refusal-clause-any_moment g c = λ work basis lawful at.
+    nothing_happens g.O.Disk.moment g.O.Disk.left_since _ (g.O.Outside.shown c.args.outside.now) _ c.args.outside.now work basis (λ told image left. let x = g.met.O.Disk.only_now c.args.outside.now told image left in (x.0, x.1 ∙ told_beside g.met.O.Outside.beside_is g.met.O.Outside.shown_is c.args.outside.now)) at
 
 pub returns-in-Err-Memory-clause-kept : goal.returns-in-Err-Memory-clause-kept
-returns-in-Err-Memory-clause-kept g c = λ work ground lawful at.
-    still_at (g.O.Disk.may_leave c.args.outside.now) (g.O.Outside.shown c.args.outside.now) c.args.self.now (record c.args.self.now { keeper = c.prepare.new.self }) work ground c.args.change c.prepare.ensures.same (c.prepare.ensures.system (state_of work.changes) at.keeps.system) (c.prepare.ensures.same_places (placed_of work.changes) at.keeps.places) (c.prepare.ensures.history work.changes at.keeps.history) refl at
+returns-in-Err-Memory-clause-kept g c = λ work basis lawful at.
+    still_at (g.O.Disk.may_leave c.args.outside.now) (g.O.Outside.shown c.args.outside.now) c.args.self.now (record c.args.self.now { keeper = c.prepare.new.self }) work basis c.args.change c.prepare.ensures.same (c.prepare.ensures.system (state_of work.changes) at.keeps.system) (c.prepare.ensures.same_places (placed_of work.changes) at.keeps.places) (c.prepare.ensures.history work.changes at.keeps.history) refl at
 
 pub returns-in-Err-Refusal-clause-kept : goal.returns-in-Err-Refusal-clause-kept
-returns-in-Err-Refusal-clause-kept g c = λ work ground lawful at.
+returns-in-Err-Refusal-clause-kept g c = λ work basis lawful at.
     let P : Refused → Type 0 = λ r. Prepares (state_of work.changes) (keeper_of c.args.self.now).log.end c.args.change c.prepare.new.self.system (Err r) in
-    refused (g.O.Disk.may_leave c.args.outside.now) (g.O.Outside.shown c.args.outside.now) c.args.self.now (record c.args.self.now { keeper = c.prepare.new.self }) work ground c.args.change c.prepare.ensures.same (c.prepare.ensures.system (state_of work.changes) at.keeps.system) (c.prepare.ensures.same_places (placed_of work.changes) at.keeps.places) (c.prepare.ensures.history work.changes at.keeps.history) refl at c.in-Err-Refusal.refusal (subst P c.in-Err-Refusal.field-0-is (c.in-Err-Refusal.ensures.answer (state_of work.changes) at.keeps.system))
+    refused (g.O.Disk.may_leave c.args.outside.now) (g.O.Outside.shown c.args.outside.now) c.args.self.now (record c.args.self.now { keeper = c.prepare.new.self }) work basis c.args.change c.prepare.ensures.same (c.prepare.ensures.system (state_of work.changes) at.keeps.system) (c.prepare.ensures.same_places (placed_of work.changes) at.keeps.places) (c.prepare.ensures.history work.changes at.keeps.history) refl at c.in-Err-Refusal.refusal (subst P c.in-Err-Refusal.field-0-is (c.in-Err-Refusal.ensures.answer (state_of work.changes) at.keeps.system))
 
 -- what the paths behind the keeping share
-module _ (g : _) (c : After-keep_later g) (work : Work) (ground : Ground) (lawful : IsLawfulFor work.changes c.args.change) (at : IsAmid (g.O.Disk.may_leave c.args.outside.now) (g.O.Outside.shown c.args.outside.now) c.args.self.now work ground) where
+module _ (g : _) (c : After-keep_later g) (work : Work) (basis : Ground) (lawful : IsLawfulFor work.changes c.args.change) (at : IsAmid (g.O.Disk.may_leave c.args.outside.now) (g.O.Outside.shown c.args.outside.now) c.args.self.now work basis) where
   -- the session with a keeper that has prepared the change
   abbrev ready : Session
   ready = record c.args.self.now { keeper = c.prepare.new.self }
 
   -- it is at the list yet
-  now_at : IsAmid (g.O.Disk.may_leave c.args.outside.now) (g.O.Outside.shown c.args.outside.now) ready work ground
-  now_at = still_at (g.O.Disk.may_leave c.args.outside.now) (g.O.Outside.shown c.args.outside.now) c.args.self.now ready work ground c.args.change c.prepare.ensures.same (c.prepare.ensures.system (state_of work.changes) at.keeps.system) (c.prepare.ensures.same_places (placed_of work.changes) at.keeps.places) (c.prepare.ensures.history work.changes at.keeps.history) refl at
+  now_at : IsAmid (g.O.Disk.may_leave c.args.outside.now) (g.O.Outside.shown c.args.outside.now) ready work basis
+  now_at = still_at (g.O.Disk.may_leave c.args.outside.now) (g.O.Outside.shown c.args.outside.now) c.args.self.now ready work basis c.args.change c.prepare.ensures.same (c.prepare.ensures.system (state_of work.changes) at.keeps.system) (c.prepare.ensures.same_places (placed_of work.changes) at.keeps.places) (c.prepare.ensures.history work.changes at.keeps.history) refl at
 
   answer : Prepares (state_of work.changes) (keeper_of c.args.self.now).log.end c.args.change c.prepare.new.self.system (Ok c.in-Ok.prepared)
   answer = c.in-Ok.ensures.answer (state_of work.changes) at.keeps.system
@@ -64,10 +64,10 @@ module _ (g : _) (c : After-keep_later g) (work : Work) (ground : Ground) (lawfu
   places = c.in-Ok.ensures.places (placed_of work.changes) at.keeps.places
 
   is_added : add work.changes c.args.change ≡ Ok (work.changes ++ c.args.change ∷ [])
-  is_added = takes (g.O.Disk.may_leave c.args.outside.now) (g.O.Outside.shown c.args.outside.now) c.args.self.now ready work ground c.args.change c.prepare.ensures.same (c.prepare.ensures.system (state_of work.changes) at.keeps.system) (c.prepare.ensures.same_places (placed_of work.changes) at.keeps.places) (c.prepare.ensures.history work.changes at.keeps.history) refl at c.in-Ok.prepared answer.0 answer.1 answer.2
+  is_added = takes (g.O.Disk.may_leave c.args.outside.now) (g.O.Outside.shown c.args.outside.now) c.args.self.now ready work basis c.args.change c.prepare.ensures.same (c.prepare.ensures.system (state_of work.changes) at.keeps.system) (c.prepare.ensures.same_places (placed_of work.changes) at.keeps.places) (c.prepare.ensures.history work.changes at.keeps.history) refl at c.in-Ok.prepared answer.0 answer.1 answer.2
 
   is_lawful : IsLawful c.in-Ok.prepared.change
-  is_lawful = lawful_on (g.O.Disk.may_leave c.args.outside.now) (g.O.Outside.shown c.args.outside.now) c.args.self.now ready work ground c.args.change c.prepare.ensures.same (c.prepare.ensures.system (state_of work.changes) at.keeps.system) (c.prepare.ensures.same_places (placed_of work.changes) at.keeps.places) (c.prepare.ensures.history work.changes at.keeps.history) refl at c.in-Ok.prepared answer.0 answer.1 lawful
+  is_lawful = lawful_on (g.O.Disk.may_leave c.args.outside.now) (g.O.Outside.shown c.args.outside.now) c.args.self.now ready work basis c.args.change c.prepare.ensures.same (c.prepare.ensures.system (state_of work.changes) at.keeps.system) (c.prepare.ensures.same_places (placed_of work.changes) at.keeps.places) (c.prepare.ensures.history work.changes at.keeps.history) refl at c.in-Ok.prepared answer.0 answer.1 lawful
 
   -- what was prepared has room
   roomy : (n : ℕ) → c.keep_later.result ≡ Err (Full n) → ⊥
@@ -77,19 +77,19 @@ module _ (g : _) (c : After-keep_later g) (work : Work) (ground : Ground) (lawfu
       let size = ap (λ (x : Change). length (block x)) answer.0 in
       omega (arith, full.2, answer.2, end, size)
 
-  run : LeavesOnly g.O.Disk.moment g.O.Disk.left_since c.args.outside.now c.keep_later.new.outside (HasKept ground.kept (length ground.put))
+  run : LeavesOnly g.O.Disk.moment g.O.Disk.left_since c.args.outside.now c.keep_later.new.outside (HasKept basis.kept (length basis.put))
   run =
-      let P : ℕ → Type 0 = λ n. LeavesOnly g.O.Disk.moment g.O.Disk.left_since c.args.outside.now c.keep_later.new.outside (HasKept ground.kept n) in
-      subst P at.told (c.keep_later.ensures.any_moment ground.kept work.changes now_at.keeps)
+      let P : ℕ → Type 0 = λ n. LeavesOnly g.O.Disk.moment g.O.Disk.left_since c.args.outside.now c.keep_later.new.outside (HasKept basis.kept n) in
+      subst P at.told (c.keep_later.ensures.any_moment basis.kept work.changes now_at.keeps)
 
 pub returns-in-Ok-keep_later-clause-kept : goal.returns-in-Ok-keep_later-clause-kept
-returns-in-Ok-keep_later-clause-kept g c = λ work ground lawful at.
+returns-in-Ok-keep_later-clause-kept g c = λ work basis lawful at.
     let after = (goal.at.returns-in-Ok-keep_later-clause-kept g c).After-keep_later in
     let new = c.keep_later.new.outside in
-    let is = answer g after work ground lawful at in
-    let P : Change → Type 0 = λ x. Keeps (g.O.Outside.shown new).tells (g.O.Outside.shown new).files (g.O.Disk.may_leave new) c.keep_later.new.keeper ground.kept (work.changes ++ x ∷ []) in
-    kept (g.O.Disk.may_leave c.args.outside.now) (g.O.Disk.may_leave new) (g.O.Outside.shown c.args.outside.now) (g.O.Outside.shown new) c.args.self.now (record c.args.self.now { keeper = c.keep_later.new.keeper }) work ground c.args.change (is_added g after work ground lawful at)
-    (subst P is.0 (c.in-Ok-keep_later.ensures.kept ground.kept work.changes (now_at g after work ground lawful at).keeps (is_lawful g after work ground lawful at) is.1 (places g after work ground lawful at)))
+    let is = answer g after work basis lawful at in
+    let P : Change → Type 0 = λ x. Keeps (g.O.Outside.shown new).tells (g.O.Outside.shown new).files (g.O.Disk.may_leave new) c.keep_later.new.keeper basis.kept (work.changes ++ x ∷ []) in
+    kept (g.O.Disk.may_leave c.args.outside.now) (g.O.Disk.may_leave new) (g.O.Outside.shown c.args.outside.now) (g.O.Outside.shown new) c.args.self.now (record c.args.self.now { keeper = c.keep_later.new.keeper }) work basis c.args.change (is_added g after work basis lawful at)
+    (subst P is.0 (c.in-Ok-keep_later.ensures.kept basis.kept work.changes (now_at g after work basis lawful at).keeps (is_lawful g after work basis lawful at) is.1 (places g after work basis lawful at)))
     refl c.keep_later.ensures.shown at
 
 pub returns-in-Ok-keep_later-clause-any_moment : goal.returns-in-Ok-keep_later-clause-any_moment
@@ -97,22 +97,22 @@ returns-in-Ok-keep_later-clause-any_moment g c = run g (goal.at.returns-in-Ok-ke
 
 -- no fault refuses what was prepared
 pub returns-in_ok-refusal_at_fault-in-Err-clause-kept : goal.returns-in_ok-refusal_at_fault-in-Err-clause-kept
-returns-in_ok-refusal_at_fault-in-Err-clause-kept g c = λ work ground lawful at.
+returns-in_ok-refusal_at_fault-in-Err-clause-kept g c = λ work basis lawful at.
     let after = (goal.at.returns-in_ok-refusal_at_fault-in-Err-clause-kept g c).After-keep_later in
-    absurd (fault_ends c.keep_later.result c.in-Err.fault c.in_ok-refusal_at_fault-in-Err.field-0 c.in-Err.is (roomy g after work ground lawful at) (sym c.in_ok-refusal_at_fault-in-Err.ensures))
+    absurd (fault_ends c.keep_later.result c.in-Err.fault c.in_ok-refusal_at_fault-in-Err.field-0 c.in-Err.is (roomy g after work basis lawful at) (sym c.in_ok-refusal_at_fault-in-Err.ensures))
 
 pub returns-in_ok-refusal_at_fault-in-Err-clause-any_moment : goal.returns-in_ok-refusal_at_fault-in-Err-clause-any_moment
 returns-in_ok-refusal_at_fault-in-Err-clause-any_moment g c = run g (goal.at.returns-in_ok-refusal_at_fault-in-Err-clause-any_moment g c).After-keep_later
 
 -- the disk failed
 pub returns-in_err-refusal_at_fault-in-Err-clause-kept : goal.returns-in_err-refusal_at_fault-in-Err-clause-kept
-returns-in_err-refusal_at_fault-in-Err-clause-kept g c = λ work ground lawful at.
+returns-in_err-refusal_at_fault-in-Err-clause-kept g c = λ work basis lawful at.
     let after = (goal.at.returns-in_err-refusal_at_fault-in-Err-clause-kept g c).After-keep_later in
     let new = c.keep_later.new.outside in
     let now : Session = record c.args.self.now { keeper = c.keep_later.new.keeper } in
-    let is = answer g after work ground lawful at in
-    let P : Result Refusal SessionEnd → Type 0 = λ r. IfErr r (λ end. Unworked end (g.O.Disk.may_leave new) (g.O.Outside.shown new) now work ground) in
-    let ends = subst P (sym c.in_err-refusal_at_fault-in-Err.ensures) (fault_unkept c.in-Err.fault (g.O.Disk.may_leave c.args.outside.now) (g.O.Disk.may_leave new) (g.O.Outside.shown c.args.outside.now) (g.O.Outside.shown new) c.args.self.now now work ground c.in-Ok.prepared.change (c.in-Err.ensures.kept ground.kept work.changes (now_at g after work ground lawful at).keeps (is_lawful g after work ground lawful at) is.1 (places g after work ground lawful at)) c.keep_later.ensures.shown at) in
+    let is = answer g after work basis lawful at in
+    let P : Result Refusal SessionEnd → Type 0 = λ r. IfErr r (λ end. Unworked end (g.O.Disk.may_leave new) (g.O.Outside.shown new) now work basis) in
+    let ends = subst P (sym c.in_err-refusal_at_fault-in-Err.ensures) (fault_unkept c.in-Err.fault (g.O.Disk.may_leave c.args.outside.now) (g.O.Disk.may_leave new) (g.O.Outside.shown c.args.outside.now) (g.O.Outside.shown new) c.args.self.now now work basis c.in-Ok.prepared.change (c.in-Err.ensures.kept basis.kept work.changes (now_at g after work basis lawful at).keeps (is_lawful g after work basis lawful at) is.1 (places g after work basis lawful at)) c.keep_later.ensures.shown at) in
     let p = err_from_is_err_and c.from_residual.result c.from_residual.ensures.1 in
     rw (p.1, p.2) ends
 

@@ -23,18 +23,18 @@ use Rattle.s80_session.proofs.session.Session.keep_note.Goals as goal
 use Rattle.s80_session.proofs.session.Session.keep_note.Goals.{After-keep}
 
 pub returns-in_err-flush-clause-noted : goal.returns-in_err-flush-clause-noted
-returns-in_err-flush-clause-noted g c = λ work ground item asks at.
+returns-in_err-flush-clause-noted g c = λ work basis item asks at.
     let p = err_from_is_err_and c.from_residual.result c.from_residual.ensures.1 in
-    rw (p.1, p.2) (flush_unnoted c.in_err-flush.field-0.0 (g.O.Disk.may_leave c.flush.new.outside) (g.O.Outside.shown c.flush.new.outside) c.flush.new.self work ground item (c.in_err-flush.ensures.flushed work ground at))
+    rw (p.1, p.2) (flush_unnoted c.in_err-flush.field-0.0 (g.O.Disk.may_leave c.flush.new.outside) (g.O.Outside.shown c.flush.new.outside) c.flush.new.self work basis item (c.in_err-flush.ensures.flushed work basis at))
 
 pub returns-in_err-flush-clause-any_moment : goal.returns-in_err-flush-clause-any_moment
-returns-in_err-flush-clause-any_moment g c = λ work ground item asks at. flush_works g.O.Disk.moment g.O.Disk.left_since c.args.outside.now c.flush.new.outside work ground item (c.flush.ensures.any_moment work ground at)
+returns-in_err-flush-clause-any_moment g c = λ work basis item asks at. flush_works g.O.Disk.moment g.O.Disk.left_since c.args.outside.now c.flush.new.outside work basis item (c.flush.ensures.any_moment work basis at)
 
 pub returns-in_err-text-clause-any_moment : goal.returns-in_err-text-clause-any_moment
-returns-in_err-text-clause-any_moment g c = λ work ground item asks at. flush_works g.O.Disk.moment g.O.Disk.left_since c.args.outside.now c.flush.new.outside work ground item (c.flush.ensures.any_moment work ground at)
+returns-in_err-text-clause-any_moment g c = λ work basis item asks at. flush_works g.O.Disk.moment g.O.Disk.left_since c.args.outside.now c.flush.new.outside work basis item (c.flush.ensures.any_moment work basis at)
 
 -- what the paths behind the keeping share
-module _ (g : _) (c : After-keep g) (work : Work) (ground : Ground) (at : IsAmid (g.O.Disk.may_leave c.args.outside.now) (g.O.Outside.shown c.args.outside.now) c.args.self.now work ground) where
+module _ (g : _) (c : After-keep g) (work : Work) (basis : Ground) (at : IsAmid (g.O.Disk.may_leave c.args.outside.now) (g.O.Outside.shown c.args.outside.now) c.args.self.now work basis) where
   -- the text is the note
   is_note : DoIt c.in_ok-text.text ≡ DoIt snapshot_note
   is_note = ap DoIt c.in_ok-text.ensures
@@ -43,50 +43,50 @@ module _ (g : _) (c : After-keep g) (work : Work) (ground : Ground) (at : IsAmid
   lawful accepted = subst IsLawful (sym is_note) note_lawful
 
   -- it is kept behind a flush
-  behind : IsAmid (g.O.Disk.may_leave c.flush.new.outside) (g.O.Outside.shown c.flush.new.outside) c.flush.new.self work (flushed work ground)
-  behind = c.in_ok-flush.ensures.flushed work ground at
+  behind : IsAmid (g.O.Disk.may_leave c.flush.new.outside) (g.O.Outside.shown c.flush.new.outside) c.flush.new.self work (flushed work basis)
+  behind = c.in_ok-flush.ensures.flushed work basis at
 
-  run : LeavesOnly g.O.Disk.moment g.O.Disk.left_since c.flush.new.outside c.keep.new.outside (HasKept work.changes (length (ground.put ++ ground.held)))
-  run = c.keep.ensures.any_moment work (flushed work ground) lawful behind
+  run : LeavesOnly g.O.Disk.moment g.O.Disk.left_since c.flush.new.outside c.keep.new.outside (HasKept work.changes (length (basis.put ++ basis.held)))
+  run = c.keep.ensures.any_moment work (flushed work basis) lawful behind
 
 pub returns-in_err-refusal-clause-noted : goal.returns-in_err-refusal-clause-noted
-returns-in_err-refusal-clause-noted g c = λ work ground item asks at.
+returns-in_err-refusal-clause-noted g c = λ work basis item asks at.
     let after = (goal.at.returns-in_err-refusal-clause-noted g c).After-keep in
     let p = err_from_is_err_and c.from_residual-in_err-refusal.result c.from_residual-in_err-refusal.ensures.1 in
-    rw (p.1, p.2) (unkept_unnoted c.in_err-refusal.field-0.0 (g.O.Disk.may_leave c.keep.new.outside) (g.O.Outside.shown c.keep.new.outside) c.keep.new.self work ground item (c.in_err-refusal.ensures.kept work (flushed work ground) (lawful g after work ground at) (behind g after work ground at)))
+    rw (p.1, p.2) (unkept_unnoted c.in_err-refusal.field-0.0 (g.O.Disk.may_leave c.keep.new.outside) (g.O.Outside.shown c.keep.new.outside) c.keep.new.self work basis item (c.in_err-refusal.ensures.kept work (flushed work basis) (lawful g after work basis at) (behind g after work basis at)))
 
 pub returns-in_err-refusal-clause-any_moment : goal.returns-in_err-refusal-clause-any_moment
-returns-in_err-refusal-clause-any_moment g c = λ work ground item asks at.
-    keeping_lasts g.O.Disk.moment g.O.Disk.left_since c.args.outside.now c.flush.new.outside c.keep.new.outside work ground item (c.flush.ensures.any_moment work ground at) (run g (goal.at.returns-in_err-refusal-clause-any_moment g c).After-keep work ground at)
+returns-in_err-refusal-clause-any_moment g c = λ work basis item asks at.
+    keeping_lasts g.O.Disk.moment g.O.Disk.left_since c.args.outside.now c.flush.new.outside c.keep.new.outside work basis item (c.flush.ensures.any_moment work basis at) (run g (goal.at.returns-in_err-refusal-clause-any_moment g c).After-keep work basis at)
 
 pub returns-in_err-commit-clause-noted : goal.returns-in_err-commit-clause-noted
-returns-in_err-commit-clause-noted g c = λ work ground item asks at.
+returns-in_err-commit-clause-noted g c = λ work basis item asks at.
     let after = (goal.at.returns-in_err-commit-clause-noted g c).After-keep in
     let p = err_from_is_err_and c.from_residual-in_err-commit.result c.from_residual-in_err-commit.ensures.1 in
-    let P : Change → Type 0 = λ x. Kept (Ok c.in_ok-refusal.refusal) (g.O.Disk.may_leave c.keep.new.outside) (g.O.Outside.shown c.keep.new.outside) c.keep.new.self work (flushed work ground) x in
-    let kept = subst P (is_note g after work ground at) (c.in_ok-refusal.ensures.kept work (flushed work ground) (lawful g after work ground at) (behind g after work ground at)) in
-    rw (p.1, p.2) (uncommitted_unnoted c.in_err-commit.field-0.0 (g.O.Disk.may_leave c.commit.new.outside) (g.O.Outside.shown c.commit.new.outside) c.commit.new.self work ground item asks (c.in_err-commit.ensures.committed (adding work (DoIt snapshot_note)) (flushed work ground) kept.1))
+    let P : Change → Type 0 = λ x. Kept (Ok c.in_ok-refusal.refusal) (g.O.Disk.may_leave c.keep.new.outside) (g.O.Outside.shown c.keep.new.outside) c.keep.new.self work (flushed work basis) x in
+    let kept = subst P (is_note g after work basis at) (c.in_ok-refusal.ensures.kept work (flushed work basis) (lawful g after work basis at) (behind g after work basis at)) in
+    rw (p.1, p.2) (uncommitted_unnoted c.in_err-commit.field-0.0 (g.O.Disk.may_leave c.commit.new.outside) (g.O.Outside.shown c.commit.new.outside) c.commit.new.self work basis item asks (c.in_err-commit.ensures.committed (adding work (DoIt snapshot_note)) (flushed work basis) kept.1))
 
 pub returns-in_err-commit-clause-any_moment : goal.returns-in_err-commit-clause-any_moment
-returns-in_err-commit-clause-any_moment g c = λ work ground item asks at.
+returns-in_err-commit-clause-any_moment g c = λ work basis item asks at.
     let after = (goal.at.returns-in_err-commit-clause-any_moment g c).After-keep in
-    let P : Change → Type 0 = λ x. Kept (Ok c.in_ok-refusal.refusal) (g.O.Disk.may_leave c.keep.new.outside) (g.O.Outside.shown c.keep.new.outside) c.keep.new.self work (flushed work ground) x in
-    let kept = subst P (is_note g after work ground at) (c.in_ok-refusal.ensures.kept work (flushed work ground) (lawful g after work ground at) (behind g after work ground at)) in
-    noting_lasts g.O.Disk.moment g.O.Disk.left_since c.args.outside.now c.flush.new.outside c.keep.new.outside c.commit.new.outside work ground item asks (c.flush.ensures.any_moment work ground at) (run g after work ground at) (c.commit.ensures.any_moment (adding work (DoIt snapshot_note)) (flushed work ground) kept.1)
+    let P : Change → Type 0 = λ x. Kept (Ok c.in_ok-refusal.refusal) (g.O.Disk.may_leave c.keep.new.outside) (g.O.Outside.shown c.keep.new.outside) c.keep.new.self work (flushed work basis) x in
+    let kept = subst P (is_note g after work basis at) (c.in_ok-refusal.ensures.kept work (flushed work basis) (lawful g after work basis at) (behind g after work basis at)) in
+    noting_lasts g.O.Disk.moment g.O.Disk.left_since c.args.outside.now c.flush.new.outside c.keep.new.outside c.commit.new.outside work basis item asks (c.flush.ensures.any_moment work basis at) (run g after work basis at) (c.commit.ensures.any_moment (adding work (DoIt snapshot_note)) (flushed work basis) kept.1)
 
 pub returns-clause-noted : goal.returns-clause-noted
-returns-clause-noted g c = λ work ground item asks at.
+returns-clause-noted g c = λ work basis item asks at.
     let after = (goal.at.returns-clause-noted g c).After-keep in
-    let P : Change → Type 0 = λ x. Kept (Ok c.in_ok-refusal.refusal) (g.O.Disk.may_leave c.keep.new.outside) (g.O.Outside.shown c.keep.new.outside) c.keep.new.self work (flushed work ground) x in
-    let kept = subst P (is_note g after work ground at) (c.in_ok-refusal.ensures.kept work (flushed work ground) (lawful g after work ground at) (behind g after work ground at)) in
-    (c.reply_to_keeping.ensures ∙ kept.0, c.in_ok-commit.ensures.committed (adding work (DoIt snapshot_note)) (flushed work ground) kept.1)
+    let P : Change → Type 0 = λ x. Kept (Ok c.in_ok-refusal.refusal) (g.O.Disk.may_leave c.keep.new.outside) (g.O.Outside.shown c.keep.new.outside) c.keep.new.self work (flushed work basis) x in
+    let kept = subst P (is_note g after work basis at) (c.in_ok-refusal.ensures.kept work (flushed work basis) (lawful g after work basis at) (behind g after work basis at)) in
+    (c.reply_to_keeping.ensures ∙ kept.0, c.in_ok-commit.ensures.committed (adding work (DoIt snapshot_note)) (flushed work basis) kept.1)
 
 pub returns-clause-any_moment : goal.returns-clause-any_moment
-returns-clause-any_moment g c = λ work ground item asks at.
+returns-clause-any_moment g c = λ work basis item asks at.
     let after = (goal.at.returns-clause-any_moment g c).After-keep in
-    let P : Change → Type 0 = λ x. Kept (Ok c.in_ok-refusal.refusal) (g.O.Disk.may_leave c.keep.new.outside) (g.O.Outside.shown c.keep.new.outside) c.keep.new.self work (flushed work ground) x in
-    let kept = subst P (is_note g after work ground at) (c.in_ok-refusal.ensures.kept work (flushed work ground) (lawful g after work ground at) (behind g after work ground at)) in
-    noting_lasts g.O.Disk.moment g.O.Disk.left_since c.args.outside.now c.flush.new.outside c.keep.new.outside c.commit.new.outside work ground item asks (c.flush.ensures.any_moment work ground at) (run g after work ground at) (c.commit.ensures.any_moment (adding work (DoIt snapshot_note)) (flushed work ground) kept.1)
+    let P : Change → Type 0 = λ x. Kept (Ok c.in_ok-refusal.refusal) (g.O.Disk.may_leave c.keep.new.outside) (g.O.Outside.shown c.keep.new.outside) c.keep.new.self work (flushed work basis) x in
+    let kept = subst P (is_note g after work basis at) (c.in_ok-refusal.ensures.kept work (flushed work basis) (lawful g after work basis at) (behind g after work basis at)) in
+    noting_lasts g.O.Disk.moment g.O.Disk.left_since c.args.outside.now c.flush.new.outside c.keep.new.outside c.commit.new.outside work basis item asks (c.flush.ensures.any_moment work basis at) (run g after work basis at) (c.commit.ensures.any_moment (adding work (DoIt snapshot_note)) (flushed work basis) kept.1)
 
 -- ---- the other files
 
@@ -176,9 +176,9 @@ returns-clause-held g c = inr (ap held_of c.commit.ensures.rest ∙ none_held g 
 
 -- there is no memory for the note
 pub returns-in_err-text-clause-noted : goal.returns-in_err-text-clause-noted
-returns-in_err-text-clause-noted g c = λ work ground item asks at.
+returns-in_err-text-clause-noted g c = λ work basis item asks at.
     let p = err_from_is_err_and c.from_residual-in_err-text.result c.from_residual-in_err-text.ensures.1 in
-    rw (p.1, p.2) (inr (c.in_ok-flush.ensures.flushed work ground at))
+    rw (p.1, p.2) (inr (c.in_ok-flush.ensures.flushed work basis at))
 
 pub returns-in_err-text-clause-held : goal.returns-in_err-text-clause-held
 returns-in_err-text-clause-held g c = inr c.in_ok-flush.ensures.resting.silent

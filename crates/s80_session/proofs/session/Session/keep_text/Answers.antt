@@ -27,7 +27,7 @@ use Rattle.s80_session.proofs.session.Session.keep_text.Goals as goal
 use Rattle.s80_session.proofs.session.Session.keep_text.Goals.{After-keep, After-keep_doit}
 
 -- a form: what the paths behind the keeping share
-module _ (g : _) (c : After-keep g) (work : Work) (ground : Ground) (at : IsAmid (g.O.Disk.may_leave c.args.outside.now) (g.O.Outside.shown c.args.outside.now) c.args.self.now work ground) where
+module _ (g : _) (c : After-keep g) (work : Work) (basis : Ground) (at : IsAmid (g.O.Disk.may_leave c.args.outside.now) (g.O.Outside.shown c.args.outside.now) c.args.self.now work basis) where
   asks : AsksPlain c.args.text (adds (Form c.in-Ok-Form.form))
   asks =
       let P : Plain → Type 0 = λ x. IsPlain c.args.text (Ok x) in
@@ -36,44 +36,44 @@ module _ (g : _) (c : After-keep g) (work : Work) (ground : Ground) (at : IsAmid
   lawful : IsLawfulFor work.changes (Form c.in-Ok-Form.form)
   lawful = c.accepted_forms_are_lawful.ensures work.changes c.in-Ok-Form.form at.keeps.holds.list.lawful asks.1.form_is.1
 
-  run : LeavesOnly g.O.Disk.moment g.O.Disk.left_since c.args.outside.now c.keep.new.outside (HasKept ground.kept (length ground.put))
-  run = c.keep.ensures.any_moment work ground lawful at
+  run : LeavesOnly g.O.Disk.moment g.O.Disk.left_since c.args.outside.now c.keep.new.outside (HasKept basis.kept (length basis.put))
+  run = c.keep.ensures.any_moment work basis lawful at
 
-  works : LeavesOnly g.O.Disk.moment g.O.Disk.left_since c.args.outside.now c.keep.new.outside (WorkLeaves work ground (Chunk (items.Plain c.args.text)))
-  works = work_still g.O.Disk.moment g.O.Disk.left_since c.args.outside.now c.keep.new.outside work ground (Chunk (items.Plain c.args.text)) run
+  works : LeavesOnly g.O.Disk.moment g.O.Disk.left_since c.args.outside.now c.keep.new.outside (WorkLeaves work basis (Chunk (items.Plain c.args.text)))
+  works = work_still g.O.Disk.moment g.O.Disk.left_since c.args.outside.now c.keep.new.outside work basis (Chunk (items.Plain c.args.text)) run
 
 pub returns-in_err-refusal-in-Ok-Form-clause-replied : goal.returns-in_err-refusal-in-Ok-Form-clause-replied
-returns-in_err-refusal-in-Ok-Form-clause-replied g c = λ work ground chunk short at.
+returns-in_err-refusal-in-Ok-Form-clause-replied g c = λ work basis chunk short at.
     let after = (goal.at.returns-in_err-refusal-in-Ok-Form-clause-replied g c).After-keep in
     let p = err_from_is_err_and c.from_residual.result c.from_residual.ensures.1 in
-    rw (p.1, p.2) (unreplied c.in_err-refusal-in-Ok-Form.field-0.0 (g.O.Disk.may_leave c.keep.new.outside) (g.O.Outside.shown c.keep.new.outside) c.keep.new.self work ground (Chunk (items.Plain c.args.text)) (c.in_err-refusal-in-Ok-Form.ensures.kept work ground (lawful g after work ground at) at))
+    rw (p.1, p.2) (unreplied c.in_err-refusal-in-Ok-Form.field-0.0 (g.O.Disk.may_leave c.keep.new.outside) (g.O.Outside.shown c.keep.new.outside) c.keep.new.self work basis (Chunk (items.Plain c.args.text)) (c.in_err-refusal-in-Ok-Form.ensures.kept work basis (lawful g after work basis at) at))
 
 pub returns-in_err-refusal-in-Ok-Form-clause-any_moment : goal.returns-in_err-refusal-in-Ok-Form-clause-any_moment
-returns-in_err-refusal-in-Ok-Form-clause-any_moment g c = λ work ground chunk short at. works g (goal.at.returns-in_err-refusal-in-Ok-Form-clause-any_moment g c).After-keep work ground at
+returns-in_err-refusal-in-Ok-Form-clause-any_moment g c = λ work basis chunk short at. works g (goal.at.returns-in_err-refusal-in-Ok-Form-clause-any_moment g c).After-keep work basis at
 
 pub returns-in_ok-refusal-in-Ok-Form-clause-replied : goal.returns-in_ok-refusal-in-Ok-Form-clause-replied
-returns-in_ok-refusal-in-Ok-Form-clause-replied g c = λ work ground chunk short at.
+returns-in_ok-refusal-in-Ok-Form-clause-replied g c = λ work basis chunk short at.
     let after = (goal.at.returns-in_ok-refusal-in-Ok-Form-clause-replied g c).After-keep in
-    replied_change (g.O.Disk.may_leave c.keep.new.outside) (g.O.Outside.shown c.keep.new.outside) c.keep.new.self (was_of c.args.self.now) work ground (Chunk (items.Plain c.args.text)) (Form c.in-Ok-Form.form) c.in_ok-refusal-in-Ok-Form.refusal c.reply_to_keeping.result (ap last_run_of c.keep.ensures.rest) (asks g after work ground at) c.reply_to_keeping.ensures (c.in_ok-refusal-in-Ok-Form.ensures.kept work ground (lawful g after work ground at) at)
+    replied_change (g.O.Disk.may_leave c.keep.new.outside) (g.O.Outside.shown c.keep.new.outside) c.keep.new.self (was_of c.args.self.now) work basis (Chunk (items.Plain c.args.text)) (Form c.in-Ok-Form.form) c.in_ok-refusal-in-Ok-Form.refusal c.reply_to_keeping.result (ap last_run_of c.keep.ensures.rest) (asks g after work basis at) c.reply_to_keeping.ensures (c.in_ok-refusal-in-Ok-Form.ensures.kept work basis (lawful g after work basis at) at)
 
 pub returns-in_ok-refusal-in-Ok-Form-clause-any_moment : goal.returns-in_ok-refusal-in-Ok-Form-clause-any_moment
-returns-in_ok-refusal-in-Ok-Form-clause-any_moment g c = λ work ground chunk short at. works g (goal.at.returns-in_ok-refusal-in-Ok-Form-clause-any_moment g c).After-keep work ground at
+returns-in_ok-refusal-in-Ok-Form-clause-any_moment g c = λ work basis chunk short at. works g (goal.at.returns-in_ok-refusal-in-Ok-Form-clause-any_moment g c).After-keep work basis at
 
 -- the note of a snapshot
 pub returns-in-Ok-Snapshot-clause-replied : goal.returns-in-Ok-Snapshot-clause-replied
-returns-in-Ok-Snapshot-clause-replied g c = λ work ground chunk short at.
+returns-in-Ok-Snapshot-clause-replied g c = λ work basis chunk short at.
     let P : Plain → Type 0 = λ x. IsPlain c.args.text (Ok x) in
     let asks = subst P c.in-Ok-Snapshot.field-0-is c.in-Ok-Snapshot.ensures in
-    replied_note c.keep_note.result (g.O.Disk.may_leave c.keep_note.new.outside) (g.O.Outside.shown c.keep_note.new.outside) c.keep_note.new.self (was_of c.args.self.now) work ground (Chunk (items.Plain c.args.text)) c.keep_note.ensures.rest.last_run asks (c.keep_note.ensures.noted work ground (Chunk (items.Plain c.args.text)) asks at)
+    replied_note c.keep_note.result (g.O.Disk.may_leave c.keep_note.new.outside) (g.O.Outside.shown c.keep_note.new.outside) c.keep_note.new.self (was_of c.args.self.now) work basis (Chunk (items.Plain c.args.text)) c.keep_note.ensures.rest.last_run asks (c.keep_note.ensures.noted work basis (Chunk (items.Plain c.args.text)) asks at)
 
 pub returns-in-Ok-Snapshot-clause-any_moment : goal.returns-in-Ok-Snapshot-clause-any_moment
-returns-in-Ok-Snapshot-clause-any_moment g c = λ work ground chunk short at.
+returns-in-Ok-Snapshot-clause-any_moment g c = λ work basis chunk short at.
     let P : Plain → Type 0 = λ x. IsPlain c.args.text (Ok x) in
     let asks = subst P c.in-Ok-Snapshot.field-0-is c.in-Ok-Snapshot.ensures in
-    c.keep_note.ensures.any_moment work ground (Chunk (items.Plain c.args.text)) asks at
+    c.keep_note.ensures.any_moment work basis (Chunk (items.Plain c.args.text)) asks at
 
 pub returns-in-Ok-Snapshot-clause-grouped : goal.returns-in-Ok-Snapshot-clause-grouped
-returns-in-Ok-Snapshot-clause-grouped g c = λ work ground chunk short grouped at. absurd (let P : Plain → Type 0 = λ x. IsPlain c.args.text (Ok x) in grouped (subst P c.in-Ok-Snapshot.field-0-is c.in-Ok-Snapshot.ensures))
+returns-in-Ok-Snapshot-clause-grouped g c = λ work basis chunk short grouped at. absurd (let P : Plain → Type 0 = λ x. IsPlain c.args.text (Ok x) in grouped (subst P c.in-Ok-Snapshot.field-0-is c.in-Ok-Snapshot.ensures))
 
 pub returns-in-Ok-Snapshot-clause-unmarked : goal.returns-in-Ok-Snapshot-clause-unmarked
 returns-in-Ok-Snapshot-clause-unmarked g c = λ chunk short grouped. absurd (let P : Plain → Type 0 = λ x. IsPlain c.args.text (Ok x) in grouped (subst P c.in-Ok-Snapshot.field-0-is c.in-Ok-Snapshot.ensures))
@@ -92,35 +92,35 @@ keep_doit-requires-clause-method g c =
     subst (λ t. IsMethodOfDoIt t c.in-Ok-Evaluate.method) (sym is.0) is.1
 
 pub returns-in-Ok-Evaluate-clause-replied : goal.returns-in-Ok-Evaluate-clause-replied
-returns-in-Ok-Evaluate-clause-replied g c = λ work ground chunk short at.
+returns-in-Ok-Evaluate-clause-replied g c = λ work basis chunk short at.
     let P : Plain → Type 0 = λ x. IsPlain c.args.text (Ok x) in
     let is = subst P c.in-Ok-Evaluate.field-0-is c.in-Ok-Evaluate.ensures in
-    let Q : List ℕ → Type 0 = λ t. Replied c.keep_doit.result (g.O.Disk.may_leave c.keep_doit.new.outside) (g.O.Outside.shown c.keep_doit.new.outside) c.keep_doit.new.self (was_of c.args.self.now) work ground (Chunk (items.Plain t)) in
-    subst Q is.0 (c.keep_doit.ensures.replied work ground (subst IsChunkText (sym is.0) chunk) (subst (λ t. length t ≤ longest) (sym is.0) short) (subst IsNoFormText (sym is.0) is.2) at)
+    let Q : List ℕ → Type 0 = λ t. Replied c.keep_doit.result (g.O.Disk.may_leave c.keep_doit.new.outside) (g.O.Outside.shown c.keep_doit.new.outside) c.keep_doit.new.self (was_of c.args.self.now) work basis (Chunk (items.Plain t)) in
+    subst Q is.0 (c.keep_doit.ensures.replied work basis (subst IsChunkText (sym is.0) chunk) (subst (λ t. length t ≤ longest) (sym is.0) short) (subst IsNoFormText (sym is.0) is.2) at)
 
 -- what its keeping leaves
-module _ (g : _) (c : After-keep_doit g) (work : Work) (ground : Ground) (chunk : IsChunkText c.args.text) (short : length c.args.text ≤ longest) (at : IsAmid (g.O.Disk.may_leave c.args.outside.now) (g.O.Outside.shown c.args.outside.now) c.args.self.now work ground) where
-  doit_run : LeavesOnly g.O.Disk.moment g.O.Disk.left_since c.args.outside.now c.keep_doit.new.outside (HasKept ground.kept (length ground.put))
+module _ (g : _) (c : After-keep_doit g) (work : Work) (basis : Ground) (chunk : IsChunkText c.args.text) (short : length c.args.text ≤ longest) (at : IsAmid (g.O.Disk.may_leave c.args.outside.now) (g.O.Outside.shown c.args.outside.now) c.args.self.now work basis) where
+  doit_run : LeavesOnly g.O.Disk.moment g.O.Disk.left_since c.args.outside.now c.keep_doit.new.outside (HasKept basis.kept (length basis.put))
   doit_run =
       let P : Plain → Type 0 = λ x. IsPlain c.args.text (Ok x) in
       let is = subst P c.in-Ok-Evaluate.field-0-is c.in-Ok-Evaluate.ensures in
-      c.keep_doit.ensures.any_moment work ground (subst IsChunkText (sym is.0) chunk) (subst (λ t. length t ≤ longest) (sym is.0) short) (subst IsNoFormText (sym is.0) is.2) at
+      c.keep_doit.ensures.any_moment work basis (subst IsChunkText (sym is.0) chunk) (subst (λ t. length t ≤ longest) (sym is.0) short) (subst IsNoFormText (sym is.0) is.2) at
 
 pub returns-in-Ok-Evaluate-clause-any_moment : goal.returns-in-Ok-Evaluate-clause-any_moment
-returns-in-Ok-Evaluate-clause-any_moment g c = λ work ground chunk short at.
-    work_still g.O.Disk.moment g.O.Disk.left_since c.args.outside.now c.keep_doit.new.outside work ground (Chunk (items.Plain c.args.text)) (doit_run g (goal.at.returns-in-Ok-Evaluate-clause-any_moment g c).After-keep_doit work ground chunk short at)
+returns-in-Ok-Evaluate-clause-any_moment g c = λ work basis chunk short at.
+    work_still g.O.Disk.moment g.O.Disk.left_since c.args.outside.now c.keep_doit.new.outside work basis (Chunk (items.Plain c.args.text)) (doit_run g (goal.at.returns-in-Ok-Evaluate-clause-any_moment g c).After-keep_doit work basis chunk short at)
 
 pub returns-in-Ok-Evaluate-clause-grouped : goal.returns-in-Ok-Evaluate-clause-grouped
-returns-in-Ok-Evaluate-clause-grouped g c = λ work ground chunk short grouped at. doit_run g (goal.at.returns-in-Ok-Evaluate-clause-grouped g c).After-keep_doit work ground chunk short at
+returns-in-Ok-Evaluate-clause-grouped g c = λ work basis chunk short grouped at. doit_run g (goal.at.returns-in-Ok-Evaluate-clause-grouped g c).After-keep_doit work basis chunk short at
 
 pub returns-in-Ok-Evaluate-clause-unmarked : goal.returns-in-Ok-Evaluate-clause-unmarked
 returns-in-Ok-Evaluate-clause-unmarked g c = λ chunk short grouped. c.keep_doit.ensures.others Mark (no_log (keeper_of c.args.self.now).log.number)
 
 pub returns-in_ok-refusal-in-Ok-Form-clause-grouped : goal.returns-in_ok-refusal-in-Ok-Form-clause-grouped
-returns-in_ok-refusal-in-Ok-Form-clause-grouped g c = λ work ground chunk short grouped at. run g (goal.at.returns-in_ok-refusal-in-Ok-Form-clause-grouped g c).After-keep work ground at
+returns-in_ok-refusal-in-Ok-Form-clause-grouped g c = λ work basis chunk short grouped at. run g (goal.at.returns-in_ok-refusal-in-Ok-Form-clause-grouped g c).After-keep work basis at
 
 pub returns-in_err-refusal-in-Ok-Form-clause-grouped : goal.returns-in_err-refusal-in-Ok-Form-clause-grouped
-returns-in_err-refusal-in-Ok-Form-clause-grouped g c = λ work ground chunk short grouped at. run g (goal.at.returns-in_err-refusal-in-Ok-Form-clause-grouped g c).After-keep work ground at
+returns-in_err-refusal-in-Ok-Form-clause-grouped g c = λ work basis chunk short grouped at. run g (goal.at.returns-in_err-refusal-in-Ok-Form-clause-grouped g c).After-keep work basis at
 
 pub returns-in_ok-refusal-in-Ok-Form-clause-unmarked : goal.returns-in_ok-refusal-in-Ok-Form-clause-unmarked
 returns-in_ok-refusal-in-Ok-Form-clause-unmarked g c = λ chunk short grouped. c.keep.ensures.others Mark (no_log (keeper_of c.args.self.now).log.number)
@@ -129,17 +129,17 @@ pub returns-in_err-refusal-in-Ok-Form-clause-unmarked : goal.returns-in_err-refu
 returns-in_err-refusal-in-Ok-Form-clause-unmarked g c = λ chunk short grouped. c.keep.ensures.others Mark (no_log (keeper_of c.args.self.now).log.number)
 
 pub returns-in-Err-Refusal-clause-replied : goal.returns-in-Err-Refusal-clause-replied
-returns-in-Err-Refusal-clause-replied g c = λ work ground chunk short at.
+returns-in-Err-Refusal-clause-replied g c = λ work basis chunk short at.
     let P : Refused → Type 0 = λ r. IsPlain c.args.text (Err r) in
-    rw c.in-Err-Refusal.field-0-is (replied_refusal (g.O.Disk.may_leave c.args.outside.now) (g.O.Outside.shown c.args.outside.now) _ (was_of c.args.self.now) work ground c.args.text c.in-Err-Refusal.refusal refl (subst P c.in-Err-Refusal.field-0-is c.in-Err-Refusal.ensures) at)
+    rw c.in-Err-Refusal.field-0-is (replied_refusal (g.O.Disk.may_leave c.args.outside.now) (g.O.Outside.shown c.args.outside.now) _ (was_of c.args.self.now) work basis c.args.text c.in-Err-Refusal.refusal refl (subst P c.in-Err-Refusal.field-0-is c.in-Err-Refusal.ensures) at)
 
 pub returns-in-Err-Refusal-clause-any_moment : goal.returns-in-Err-Refusal-clause-any_moment
-returns-in-Err-Refusal-clause-any_moment g c = λ work ground chunk short at.
-    work_still g.O.Disk.moment g.O.Disk.left_since c.args.outside.now c.args.outside.now work ground (Chunk (items.Plain c.args.text)) (nothing_happens g.O.Disk.moment g.O.Disk.left_since _ (g.O.Outside.shown c.args.outside.now) _ c.args.outside.now work ground (λ told image left. let x = g.met.O.Disk.only_now c.args.outside.now told image left in (x.0, x.1 ∙ told_beside g.met.O.Outside.beside_is g.met.O.Outside.shown_is c.args.outside.now)) at)
+returns-in-Err-Refusal-clause-any_moment g c = λ work basis chunk short at.
+    work_still g.O.Disk.moment g.O.Disk.left_since c.args.outside.now c.args.outside.now work basis (Chunk (items.Plain c.args.text)) (nothing_happens g.O.Disk.moment g.O.Disk.left_since _ (g.O.Outside.shown c.args.outside.now) _ c.args.outside.now work basis (λ told image left. let x = g.met.O.Disk.only_now c.args.outside.now told image left in (x.0, x.1 ∙ told_beside g.met.O.Outside.beside_is g.met.O.Outside.shown_is c.args.outside.now)) at)
 
 pub returns-in-Err-Memory-clause-any_moment : goal.returns-in-Err-Memory-clause-any_moment
-returns-in-Err-Memory-clause-any_moment g c = λ work ground chunk short at.
-    work_still g.O.Disk.moment g.O.Disk.left_since c.args.outside.now c.args.outside.now work ground (Chunk (items.Plain c.args.text)) (nothing_happens g.O.Disk.moment g.O.Disk.left_since _ (g.O.Outside.shown c.args.outside.now) _ c.args.outside.now work ground (λ told image left. let x = g.met.O.Disk.only_now c.args.outside.now told image left in (x.0, x.1 ∙ told_beside g.met.O.Outside.beside_is g.met.O.Outside.shown_is c.args.outside.now)) at)
+returns-in-Err-Memory-clause-any_moment g c = λ work basis chunk short at.
+    work_still g.O.Disk.moment g.O.Disk.left_since c.args.outside.now c.args.outside.now work basis (Chunk (items.Plain c.args.text)) (nothing_happens g.O.Disk.moment g.O.Disk.left_since _ (g.O.Outside.shown c.args.outside.now) _ c.args.outside.now work basis (λ told image left. let x = g.met.O.Disk.only_now c.args.outside.now told image left in (x.0, x.1 ∙ told_beside g.met.O.Outside.beside_is g.met.O.Outside.shown_is c.args.outside.now)) at)
 
 pub returns-in-Ok-Evaluate-clause-last_run : goal.returns-in-Ok-Evaluate-clause-last_run
 returns-in-Ok-Evaluate-clause-last_run g c =
@@ -158,12 +158,12 @@ returns-in_err-refusal-in-Ok-Form-clause-last_run g c =
 
 -- nothing is done
 pub returns-in-Err-Refusal-clause-grouped : goal.returns-in-Err-Refusal-clause-grouped
-returns-in-Err-Refusal-clause-grouped g c = λ work ground chunk short grouped at.
-    nothing_happens g.O.Disk.moment g.O.Disk.left_since _ (g.O.Outside.shown c.args.outside.now) _ c.args.outside.now work ground (λ told image left. let x = g.met.O.Disk.only_now c.args.outside.now told image left in (x.0, x.1 ∙ told_beside g.met.O.Outside.beside_is g.met.O.Outside.shown_is c.args.outside.now)) at
+returns-in-Err-Refusal-clause-grouped g c = λ work basis chunk short grouped at.
+    nothing_happens g.O.Disk.moment g.O.Disk.left_since _ (g.O.Outside.shown c.args.outside.now) _ c.args.outside.now work basis (λ told image left. let x = g.met.O.Disk.only_now c.args.outside.now told image left in (x.0, x.1 ∙ told_beside g.met.O.Outside.beside_is g.met.O.Outside.shown_is c.args.outside.now)) at
 
 pub returns-in-Err-Memory-clause-grouped : goal.returns-in-Err-Memory-clause-grouped
-returns-in-Err-Memory-clause-grouped g c = λ work ground chunk short grouped at.
-    nothing_happens g.O.Disk.moment g.O.Disk.left_since _ (g.O.Outside.shown c.args.outside.now) _ c.args.outside.now work ground (λ told image left. let x = g.met.O.Disk.only_now c.args.outside.now told image left in (x.0, x.1 ∙ told_beside g.met.O.Outside.beside_is g.met.O.Outside.shown_is c.args.outside.now)) at
+returns-in-Err-Memory-clause-grouped g c = λ work basis chunk short grouped at.
+    nothing_happens g.O.Disk.moment g.O.Disk.left_since _ (g.O.Outside.shown c.args.outside.now) _ c.args.outside.now work basis (λ told image left. let x = g.met.O.Disk.only_now c.args.outside.now told image left in (x.0, x.1 ∙ told_beside g.met.O.Outside.beside_is g.met.O.Outside.shown_is c.args.outside.now)) at
 
 pub returns-in_ok-refusal-in-Ok-Form-clause-room : goal.returns-in_ok-refusal-in-Ok-Form-clause-room
 returns-in_ok-refusal-in-Ok-Form-clause-room g c = λ enough.

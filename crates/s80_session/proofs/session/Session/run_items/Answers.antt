@@ -71,14 +71,14 @@ returns-clause-ran g c = λ work input before left_is at.
     let start = starts_done (g.O.Disk.may_leave c.args.outside.now) _ _ _ work before c.in_ok-reader.ensures.read at in
     let t = c.in_ok-take_all.ensures.took (was_of c.args.self.now) work input before left_is start in
     let f = c.in_ok-finish.ensures.finished (was_of c.args.self.now) work input before t in
-    finished_ends c.flush.result (g.O.Disk.may_leave c.finish.new.outside) (g.O.Disk.may_leave c.flush.new.outside) (g.O.Outside.shown c.finish.new.outside) (g.O.Outside.shown c.flush.new.outside) c.finish.new.self c.flush.new.self (was_of c.args.self.now) work input before f (c.flush.ensures.flushed (work_after_all work f.asks) f.ground f.at) c.flush.ensures.rest c.flush.ensures.left
+    finished_ends c.flush.result (g.O.Disk.may_leave c.finish.new.outside) (g.O.Disk.may_leave c.flush.new.outside) (g.O.Outside.shown c.finish.new.outside) (g.O.Outside.shown c.flush.new.outside) c.finish.new.self c.flush.new.self (was_of c.args.self.now) work input before f (c.flush.ensures.flushed (work_after_all work f.asks) f.basis f.at) c.flush.ensures.rest c.flush.ensures.left
 
 pub returns-clause-any_moment : goal.returns-clause-any_moment
 returns-clause-any_moment g c = λ work input before left_is at.
     let start = starts_done (g.O.Disk.may_leave c.args.outside.now) _ _ _ work before c.in_ok-reader.ensures.read at in
     let t = c.in_ok-take_all.ensures.took (was_of c.args.self.now) work input before left_is start in
     let f = c.in_ok-finish.ensures.finished (was_of c.args.self.now) work input before t in
-    group_flushed g.O.Disk.moment g.O.Disk.left_since (FirstAsksOf work input) (first_front work input) work before f.asks f.ground (first_of_all work input f.asks f.all) f.behind c.args.outside.now c.finish.new.outside c.flush.new.outside (keeps_on g.O.Disk.moment g.O.Disk.left_since c.args.outside.now c.take_all.new.outside c.finish.new.outside work input before (c.take_all.ensures.any_moment (was_of c.args.self.now) work input before left_is start) (c.finish.ensures.any_moment (was_of c.args.self.now) work input before t)) (c.flush.ensures.any_moment (work_after_all work f.asks) f.ground f.at)
+    group_flushed g.O.Disk.moment g.O.Disk.left_since (FirstAsksOf work input) (first_front work input) work before f.asks f.basis (first_of_all work input f.asks f.all) f.behind c.args.outside.now c.finish.new.outside c.flush.new.outside (keeps_on g.O.Disk.moment g.O.Disk.left_since c.args.outside.now c.take_all.new.outside c.finish.new.outside work input before (c.take_all.ensures.any_moment (was_of c.args.self.now) work input before left_is start) (c.finish.ensures.any_moment (was_of c.args.self.now) work input before t)) (c.flush.ensures.any_moment (work_after_all work f.asks) f.basis f.at)
 
 pub returns-clause-last_run : goal.returns-clause-last_run
 returns-clause-last_run g c = both_runs c.args.self.now c.finish.new.self c.flush.new.self (both_runs c.args.self.now c.take_all.new.self c.finish.new.self c.take_all.ensures.last_run c.finish.ensures.last_run) (run_of_rest c.finish.new.self c.flush.new.self c.flush.ensures.rest)

@@ -22,10 +22,10 @@ module _ (g : _) (c : After-end_for_memory g) where
   is : c.in-Err.end ≡ ends.Memory
   is = c.if-is_memory.ensures
 
-  unreplied : (work : Work) (ground : Ground) → IsReadable c.args.item → IsAmid (g.O.Disk.may_leave c.args.outside.now) (g.O.Outside.shown c.args.outside.now) c.args.self.now work ground → Unreplied ends.Memory (g.O.Disk.may_leave c.work_item.new.outside) (g.O.Outside.shown c.work_item.new.outside) c.work_item.new.self work ground c.args.item
-  unreplied work ground readable at =
-      let P : SessionEnd → Type 0 = λ e. Unreplied e (g.O.Disk.may_leave c.work_item.new.outside) (g.O.Outside.shown c.work_item.new.outside) c.work_item.new.self work ground c.args.item in
-      subst P is (c.in-Err.ensures.worked work ground readable at)
+  unreplied : (work : Work) (basis : Ground) → IsReadable c.args.item → IsAmid (g.O.Disk.may_leave c.args.outside.now) (g.O.Outside.shown c.args.outside.now) c.args.self.now work basis → Unreplied ends.Memory (g.O.Disk.may_leave c.work_item.new.outside) (g.O.Outside.shown c.work_item.new.outside) c.work_item.new.self work basis c.args.item
+  unreplied work basis readable at =
+      let P : SessionEnd → Type 0 = λ e. Unreplied e (g.O.Disk.may_leave c.work_item.new.outside) (g.O.Outside.shown c.work_item.new.outside) c.work_item.new.self work basis c.args.item in
+      subst P is (c.in-Err.ensures.worked work basis readable at)
 
   -- at rest a query leaves all as it was
   none_held : IsResting c.args.self.now → held_of c.work_item.new.self ≡ []
@@ -43,12 +43,12 @@ module _ (g : _) (c : After-end_for_memory g) where
   same asking resting = (c.end_for_memory.ensures.idle (rests asking resting)).0
 
 pub returns-then-is_memory-clause-worked : goal.returns-then-is_memory-clause-worked
-returns-then-is_memory-clause-worked g c = λ work ground readable at.
-    worked_memory c.end_for_memory.result (g.O.Disk.may_leave c.work_item.new.outside) (g.O.Disk.may_leave c.end_for_memory.new.outside) (g.O.Outside.shown c.work_item.new.outside) (g.O.Outside.shown c.end_for_memory.new.outside) c.work_item.new.self c.end_for_memory.new.self (was_of c.args.self.now) work ground c.args.item c.end_for_memory.ensures.ends (unreplied g (goal.at.returns-then-is_memory-clause-worked g c).After-end_for_memory work ground readable at)
+returns-then-is_memory-clause-worked g c = λ work basis readable at.
+    worked_memory c.end_for_memory.result (g.O.Disk.may_leave c.work_item.new.outside) (g.O.Disk.may_leave c.end_for_memory.new.outside) (g.O.Outside.shown c.work_item.new.outside) (g.O.Outside.shown c.end_for_memory.new.outside) c.work_item.new.self c.end_for_memory.new.self (was_of c.args.self.now) work basis c.args.item c.end_for_memory.ensures.ends (unreplied g (goal.at.returns-then-is_memory-clause-worked g c).After-end_for_memory work basis readable at)
 
 pub returns-then-is_memory-clause-any_moment : goal.returns-then-is_memory-clause-any_moment
-returns-then-is_memory-clause-any_moment g c = λ work ground readable at.
-    memory_lasts g.O.Disk.moment g.O.Disk.left_since c.args.outside.now c.work_item.new.outside c.end_for_memory.new.outside (g.O.Disk.may_leave c.work_item.new.outside) (g.O.Outside.shown c.work_item.new.outside) c.work_item.new.self work ground c.args.item (c.work_item.ensures.any_moment work ground readable at) c.end_for_memory.ensures.any_moment (unreplied g (goal.at.returns-then-is_memory-clause-any_moment g c).After-end_for_memory work ground readable at)
+returns-then-is_memory-clause-any_moment g c = λ work basis readable at.
+    memory_lasts g.O.Disk.moment g.O.Disk.left_since c.args.outside.now c.work_item.new.outside c.end_for_memory.new.outside (g.O.Disk.may_leave c.work_item.new.outside) (g.O.Outside.shown c.work_item.new.outside) c.work_item.new.self work basis c.args.item (c.work_item.ensures.any_moment work basis readable at) c.end_for_memory.ensures.any_moment (unreplied g (goal.at.returns-then-is_memory-clause-any_moment g c).After-end_for_memory work basis readable at)
 
 pub returns-then-is_memory-clause-elsewhere : goal.returns-then-is_memory-clause-elsewhere
 returns-then-is_memory-clause-elsewhere g c =
@@ -97,5 +97,5 @@ returns-then-is_memory-clause-sound g c = λ tells changes knows.
 
 -- it wasn't
 pub returns-clause-worked : goal.returns-clause-worked
-returns-clause-worked g c = λ work ground readable at.
-    worked_err c.in-Err.end (g.O.Disk.may_leave c.work_item.new.outside) (g.O.Outside.shown c.work_item.new.outside) c.work_item.new.self (was_of c.args.self.now) work ground c.args.item c.if-is_memory.ensures (c.in-Err.ensures.worked work ground readable at)
+returns-clause-worked g c = λ work basis readable at.
+    worked_err c.in-Err.end (g.O.Disk.may_leave c.work_item.new.outside) (g.O.Outside.shown c.work_item.new.outside) c.work_item.new.self (was_of c.args.self.now) work basis c.args.item c.if-is_memory.ensures (c.in-Err.ensures.worked work basis readable at)

@@ -18,48 +18,48 @@ use Rattle.s80_session.proofs.session.Session.work_item.Goals as goal
 use Rattle.s80_session.proofs.session.Session.work_item.Goals.{After-answer_to, After-reserve}
 
 -- once there is room for "ok"
-module _ (g : _) (c : After-reserve g) (work : Work) (ground : Ground) (at : IsAmid (g.O.Disk.may_leave c.args.outside.now) (g.O.Outside.shown c.args.outside.now) c.args.self.now work ground) where
-  reserved : IsAmid (g.O.Disk.may_leave c.args.outside.now) (g.O.Outside.shown c.args.outside.now) (record c.args.self.now { held = c.reserve.new.self }) work ground
-  reserved = amid_alike (g.O.Disk.may_leave c.args.outside.now) (g.O.Outside.shown c.args.outside.now) c.args.self.now (record c.args.self.now { held = c.reserve.new.self }) work ground refl refl refl c.reserve.ensures.bytes at
+module _ (g : _) (c : After-reserve g) (work : Work) (basis : Ground) (at : IsAmid (g.O.Disk.may_leave c.args.outside.now) (g.O.Outside.shown c.args.outside.now) c.args.self.now work basis) where
+  reserved : IsAmid (g.O.Disk.may_leave c.args.outside.now) (g.O.Outside.shown c.args.outside.now) (record c.args.self.now { held = c.reserve.new.self }) work basis
+  reserved = amid_alike (g.O.Disk.may_leave c.args.outside.now) (g.O.Outside.shown c.args.outside.now) c.args.self.now (record c.args.self.now { held = c.reserve.new.self }) work basis refl refl refl c.reserve.ensures.bytes at
 
-  nothing : LeavesOnly g.O.Disk.moment g.O.Disk.left_since c.args.outside.now c.args.outside.now (HasKept ground.kept (length ground.put))
-  nothing = nothing_happens g.O.Disk.moment g.O.Disk.left_since _ (g.O.Outside.shown c.args.outside.now) _ c.args.outside.now work ground (λ told image left. let x = g.met.O.Disk.only_now c.args.outside.now told image left in (x.0, x.1 ∙ told_beside g.met.O.Outside.beside_is g.met.O.Outside.shown_is c.args.outside.now)) at
+  nothing : LeavesOnly g.O.Disk.moment g.O.Disk.left_since c.args.outside.now c.args.outside.now (HasKept basis.kept (length basis.put))
+  nothing = nothing_happens g.O.Disk.moment g.O.Disk.left_since _ (g.O.Outside.shown c.args.outside.now) _ c.args.outside.now work basis (λ told image left. let x = g.met.O.Disk.only_now c.args.outside.now told image left in (x.0, x.1 ∙ told_beside g.met.O.Outside.beside_is g.met.O.Outside.shown_is c.args.outside.now)) at
 
 pub returns-in_err-reserve-clause-worked : goal.returns-in_err-reserve-clause-worked
-returns-in_err-reserve-clause-worked g c = λ work ground readable at.
+returns-in_err-reserve-clause-worked g c = λ work basis readable at.
     let p = err_from_is_err_and c.from_residual.result c.from_residual.ensures.1 in
-    rw (p.1, p.2) (inl (inl (reserved g (goal.at.returns-in_err-reserve-clause-worked g c).After-reserve work ground at)))
+    rw (p.1, p.2) (inl (inl (reserved g (goal.at.returns-in_err-reserve-clause-worked g c).After-reserve work basis at)))
 
 pub returns-in_err-reserve-clause-any_moment : goal.returns-in_err-reserve-clause-any_moment
-returns-in_err-reserve-clause-any_moment g c = λ work ground readable at.
-    work_still g.O.Disk.moment g.O.Disk.left_since c.args.outside.now c.args.outside.now work ground c.args.item (nothing g (goal.at.returns-in_err-reserve-clause-any_moment g c).After-reserve work ground at)
+returns-in_err-reserve-clause-any_moment g c = λ work basis readable at.
+    work_still g.O.Disk.moment g.O.Disk.left_since c.args.outside.now c.args.outside.now work basis c.args.item (nothing g (goal.at.returns-in_err-reserve-clause-any_moment g c).After-reserve work basis at)
 
 pub returns-in_err-reserve-clause-grouped : goal.returns-in_err-reserve-clause-grouped
-returns-in_err-reserve-clause-grouped g c = λ work ground readable grouped at. nothing g (goal.at.returns-in_err-reserve-clause-grouped g c).After-reserve work ground at
+returns-in_err-reserve-clause-grouped g c = λ work basis readable grouped at. nothing g (goal.at.returns-in_err-reserve-clause-grouped g c).After-reserve work basis at
 
 pub returns-in_err-reply-clause-worked : goal.returns-in_err-reply-clause-worked
-returns-in_err-reply-clause-worked g c = λ work ground readable at.
+returns-in_err-reply-clause-worked g c = λ work basis readable at.
     let p = err_from_is_err_and c.from_residual-in_err-reply.result c.from_residual-in_err-reply.ensures.1 in
-    rw (p.1, p.2) (c.in_err-reply.ensures.answers work ground readable (reserved g (goal.at.returns-in_err-reply-clause-worked g c).After-reserve work ground at))
+    rw (p.1, p.2) (c.in_err-reply.ensures.answers work basis readable (reserved g (goal.at.returns-in_err-reply-clause-worked g c).After-reserve work basis at))
 
 pub returns-in_err-reply-clause-any_moment : goal.returns-in_err-reply-clause-any_moment
-returns-in_err-reply-clause-any_moment g c = λ work ground readable at. c.answer_to.ensures.any_moment work ground readable (reserved g (goal.at.returns-in_err-reply-clause-any_moment g c).After-reserve work ground at)
+returns-in_err-reply-clause-any_moment g c = λ work basis readable at. c.answer_to.ensures.any_moment work basis readable (reserved g (goal.at.returns-in_err-reply-clause-any_moment g c).After-reserve work basis at)
 
 pub returns-in_err-reply-clause-grouped : goal.returns-in_err-reply-clause-grouped
-returns-in_err-reply-clause-grouped g c = λ work ground readable grouped at. c.answer_to.ensures.grouped work ground readable grouped (reserved g (goal.at.returns-in_err-reply-clause-grouped g c).After-reserve work ground at)
+returns-in_err-reply-clause-grouped g c = λ work basis readable grouped at. c.answer_to.ensures.grouped work basis readable grouped (reserved g (goal.at.returns-in_err-reply-clause-grouped g c).After-reserve work basis at)
 
 pub returns-in_err-hold-clause-worked : goal.returns-in_err-hold-clause-worked
-returns-in_err-hold-clause-worked g c = λ work ground readable at.
+returns-in_err-hold-clause-worked g c = λ work basis readable at.
     let p = err_from_is_err_and c.from_residual-in_err-hold.result c.from_residual-in_err-hold.ensures.1 in
     let rest = c.hold.ensures.rest in
-    rw (p.1, p.2) (inl (unheld (g.O.Disk.may_leave c.answer_to.new.outside) (g.O.Outside.shown c.answer_to.new.outside) c.answer_to.new.self c.hold.new.self (was_of c.args.self.now) work ground c.args.item c.in_ok-reply.field-0 (room_of c.answer_to.new.self) (ap keeper_of rest) (ap section_of rest) (ap budget_of rest) c.in_err-hold.ensures.same.0 (c.in_ok-reply.ensures.room c.in_ok-reserve.ensures.room) c.in_err-hold.ensures.lacks
-    (c.in_ok-reply.ensures.answers work ground readable (reserved g (goal.at.returns-in_err-hold-clause-worked g c).After-reserve work ground at))))
+    rw (p.1, p.2) (inl (unheld (g.O.Disk.may_leave c.answer_to.new.outside) (g.O.Outside.shown c.answer_to.new.outside) c.answer_to.new.self c.hold.new.self (was_of c.args.self.now) work basis c.args.item c.in_ok-reply.field-0 (room_of c.answer_to.new.self) (ap keeper_of rest) (ap section_of rest) (ap budget_of rest) c.in_err-hold.ensures.same.0 (c.in_ok-reply.ensures.room c.in_ok-reserve.ensures.room) c.in_err-hold.ensures.lacks
+    (c.in_ok-reply.ensures.answers work basis readable (reserved g (goal.at.returns-in_err-hold-clause-worked g c).After-reserve work basis at))))
 
 pub returns-in_err-hold-clause-any_moment : goal.returns-in_err-hold-clause-any_moment
-returns-in_err-hold-clause-any_moment g c = λ work ground readable at. c.answer_to.ensures.any_moment work ground readable (reserved g (goal.at.returns-in_err-hold-clause-any_moment g c).After-reserve work ground at)
+returns-in_err-hold-clause-any_moment g c = λ work basis readable at. c.answer_to.ensures.any_moment work basis readable (reserved g (goal.at.returns-in_err-hold-clause-any_moment g c).After-reserve work basis at)
 
 pub returns-in_err-hold-clause-grouped : goal.returns-in_err-hold-clause-grouped
-returns-in_err-hold-clause-grouped g c = λ work ground readable grouped at. c.answer_to.ensures.grouped work ground readable grouped (reserved g (goal.at.returns-in_err-hold-clause-grouped g c).After-reserve work ground at)
+returns-in_err-hold-clause-grouped g c = λ work basis readable grouped at. c.answer_to.ensures.grouped work basis readable grouped (reserved g (goal.at.returns-in_err-hold-clause-grouped g c).After-reserve work basis at)
 
 pub returns-in_err-hold-clause-last_run : goal.returns-in_err-hold-clause-last_run
 returns-in_err-hold-clause-last_run g c =
@@ -72,17 +72,17 @@ returns-in_err-hold-clause-counts g c =
     rw (p.1, p.2) (counts_then c.args.item _ _ _ c.in_ok-reply.field-0 _ (memory_both _ _) c.in_ok-reply.ensures.counts)
 
 pub returns-clause-worked : goal.returns-clause-worked
-returns-clause-worked g c = λ work ground readable at.
+returns-clause-worked g c = λ work basis readable at.
     let held = c.hold.ensures.rest in
     let entered = c.enter.ensures.rest in
     item_held (g.O.Disk.may_leave c.answer_to.new.outside) (g.O.Outside.shown c.answer_to.new.outside) c.answer_to.new.self c.enter.new.self work c.args.item c.in_ok-reply.field-0 (ap keeper_of entered ∙ ap keeper_of held) (ap budget_of entered ∙ ap budget_of held) (c.enter.ensures.section ∙ ap (section_or c.in_ok-reply.field-0.section) (ap section_of held)) (ap held_of entered ∙ c.in_ok-hold.ensures.held)
-    (was_of c.args.self.now) ground c.answer_to.ensures.troubled (ap troubled_of entered ∙ c.in_ok-hold.ensures.troubled) (ap last_run_of entered ∙ ap last_run_of held) (c.in_ok-reply.ensures.answers work ground readable (reserved g (goal.at.returns-clause-worked g c).After-reserve work ground at))
+    (was_of c.args.self.now) basis c.answer_to.ensures.troubled (ap troubled_of entered ∙ c.in_ok-hold.ensures.troubled) (ap last_run_of entered ∙ ap last_run_of held) (c.in_ok-reply.ensures.answers work basis readable (reserved g (goal.at.returns-clause-worked g c).After-reserve work basis at))
 
 pub returns-clause-any_moment : goal.returns-clause-any_moment
-returns-clause-any_moment g c = λ work ground readable at. c.answer_to.ensures.any_moment work ground readable (reserved g (goal.at.returns-clause-any_moment g c).After-reserve work ground at)
+returns-clause-any_moment g c = λ work basis readable at. c.answer_to.ensures.any_moment work basis readable (reserved g (goal.at.returns-clause-any_moment g c).After-reserve work basis at)
 
 pub returns-clause-grouped : goal.returns-clause-grouped
-returns-clause-grouped g c = λ work ground readable grouped at. c.answer_to.ensures.grouped work ground readable grouped (reserved g (goal.at.returns-clause-grouped g c).After-reserve work ground at)
+returns-clause-grouped g c = λ work basis readable grouped at. c.answer_to.ensures.grouped work basis readable grouped (reserved g (goal.at.returns-clause-grouped g c).After-reserve work basis at)
 
 pub returns-clause-troubled : goal.returns-clause-troubled
 returns-clause-troubled g c =
