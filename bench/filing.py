@@ -1,9 +1,10 @@
 #!/usr/bin/env python3
 """How long a large file-in takes, against a commit for each chunk, SQLite with a transaction a row, and the syncs alone.
 
-usage: bench/filing.py [CHUNKS] [RUNS] [ONE_BY_ONE]
+usage: bench/filing.py [CHUNKS] [RUNS] [ONE_BY_ONE] [DELAY]
 
-Two inputs of CHUNKS chunks each: definitions of classes, and methods of these, each in a section of its own. Side by side in each run, all on one disk:
+Two inputs of CHUNKS chunks each: definitions of classes, and methods of 500 classes, each in a section of its own. Side by side in each run, all on one
+disk, whose syncs take DELAY microseconds longer than they do (`slow.c`):
 - `st80 run` on the whole input;
 - `st80 run` that is given one chunk after the other, each when the one before it is answered: so each has a commit of its own (of the first
   ONE_BY_ONE chunks alone, as many times as long);
@@ -22,6 +23,8 @@ from statistics import median
 from common import PROGRAM, TOP, build, folder
 
 WANTED = {"one by one": 20, "journal": 20, "write-ahead log": 5}
+# The classes that get the methods.
+CLASSES = 500
 
 
 def definition(number):
@@ -29,7 +32,7 @@ def definition(number):
 
 
 def method(number):
-    return b"!C%d methodsFor: 'filed'!\nsum: x\n\t\"Answer the sum of mine and x.\"\n\t^(a ifNil: [%d]) + x! !\n" % (number, number)
+    return b"!C%d methodsFor: 'filed'!\nsum%d: x\n\t\"Answer the sum of mine and x.\"\n\t^(a ifNil: [%d]) + x! !\n" % (number % CLASSES, number, number)
 
 
 def seconds(work):
@@ -94,10 +97,21 @@ def compared(place, name, floor, chunks, few, base):
     for word, journal in (("journal", "DELETE"), ("write-ahead log", "WAL")):
         part = each[:few] if word == "journal" else each
         times[word] = seconds(lambda: rows(os.path.join(place, f"{name}-{journal}.db"), journal, part)) * len(each) / len(part)
-    return times, now - commits, grouped
+    return times, now - commits
+
+
+def slowed(delay):
+    """Begins anew with the syncs of this program and its children so many microseconds slower."""
+    with folder() as place:
+        slow = os.path.join(place, "slow.so")
+        subprocess.run(["cc", "-O2", "-shared", "-fPIC", "-o", slow, os.path.join(TOP, "bench", "slow.c"), "-ldl"], check=True)
+        again = {**os.environ, "LD_PRELOAD": slow, "SYNC_DELAY": delay}
+        return subprocess.run([sys.executable, *sys.argv], env=again).returncode
 
 
 def main():
+    if len(sys.argv) > 4 and "SYNC_DELAY" not in os.environ:
+        sys.exit(slowed(sys.argv[4]))
     chunks = int(sys.argv[1]) if len(sys.argv) > 1 else 10_000
     runs = int(sys.argv[2]) if len(sys.argv) > 2 else 3
     few = min(int(sys.argv[3]) if len(sys.argv) > 3 else 2000, chunks)
@@ -107,11 +121,12 @@ def main():
         floor = os.path.join(place, "floor")
         subprocess.run(["cc", "-O2", "-o", floor, os.path.join(TOP, "bench", "floor.c")], check=True)
         for run in range(runs):
-            base = os.path.join(place, f"base{run}")
-            os.mkdir(base)
-            subprocess.run([PROGRAM, base, "run"], input=b"1!\n", stdout=subprocess.DEVNULL, check=True)
             for kind, text in {"definitions": definition, "methods": method}.items():
-                times, groups, base = compared(place, f"{kind}{run}", floor, [text(number) for number in range(chunks)], few, base)
+                base = os.path.join(place, f"{kind}{run}-base")
+                os.mkdir(base)
+                there = [definition(number) for number in range(CLASSES)] if text is method else []
+                subprocess.run([PROGRAM, base, "run"], input=b"1!\n" + b"".join(there), stdout=subprocess.DEVNULL, check=True)
+                times, groups = compared(place, f"{kind}{run}", floor, [text(number) for number in range(chunks)], few, base)
                 print(f"run {run + 1}: {chunks} {kind} in {groups} groups: " + ", ".join(f"{name} {time:.3f} s" for name, time in times.items()))
                 for name, time in times.items():
                     ratios.setdefault((kind, name), []).append(times["st80"] / time if name == "floor" else time / times["st80"])

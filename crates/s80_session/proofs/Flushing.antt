@@ -22,10 +22,10 @@ use Rattle.s80_model.specs.Replies.{Work}
 use Rattle.s80_session.specs.declared.end.SessionEnd.{SessionEnd}
 use Rattle.s80_session.specs.declared.end.SessionEnd.TheVariants as ends
 use Rattle.s80_session.specs.declared.session.Session.{Session}
-use Rattle.s80_session.specs.Ending.{HasReason, NoFewer}
+use Rattle.s80_session.specs.Ending.{HasReason, IsWriteEnd, NoFewer}
 use Rattle.s80_session.specs.Ends.{refusal_at_fault}
 use Rattle.s80_session.specs.Run.{HasKept}
-use Rattle.s80_session.specs.Session.{keeper_of, held_of, section_of, budget_of}
+use Rattle.s80_session.specs.Session.{HasMarked, keeper_of, held_of, section_of, budget_of}
 use Rattle.s80_session.specs.Working.{Ground, IsAmid, IsAt, IsLost, IsPut, HeldPut, Committed, Flushed, EndsForMemory, at_rest, CommitLeaves, FlushLeaves}
 use Rattle.s80_session.proofs.Adding.{not_both}
 use Rattle.s80_session.proofs.lemmas.Elsewhere.{no_mark}
@@ -68,6 +68,23 @@ commit_reason result fault failed a b is disk cause =
     let P : Result (Unit {0}) KeepFault → Type 0 = λ r. IfKeepDisk r (λ failed. Rose a.disk b.disk) in
     let Q : KeepFault → Type 0 = λ f. IfErr (refusal_at_fault f) (HasReason a b) in
     subst Q (sym disk) (subst P (is ∙ ap Err disk) cause)
+
+-- and its mark
+pub commit_marks : (result : Result (Unit {0}) KeepFault) (before now : KeeperState) (fault : KeepFault) (failed : Failed) → result ≡ Err fault → fault ≡ faults.Disk failed → AfterCommit result before now → IfErr (refusal_at_fault fault) (λ end. HasMarked {T = Unit {0}} (Err end) before now)
+commit_marks result before now fault failed is disk after =
+    let P : Result (Unit {0}) KeepFault → Type 0 = λ r. AfterCommit r before now in
+    let Q : KeepFault → Type 0 = λ f. IfErr (refusal_at_fault f) (λ end. HasMarked {T = Unit {0}} (Err end) before now) in
+    subst Q (sym disk) (ap (λ (k : KeeperState). k.mark) (subst P (is ∙ ap Err disk) after))
+
+-- behind a commit the output alone can fail
+pub flush_marks : (result : Result (Unit {0}) SessionEnd) (before now : KeeperState) → IfErr result IsWriteEnd → HasCommitted before now → HasMarked result before now
+flush_marks (Ok done) before now ends_so committed = committed
+flush_marks (Err (ends.Write failed)) before now ends_so committed = committed
+flush_marks (Err (ends.Disk failed)) before now ends_so committed = absurd ends_so
+flush_marks (Err ends.Memory) before now ends_so committed = absurd ends_so
+flush_marks (Err (ends.Read failed)) before now ends_so committed = absurd ends_so
+flush_marks (Err (ends.Damaged damage)) before now ends_so committed = absurd ends_so
+flush_marks (Err ends.TooLong) before now ends_so committed = absurd ends_so
 
 module _ {D : Type 0} (moment : D → ℕ) (left_since : D → ℕ → ℕ → Image → Type 0) where
   pub commit_lasts : (old new : D) (work : Work) (basis : Ground) (told_before : ℕ) → told_before ≡ length basis.put → LeavesOnly moment left_since old new (LeavesEither told_before basis.kept work.changes) → LeavesOnly moment left_since old new (CommitLeaves work basis)

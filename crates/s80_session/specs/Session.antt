@@ -5,6 +5,7 @@ use Rattle.s80_form.specs.Form.{IsNoFormText}
 use Rattle.s80_chunk.specs.declared.item.Item.TheVariants as items
 use Rattle.s80_apply.specs.System.{SystemState}
 use Rattle.s80_doit.specs.DoIt.{AreGiven, Fits, IsRunOf}
+use Rattle.s80_keeper.specs.Answers.{HasCommitted}
 use Rattle.s80_keeper.specs.Keeper.{KeeperState, pending_of}
 use Rattle.s80_machine.specs.Came.{RanValue}
 use Rattle.s80_model.specs.declared.item.SessionItem.{SessionItem}
@@ -74,6 +75,17 @@ pub record IsResting (session : Session) : Type 0 where
   pub faultless : IsFaultless session
   pub settled : pending_of session.keeper ≡ 0
   pub silent : held_of session ≡ []
+
+-- The keeper before and after what was pending was to be committed by a call that ended so: it is, with one mark; where the disk failed the
+-- keeper's mark stays.
+abbrev pub HasMarked : {T : Type 0} → Result T SessionEnd → KeeperState → KeeperState → Type 0
+HasMarked (Ok done) before now = HasCommitted before now
+HasMarked (Err (ends.Write failed)) before now = HasCommitted before now
+HasMarked (Err (ends.Disk failed)) before now = now.mark ≡ before.mark
+HasMarked (Err ends.Memory) before now = ⊥
+HasMarked (Err (ends.Read failed)) before now = ⊥
+HasMarked (Err (ends.Damaged damage)) before now = ⊥
+HasMarked (Err ends.TooLong) before now = ⊥
 
 -- it stands at the top level of its input, a doIt may take so many ticks in it, and none was evaluated yet
 pub record HasBegun (ticks : ℕ) (session : Session) : Type 0 where

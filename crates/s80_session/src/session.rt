@@ -7,7 +7,6 @@ ghost use Rattle.s80_disk.specs.declared.disk.FileId.TheVariants.{Mark};
 ghost use Rattle.s80_disk.specs.Moments.{LeavesOnly};
 ghost use Rattle.s80_mark.specs.Found.{longer_log};
 ghost use Rattle.s80_log.specs.Log.{log_file};
-ghost use Rattle.s80_keeper.specs.Answers.{HasCommitted};
 ghost use Rattle.s80_keeper.specs.Keeper.{pending_of, Knows};
 ghost use Rattle.s80_keeper.specs.Standing.{FilesStandFor, LeavesEither, ReadsFor};
 ghost use Rattle.s80_keeper.specs.Start.{StartLeaves};
@@ -67,7 +66,7 @@ impl Session {
     ghost use Rattle.s80_chunk.specs.Chunks.{IsChunkText, longest};
     ghost use Rattle.s80_doit.specs.DoIt.{IsDoItCode, IsMethodOfDoIt};
     ghost use Rattle.s80_session.specs.Ending.{IsDiskEnd, IsFlushEnd, IsKeepEnd, IsWorkEnd, IsWriteEnd};
-    ghost use Rattle.s80_session.specs.Session.{budget_of, held_of, keeper_of, last_run_of, room_of, section_of, troubled_of, was_of, HasBegun, HasSameRest, IsFaultless, IsResting, RunAfter, RunAfterText, RunAfterWork, TakesHeld, TroubleAfter, TroubleWhile};
+    ghost use Rattle.s80_session.specs.Session.{budget_of, held_of, keeper_of, last_run_of, room_of, section_of, troubled_of, was_of, HasBegun, HasMarked, HasSameRest, IsFaultless, IsResting, RunAfter, RunAfterText, RunAfterWork, TakesHeld, TroubleAfter, TroubleWhile};
     ghost use Rattle.s80_session.specs.Working.{at_rest, Answers, Committed, CommitLeaves, EndsForMemory, Evaluates, Flushed, FlushLeaves, Ground, HeldPut, IsAmid, IsAt, IsGrouped, IsLawfulFor, IsReadable, IsSessionStart, ItemWorked, Kept, Noted, QueryWorked, Replied, Starts, Stepped, StepLeaves, Worked, WorkLeaves};
 
     /// A session on the folder that was attached, at the top level of its input. A doIt may take at most `budget` ticks.
@@ -244,7 +243,7 @@ impl Session {
         ensures any_moment { (work : Work) (basis : Ground)
             → IsAmid (O.may_leave outside.old) (O.shown outside.old) self.old work basis
             → LeavesOnly O.moment O.left_since outside.old outside.new (FlushLeaves work basis) }
-        ensures one_mark { OnOk result (HasCommitted (keeper_of self.old) (keeper_of self.new)) }
+        ensures one_mark { HasMarked result (keeper_of self.old) (keeper_of self.new) }
         ensures put { TakesHeld result (O.shown outside.old).taken (O.shown outside.new).taken (held_of self.old) }
         // Whatever the disk stands for, but for the mark the files stay, in what is read and at any moment.
         ensures others { (other : FileId) → other ≢ Mark → (O.shown outside.new).files other ≡ (O.shown outside.old).files other }
@@ -280,7 +279,7 @@ impl Session {
         ensures any_moment { (work : Work) (basis : Ground)
             → IsAmid (O.may_leave outside.old) (O.shown outside.old) self.old work basis
             → LeavesOnly O.moment O.left_since outside.old outside.new (CommitLeaves work basis) }
-        ensures one_mark { OnOk result (HasCommitted (keeper_of self.old) (keeper_of self.new)) }
+        ensures one_mark { HasMarked result (keeper_of self.old) (keeper_of self.new) }
         // Whatever the disk stands for, but for the mark the files stay, in what is read and at any moment.
         ensures others { (other : FileId) → other ≢ Mark → (O.shown outside.new).files other ≡ (O.shown outside.old).files other }
         ensures elsewhere { LeavesOnly O.moment O.left_since outside.old outside.new (IsElsewhere (O.may_leave outside.old) (log_file (keeper_of self.old).log.number)) }

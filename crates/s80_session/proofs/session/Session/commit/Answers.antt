@@ -7,10 +7,10 @@ use Rattle.s80_disk.specs.Shown.{Shown, Faults}
 use Rattle.s80_keeper.specs.declared.keep.KeepFault.TheVariants as faults
 use Rattle.s80_session.specs.declared.end.SessionEnd.{SessionEnd}
 use Rattle.s80_session.specs.Ending.{HasReason, NoFewer}
-use Rattle.s80_session.specs.Session.{keeper_of}
+use Rattle.s80_session.specs.Session.{HasMarked, keeper_of}
 use Rattle.s80_session.specs.Working.{Committed}
 use Rattle.s80_session.proofs.Adding.{stands_on}
-use Rattle.s80_session.proofs.Flushing.{commit_fault, commit_lasts, commit_lost, commit_reason, not_refused}
+use Rattle.s80_session.proofs.Flushing.{commit_fault, commit_lasts, commit_lost, commit_marks, commit_reason, not_refused}
 use Rattle.s80_session.proofs.session.Session.commit.Goals as goal
 use Rattle.s80_session.proofs.session.Session.commit.Goals.{In-Err}
 
@@ -49,6 +49,13 @@ returns-in_err-refusal_at_fault-clause-counts g c =
     let p = err_from_is_err_and c.from_residual.result c.from_residual.ensures.1 in
     rw (p.1, p.2) (record { later = later; reason = subst P (sym c.in_err-refusal_at_fault.ensures) (commit_reason c.commit.result c.in-Err.fault is.0 old new c.in-Err.is is.1 c.commit.ensures.cause) })
 
+pub returns-in_err-refusal_at_fault-clause-one_mark : goal.returns-in_err-refusal_at_fault-clause-one_mark
+returns-in_err-refusal_at_fault-clause-one_mark g c =
+    let is = fault g (goal.at.returns-in_err-refusal_at_fault-clause-one_mark g c).In-Err in
+    let P : Result Refusal SessionEnd → Type 0 = λ r. IfErr r (λ end. HasMarked {T = Unit {0}} (Err end) (keeper_of c.args.self.now) c.commit.new.keeper) in
+    let p = err_from_is_err_and c.from_residual.result c.from_residual.ensures.1 in
+    rw (p.1, p.2) (subst P (sym c.in_err-refusal_at_fault.ensures) (commit_marks c.commit.result (keeper_of c.args.self.now) c.commit.new.keeper c.in-Err.fault is.0 c.in-Err.is is.1 c.commit.ensures.after))
+
 -- no fault is answered
 pub returns-in_ok-refusal_at_fault-clause-committed : goal.returns-in_ok-refusal_at_fault-clause-committed
 returns-in_ok-refusal_at_fault-clause-committed g c = λ work basis at.
@@ -58,6 +65,11 @@ returns-in_ok-refusal_at_fault-clause-committed g c = λ work basis at.
 pub returns-in_ok-refusal_at_fault-clause-any_moment : goal.returns-in_ok-refusal_at_fault-clause-any_moment
 returns-in_ok-refusal_at_fault-clause-any_moment g c = λ work basis at.
     commit_lasts g.O.Disk.moment g.O.Disk.left_since c.args.outside.now c.commit.new.outside work basis (g.O.Outside.shown c.args.outside.now).told at.told (c.commit.ensures.any_moment basis.kept work.changes at.keeps)
+
+pub returns-in_ok-refusal_at_fault-clause-one_mark : goal.returns-in_ok-refusal_at_fault-clause-one_mark
+returns-in_ok-refusal_at_fault-clause-one_mark g c =
+    let is = fault g (goal.at.returns-in_ok-refusal_at_fault-clause-one_mark g c).In-Err in
+    absurd (not_refused is.0 c.in-Err.fault c.in_ok-refusal_at_fault.field-0 is.1 (sym c.in_ok-refusal_at_fault.ensures))
 
 pub returns-in_default-clause-committed : goal.returns-in_default-clause-committed
 returns-in_default-clause-committed g c = λ work basis at.

@@ -5,8 +5,8 @@ use Rattle.s80_disk.specs.Moments.{LeavesOnly}
 use Rattle.s80_log.specs.Log.{log_file}
 use Rattle.s80_session.specs.Files.{IsAsLeft}
 use Rattle.s80_session.specs.Putting.{IsAsBefore}
-use Rattle.s80_session.specs.Session.{held_of, keeper_of, TakesHeld}
-use Rattle.s80_session.proofs.Flushing.{commit_last, flush_last, flushed_so, uncommitted}
+use Rattle.s80_session.specs.Session.{HasMarked, held_of, keeper_of, TakesHeld}
+use Rattle.s80_session.proofs.Flushing.{commit_last, flush_last, flush_marks, flushed_so, uncommitted}
 use Rattle.s80_session.proofs.lemmas.Elsewhere.{elsewhere_on, left_as_before}
 use Rattle.s80_session.proofs.lemmas.Grounds.{put_last}
 use Rattle.s80_session.proofs.session.Session.flush.Goals as goal
@@ -34,6 +34,16 @@ returns-clause-any_moment g c = λ work basis at.
     let here = c.in_ok-commit.ensures.committed work basis at in
     let P : List ℕ → Type 0 = λ l. LeavesOnly D.moment D.left_since mid new (IsAsBefore (D.may_leave mid) (g.O.Outside.shown mid).told (length l)) in
     flush_last D.moment D.left_since c.args.outside.now mid new work basis (c.commit.ensures.any_moment work basis at) (put_last D.moment D.left_since (D.may_leave mid) (g.O.Outside.shown mid) c.commit.new.self mid new work (record basis { kept = work.changes }) here (subst P here.held c.put_held.ensures.any_moment))
+
+pub returns-in_err-commit-clause-one_mark : goal.returns-in_err-commit-clause-one_mark
+returns-in_err-commit-clause-one_mark g c =
+    let p = err_from_is_err_and c.from_residual.result c.from_residual.ensures.1 in
+    rw (p.1, p.2) (c.in_err-commit.ensures.one_mark)
+
+pub returns-clause-one_mark : goal.returns-clause-one_mark
+returns-clause-one_mark g c =
+    let same = ap keeper_of c.put_held.ensures.rest in
+    subst (λ k. HasMarked c.put_held.result (keeper_of c.args.self.now) k) (sym same) (flush_marks c.put_held.result (keeper_of c.args.self.now) (keeper_of c.commit.new.self) c.put_held.ensures.ends c.in_ok-commit.ensures.one_mark)
 
 pub returns-clause-put : goal.returns-clause-put
 returns-clause-put g c =
