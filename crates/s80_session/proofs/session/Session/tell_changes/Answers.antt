@@ -144,8 +144,20 @@ returns-in_err-refusal_at_fault-in-Err-clause-faultless g c =
     let P : Result Refusal SessionEnd → Type 0 = λ r. IfErr r (λ end. OnOkOrMemory {T = Reply} (Err end) (c.read_set.new.keeper.fault ≡ None)) in
     rw (p.1, p.2) (subst P (sym c.in_err-refusal_at_fault-in-Err.ensures) (reading_calm (List Change) Reply c.in-Err.fault c.args.self.now.keeper c.read_set.new.keeper (c.read_set.ensures.after ∙ ap (λ r. after_reading r c.args.self.now.keeper) c.in-Err.is) c.requires.resting.faultless))
 
-pub returns-clause-pending : goal.returns-clause-pending
-returns-clause-pending g c = reading_pending (List Change) c.read_set.result c.args.self.now.keeper c.read_set.new.keeper c.read_set.ensures.after
+pub returns-in_ok-changes_text-in-Ok-clause-pending : goal.returns-in_ok-changes_text-in-Ok-clause-pending
+returns-in_ok-changes_text-in-Ok-clause-pending g c = reading_pending (List Change) c.read_set.result c.args.self.now.keeper c.read_set.new.keeper c.read_set.ensures.after
 
-pub returns-clause-log : goal.returns-clause-log
-returns-clause-log g c = reading_log (List Change) c.read_set.result c.args.self.now.keeper c.read_set.new.keeper c.read_set.ensures.after
+pub returns-in_ok-changes_text-in-Ok-clause-log : goal.returns-in_ok-changes_text-in-Ok-clause-log
+returns-in_ok-changes_text-in-Ok-clause-log g c = reading_log (List Change) c.read_set.result c.args.self.now.keeper c.read_set.new.keeper c.read_set.ensures.after
+
+pub returns-in_err-changes_text-in-Ok-clause-pending : goal.returns-in_err-changes_text-in-Ok-clause-pending
+returns-in_err-changes_text-in-Ok-clause-pending g c = reading_pending (List Change) c.read_set.result c.args.self.now.keeper c.read_set.new.keeper c.read_set.ensures.after
+
+pub returns-in_err-changes_text-in-Ok-clause-log : goal.returns-in_err-changes_text-in-Ok-clause-log
+returns-in_err-changes_text-in-Ok-clause-log g c = reading_log (List Change) c.read_set.result c.args.self.now.keeper c.read_set.new.keeper c.read_set.ensures.after
+
+pub returns-in_ok-refusal_at_fault-in-Err-clause-pending : goal.returns-in_ok-refusal_at_fault-in-Err-clause-pending
+returns-in_ok-refusal_at_fault-in-Err-clause-pending g c = reading_pending (List Change) c.read_set.result c.args.self.now.keeper c.read_set.new.keeper c.read_set.ensures.after
+
+pub returns-in_ok-refusal_at_fault-in-Err-clause-log : goal.returns-in_ok-refusal_at_fault-in-Err-clause-log
+returns-in_ok-refusal_at_fault-in-Err-clause-log g c = reading_log (List Change) c.read_set.result c.args.self.now.keeper c.read_set.new.keeper c.read_set.ensures.after

@@ -92,7 +92,7 @@ returns-clause-any_moment g c = run g (goal.at.returns-clause-any_moment g c).Af
 pub returns-in-Ok-clause-replied : goal.returns-in-Ok-clause-replied
 returns-in-Ok-clause-replied g c = λ work put at.
     let after = (goal.at.returns-in-Ok-clause-replied g c).After-read_versions in
-    is_told g after work put at c.in-Ok.versions c.in_ok-tell_versions-in-Ok.field-0 c.in-Ok.is c.in_ok-tell_versions-in-Ok.ensures
+    is_told g after work put at c.in-Ok.versions c.in_ok-tell_versions-in-Ok.field-0 c.in-Ok.is c.in_ok-tell_versions-in-Ok.ensures.answer
 
 pub returns-in_err-tell_versions-in-Ok-clause-replied : goal.returns-in_err-tell_versions-in-Ok-clause-replied
 returns-in_err-tell_versions-in-Ok-clause-replied g c = λ work put at.
