@@ -7,7 +7,8 @@
    CALLS_DO          what: "fail", "dead" (this call and all later ones on files fail), "short" (a read or write of half), "kill", "torn"
                      (a write of half, then killed), "stop" (stopped before the call)
    CALLS_ERROR       the number of the error that a failing call meets
-   CALLS_ALLOCATION  the number of the allocation that finds no memory */
+   CALLS_ALLOCATION  the number of the allocation that finds no memory
+   CALLS_TAKE        how many bytes of standard input a read is given at most; 0 for any number */
 #define _GNU_SOURCE
 #include <errno.h>
 #include <fcntl.h>
@@ -26,7 +27,7 @@ extern void *__libc_realloc(void *old, size_t size);
 /* A number for the trace's own file that no file of the program gets. */
 enum { OUT = 900, LINE = 4096 };
 
-static long calls, allocations, at, no_memory_at, error;
+static long calls, allocations, at, no_memory_at, error, most;
 static char deed[8];
 static int out = -1, is_loaded;
 
@@ -37,7 +38,7 @@ static long number(const char *name) {
 
 __attribute__((constructor)) static void load(void) {
     const char *path = getenv("CALLS_OUT"), *word = getenv("CALLS_DO");
-    at = number("CALLS_AT"), error = number("CALLS_ERROR"), no_memory_at = number("CALLS_ALLOCATION");
+    at = number("CALLS_AT"), error = number("CALLS_ERROR"), no_memory_at = number("CALLS_ALLOCATION"), most = number("CALLS_TAKE");
     if (word) strncpy(deed, word, sizeof deed - 1);
     if (path) {
         long file = syscall(SYS_openat, AT_FDCWD, path, O_WRONLY | O_CREAT | O_APPEND | O_CLOEXEC, 0600);
@@ -103,6 +104,7 @@ int open(const char *path, int flags, ...) {
 }
 
 ssize_t read(int file, void *bytes, size_t size) {
+    if (file == 0 && most > 0 && size > (size_t)most) size = (size_t)most;
     long answer = fails(file) ? -1 : syscall(SYS_read, file, bytes, is_cut() && size > 1 ? size / 2 : size);
     return note("read", file, (long)size, answer, NULL, 0);
 }

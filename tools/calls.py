@@ -31,10 +31,10 @@ class Calls:
         self.library, self.out = Path(place) / "calls.so", Path(place) / "calls"
         subprocess.run(["cc", "-O2", "-shared", "-fPIC", "-o", self.library, SOURCE], check=True)
 
-    def environment(self, at=0, deed="", error=0, allocation=0):
-        """The environment of a run in which this happens at the call of that number."""
+    def environment(self, at=0, deed="", error=0, allocation=0, take=0):
+        """The environment of a run in which this happens at the call of that number, and a read of standard input gives at most so many bytes."""
         self.out.unlink(missing_ok=True)
-        words = {"CALLS_OUT": self.out, "CALLS_AT": at, "CALLS_DO": deed, "CALLS_ERROR": error, "CALLS_ALLOCATION": allocation}
+        words = {"CALLS_OUT": self.out, "CALLS_AT": at, "CALLS_DO": deed, "CALLS_ERROR": error, "CALLS_ALLOCATION": allocation, "CALLS_TAKE": take}
         return {**os.environ, "LD_PRELOAD": str(self.library), **{name: str(word) for name, word in words.items()}}
 
     def noted(self):
