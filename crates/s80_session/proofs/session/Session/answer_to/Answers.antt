@@ -77,6 +77,14 @@ returns-in_ok-keep_text-in-Chunk-Plain-clause-any_moment g c = λ work basis rea
     let P : SessionItem → Type 0 = λ i. LeavesOnly g.O.Disk.moment g.O.Disk.left_since c.args.outside.now c.keep_text.new.outside (WorkLeaves work basis i) in
     subst P (sym is) (c.keep_text.ensures.any_moment work basis sound.0 sound.1 at)
 
+pub returns-in_err-keep_text-in-Chunk-Plain-clause-answers : goal.returns-in_err-keep_text-in-Chunk-Plain-clause-answers
+returns-in_err-keep_text-in-Chunk-Plain-clause-answers g c = λ work basis readable at.
+    let is = c.in-Chunk-Plain.is ∙ ap Chunk c.in-Chunk-Plain.field-0-is in
+    let sound = subst IsReadable is readable in
+    let p = err_from_is_err_and c.from_residual.result c.from_residual.ensures.1 in
+    let P : SessionItem → Type 0 = λ i. Answers (Err c.in_err-keep_text-in-Chunk-Plain.field-0.0) (g.O.Disk.may_leave c.keep_text.new.outside) (g.O.Outside.shown c.keep_text.new.outside) c.keep_text.new.self (was_of c.args.self.now) work basis i in
+    rw (p.1, p.2) (subst P (sym is) (c.in_err-keep_text-in-Chunk-Plain.ensures.replied work basis sound.0 sound.1 at))
+
 pub returns-in_ok-head_answer-in-Chunk-Head-clause-answers : goal.returns-in_ok-head_answer-in-Chunk-Head-clause-answers
 returns-in_ok-head_answer-in-Chunk-Head-clause-answers g c = λ work basis readable at.
     let is = c.in-Chunk-Head.is ∙ ap Chunk c.in-Chunk-Head.field-0-is in
@@ -97,6 +105,13 @@ returns-in_ok-keep_method-in-Chunk-Method-clause-answers g c = λ work basis rea
 
 pub returns-in_ok-keep_method-in-Chunk-Method-clause-any_moment : goal.returns-in_ok-keep_method-in-Chunk-Method-clause-any_moment
 returns-in_ok-keep_method-in-Chunk-Method-clause-any_moment g c = λ work basis readable at.
+    let is = c.in-Chunk-Method.is ∙ ap Chunk c.in-Chunk-Method.field-0-is in
+    let sound = subst IsReadable is readable in
+    let P : SessionItem → Type 0 = λ i. LeavesOnly g.O.Disk.moment g.O.Disk.left_since c.args.outside.now c.keep_method.new.outside (WorkLeaves work basis i) in
+    subst P (sym is) (work_still g.O.Disk.moment g.O.Disk.left_since c.args.outside.now c.keep_method.new.outside work basis (Chunk (items.Method c.in-Chunk-Method.text)) (c.keep_method.ensures.any_moment work basis sound.0 sound.1 at))
+
+pub returns-in_err-keep_method-in-Chunk-Method-clause-any_moment : goal.returns-in_err-keep_method-in-Chunk-Method-clause-any_moment
+returns-in_err-keep_method-in-Chunk-Method-clause-any_moment g c = λ work basis readable at.
     let is = c.in-Chunk-Method.is ∙ ap Chunk c.in-Chunk-Method.field-0-is in
     let sound = subst IsReadable is readable in
     let P : SessionItem → Type 0 = λ i. LeavesOnly g.O.Disk.moment g.O.Disk.left_since c.args.outside.now c.keep_method.new.outside (WorkLeaves work basis i) in

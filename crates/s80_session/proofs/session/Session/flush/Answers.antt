@@ -1,4 +1,4 @@
-use Rattle.std.proofs.Common.{ℕ, List, Option, length, ap, subst, ◌∙◌}
+use Rattle.std.proofs.Common.{ℕ, List, Option, length, ap, sym, subst, ◌∙◌}
 use Rattle.std.proofs.lemmas.Result.{err_from_is_err_and}
 use Rattle.s80_disk.specs.Shown.{Shown}
 use Rattle.s80_disk.specs.Moments.{LeavesOnly}
