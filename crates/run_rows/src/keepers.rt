@@ -1,4 +1,6 @@
 // What a keeper has of a folder: the code of its methods, sources where they stand, and the room of its log.
+ghost use Rattle.s80_keeper.specs.Keeper.{IsSettled};
+
 use anyhow::{Context, Result, bail};
 use s80_apply::System;
 use s80_base::{Side, Text};
@@ -142,7 +144,9 @@ fn read_again(
     keeper: &mut Keeper,
     disk: &mut MemDisk,
     damaged: &Damaged<'_>,
-) -> Result<Text> {
+) -> Result<Text>
+    requires { IsSettled keeper.old }
+{
     let byte = bytes::read(alloc, damaged.byte)?;
     disk.write_at(FileId::Log0, damaged.at, byte.bytes())?;
     let class_name = Text::from_bytes(alloc, damaged.class_name.as_bytes())?;
