@@ -95,7 +95,7 @@ def compared(place, name, floor, chunks, few, base):
     times["floor"] = seconds(lambda: subprocess.run([floor, least, str(size)], input=blocks, stdout=subprocess.DEVNULL, check=True))
     each = [blocks[at * len(blocks) // len(chunks) : (at + 1) * len(blocks) // len(chunks)] for at in range(len(chunks))]
     for word, journal in (("journal", "DELETE"), ("write-ahead log", "WAL")):
-        part = each[:few] if word == "journal" else each
+        part = each[:few] if word == "journal" or "SYNC_DELAY" in os.environ else each
         times[word] = seconds(lambda: rows(os.path.join(place, f"{name}-{journal}.db"), journal, part)) * len(each) / len(part)
     return times, now - commits
 
