@@ -12,7 +12,6 @@ ghost use Rattle.s80_core.specs.Measures.{CoreFits};
 ghost use Rattle.s80_compile.specs.Compiles.{Compiles, IsCodeOf, flag_of, is_extended, last_entries};
 ghost use Rattle.s80_compile.specs.Sent.{AreWellSent};
 ghost use Rattle.s80_verify.specs.Fault.{IsVerified};
-ghost use Rattle.s80_verify.specs.Record.{HasDepths};
 ghost use Rattle.s80_compile.specs.Header.{AreSizes, FewParameters};
 
 use crate::emit::emit;
@@ -22,7 +21,7 @@ use s80_code::{Code, Entry, Frame};
 use s80_core::{Core, elaborate};
 use s80_scope::{Bindings, Position, Shape, measured};
 use s80_tree::MethodTree;
-use s80_verify::{Verified, verify};
+use s80_verify::Verified;
 use std::alloc::Global;
 
 /// The code of a method in a class of this shape, which is the owner's on that side. A text's tree has its names in order and
@@ -43,7 +42,7 @@ pub fn compile(
 {
     let core = elaborate(alloc, tree, shape)?;
     let code = code_of(alloc, tree, &core, owner, side)?;
-    Ok(verified(code))
+    Ok(Verified::known(code))
 }
 
 /// The code of a doIt, given as a method: one of no class's variables, owned by UndefinedObject's instance side.
@@ -60,18 +59,6 @@ pub fn compile_doit(alloc: Global, tree: &MethodTree) -> Result<Verified, OutOfM
     };
     let owner = Text::from_bytes(alloc, b"UndefinedObject")?;
     compile(alloc, tree, &shape, &owner, Side::Instance)
-}
-
-/// Code that can be run: it is looked over once more, and nothing is found.
-fn verified(code: Code) -> Verified
-    requires { HasDepths code }
-    ensures same { result ≡ code }
-    ensures verified { IsVerified result }
-{
-    match verify(code) {
-        Ok(verified) => verified,
-        Err(_) => unreachable!(),
-    }
 }
 
 /// The code of a method with this core tree.

@@ -10,7 +10,7 @@ use crate::search::{check_jumps, find_all};
 use s80_code::Code;
 use std::marker::Model;
 
-/// Code that can be run: only `verify` makes one, and nothing changes it.
+/// Code that can be run, and that nothing changes: it was verified, or is known to have a depth at each place.
 #[derive(Debug, Drop)]
 pub struct Verified {
     code: Code,
@@ -33,6 +33,15 @@ impl Model for Verified {
 }
 
 impl Verified {
+    /// Code that is known to have no fault, as compiled code is: it isn't looked at again.
+    pub fn known(code: Code) -> Verified
+        requires { HasDepths code }
+        ensures same { result ≡ code }
+        ensures verified { IsVerified result }
+    {
+        Verified { code }
+    }
+
     /// The code that was verified.
     pub fn code(&self) -> &Code
         ensures code { result.now ≡ self.now }

@@ -16,8 +16,8 @@ pub code_of-requires-clause-core : goal.code_of-requires-clause-core
 code_of-requires-clause-core c =
     (ready (method_of c.args.tree.now) c.args.shape.now (core_of c.in_ok-core.core) c.in_ok-core.ensures c.requires.fits c.requires.in_order c.requires.sent c.requires.inst_vars).fits
 
-pub verified-requires : goal.verified-requires
-verified-requires c =
+pub known-requires : goal.known-requires
+known-requires c =
     let is = ready (method_of c.args.tree.now) c.args.shape.now (core_of c.in_ok-core.core) c.in_ok-core.ensures c.requires.fits c.requires.in_order c.requires.sent c.requires.inst_vars in
     related (method_of c.args.tree.now) (core_of c.in_ok-core.core) c.args.owner.now c.args.side c.in_ok-code.code is.fits
     (fits_small (measures (method_of c.args.tree.now)) c.requires.fits).stack (fits_small (measures (method_of c.args.tree.now)) c.requires.fits).temporaries
