@@ -17,9 +17,10 @@ use Rattle.s80_model.specs.Replies.{Work, AsksIn, AllAsk, reply_to, is_trouble, 
 use Rattle.s80_machine.specs.Came.{RanValue}
 use Rattle.s80_session.specs.LastRun.{RunBehind, RunBehindAll}
 use Rattle.s80_session.specs.Run.{chunks}
-use Rattle.s80_session.specs.Session.{Was, HasSameRest, last_run_of, RunSince, troubled_of, was_of}
+use Rattle.s80_session.specs.Session.{Was, HasLittle, HasSameRest, last_run_of, RunSince, troubled_of, was_of}
 use Rattle.s80_session.specs.Working.{at_rest, BeginsAsking, BeginsWith, Flushed, IsAt, IsDone, IsReadable, IsWorking, Worked}
 use Rattle.s80_session.proofs.Grouping.{behind_done, stands_more}
+use Rattle.s80_session.proofs.OneGroup.{group_done, group_little}
 
 -- one item more, in the work behind the others
 pub asks_more : (work : Work) (items : List SessionItem) (asks : List Ask) (item : SessionItem) (ask : Ask) → AllAsk work items asks → AsksIn (work_after_all work asks) item ask → AllAsk work (items ++ item ∷ []) (asks ++ ask ∷ [])
@@ -60,18 +61,20 @@ run_by_now work [] ask before mid now all one = (now, (let P : Option RanValue �
 run_by_now work (first ∷ asks) ask before mid now all one = (all.0, all.1, run_by_now (work_after work first) asks ask all.0 mid now all.2 one)
 
 -- an item more that a reader gave is worked
-pub worked_on : (was_left may_leave : Image → Type 0) (mid now : Shown) (at_work session : Session) (had reader : Held) (was : Was) (work : Work) (before bytes : List ℕ) (given : List Item) (item : Item) → (w : IsWorking was_left mid at_work had was work before bytes given) → HasRead reader bytes (given ++ item ∷ [])
+pub worked_on : (was_left may_leave : Image → Type 0) (mid now : Shown) (at_work session : Session) (had reader : Held) (was : Was) (work : Work) (before bytes : List ℕ) (given : List Item) (item : Item) → (w : IsWorking was_left mid at_work had was work before bytes given) → HasLittle at_work → HasRead reader bytes (given ++ item ∷ [])
     → Worked {T = Unit {0}} (Ok tt) may_leave now session (was_of at_work) (work_after_all work w.asks) w.basis (Chunk item)
     → IsWorking may_leave now session reader was work before bytes (given ++ item ∷ [])
-worked_on was_left may_leave mid now at_work session had reader was work before bytes given item w read h =
-    let stands = stands_more work before w.asks h.0 w.basis w.behind may_leave now session h.4 in
+worked_on was_left may_leave mid now at_work session had reader was work before bytes given item w little read h =
+    let group = group_little was_left mid at_work work before w.asks w.basis w.behind w.at little (h.0 ∷ []) (omega arith) in
+    let stands = stands_more work before w.asks h.0 w.basis w.behind may_leave now session group h.4 in
     record {
       asks = w.asks ++ h.0 ∷ [];
       read = read;
       asked = given_asks_more work given w.asks item h.0 w.asked h.1;
       basis = stands.0;
-      behind = stands.1;
-      at = stands.2;
+      behind = stands.2;
+      group = stands.3;
+      at = stands.1;
       troubled = troubled_by_now was.troubled work w.asks h.0 (troubled_of at_work) (troubled_of session) w.troubled h.2;
       last_run = run_by_now work w.asks h.0 was.last_run (last_run_of at_work) (last_run_of session) w.last_run h.3;
     }
@@ -92,6 +95,7 @@ done_on may_leave o session reader was work before bytes given d = record {
   asked = d.asked;
   basis = at_rest (work_after_all work d.asks) (before ++ replies work d.asks);
   behind = behind_done work before d.asks;
+  group = group_done work d.asks;
   at = d.at;
   troubled = d.troubled;
   last_run = d.last_run;

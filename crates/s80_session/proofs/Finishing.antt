@@ -20,6 +20,7 @@ use Rattle.s80_session.specs.Working.{Finishes, Flushed, IsAt, IsFinished, IsWor
 use Rattle.s80_session.proofs.Answering.{asks_more, run_by_now, troubled_by_now}
 use Rattle.s80_session.proofs.Fronts.{first_front, first_of_all}
 use Rattle.s80_session.proofs.Grouping.{broke_by_flush, broke_by_work, stands_more}
+use Rattle.s80_session.proofs.OneGroup.{group_little}
 use Rattle.s80_session.proofs.Taking.{answered_all, breaks}
 
 -- behind the last item stand separators alone
@@ -31,6 +32,7 @@ clean_end may_leave now session reader was work input before given h w left with
   left = left;
   basis = w.basis;
   behind = w.behind;
+  group = w.group;
   at = w.at;
   troubled = w.troubled;
   last_run = w.last_run;
@@ -60,24 +62,26 @@ unended_input rest work input given asks place is h asked =
       grows = λ ask one. (chunks given ++ Unended ∷ [], inr items, asks_more work (chunks given) asks Unended ask asked one);
     }
 
-pub finished_unended : {T : Type 0} (r : Result T SessionEnd) (was_left may_leave : Image → Type 0) (mid now : Shown) (at_work session : Session) (reader : Held) (was : Was) (work : Work) (input before : List ℕ) (given : List Item) → (w : IsWorking was_left mid at_work reader was work before input given) → IsUnendedInput work input given w.asks
+pub finished_unended : {T : Type 0} (r : Result T SessionEnd) (was_left may_leave : Image → Type 0) (mid now : Shown) (at_work session : Session) (reader : Held) (was : Was) (work : Work) (input before : List ℕ) (given : List Item) → (w : IsWorking was_left mid at_work reader was work before input given) → HasLittle at_work → IsUnendedInput work input given w.asks
     → Worked r may_leave now session (was_of at_work) (work_after_all work w.asks) w.basis Unended → now.left ≡ Some [] → length input ≤ input_limit → Finishes r may_leave now session was work input before
-finished_unended (Ok done) was_left may_leave mid now at_work session reader was work input before given w u h left within =
-    let stands = stands_more work before w.asks h.0 w.basis w.behind may_leave now session h.4 in
+finished_unended (Ok done) was_left may_leave mid now at_work session reader was work input before given w little u h left within =
+    let group = group_little was_left mid at_work work before w.asks w.basis w.behind w.at little (h.0 ∷ []) (omega arith) in
+    let stands = stands_more work before w.asks h.0 w.basis w.behind may_leave now session group h.4 in
     record {
       asks = w.asks ++ h.0 ∷ [];
       all = (chunks given ++ Unended ∷ [], u.items, asks_more work (chunks given) w.asks Unended h.0 w.asked h.1);
       within = within;
       left = left;
       basis = stands.0;
-      behind = stands.1;
-      at = stands.2;
+      behind = stands.2;
+      group = stands.3;
+      at = stands.1;
       troubled = troubled_by_now was.troubled work w.asks h.0 (troubled_of at_work) (troubled_of session) w.troubled h.2;
       last_run = run_by_now work w.asks h.0 was.last_run (last_run_of at_work) (last_run_of session) w.last_run h.3;
     }
-finished_unended (Err end) was_left may_leave mid now at_work session reader was work input before given w u h left within =
+finished_unended (Err end) was_left may_leave mid now at_work session reader was work input before given w little u h left within =
     breaks (Unit {0}) end may_leave now session (FirstAsksOf work input) was (was_of session) work before input (λ asks first. first)
-    (broke_by_work (FirstAsksOf work input) (first_front work input) work before w.asks w.basis u.first w.behind Unended u.grows (Unit {0}) end may_leave now session (was_of at_work) h)
+    (broke_by_work (FirstAsksOf work input) (first_front work input) work before w.asks w.basis u.first w.behind Unended u.grows (group_little was_left mid at_work work before w.asks w.basis w.behind w.at little) (Unit {0}) end may_leave now session (was_of at_work) h)
 
 -- all of it is flushed
 pub finished_ends : {T : Type 0} (r : Result T SessionEnd) (was_left may_leave : Image → Type 0) (mid now : Shown) (at_work session : Session) (was : Was) (work : Work) (input before : List ℕ) → (f : IsFinished was_left mid at_work was work input before) → Flushed r may_leave now session (work_after_all work f.asks) f.basis → HasSameRest at_work session → now.left ≡ mid.left
@@ -99,4 +103,4 @@ finished_ends (Ok done) was_left may_leave mid now at_work session was work inpu
     )
 finished_ends (Err end) was_left may_leave mid now at_work session was work input before f h same left =
     breaks (Unit {0}) end may_leave now session (FirstAsksOf work input) was (was_of session) work before input (λ asks first. first)
-    (broke_by_flush (FirstAsksOf work input) (first_front work input) work before f.asks f.basis (first_of_all work input f.asks f.all) f.behind (Unit {0}) end may_leave now session h)
+    (broke_by_flush (FirstAsksOf work input) (first_front work input) work before f.asks f.basis (first_of_all work input f.asks f.all) f.behind f.group (Unit {0}) end may_leave now session h)

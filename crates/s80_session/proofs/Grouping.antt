@@ -12,9 +12,10 @@ use Rattle.s80_model.specs.Replies.{Work, AsksIn, kept, reply_to, reply_text, wo
 use Rattle.s80_session.specs.declared.session.Session.{Session}
 use Rattle.s80_session.specs.declared.end.SessionEnd.{SessionEnd}
 use Rattle.s80_session.specs.declared.end.SessionEnd.TheVariants as ends
-use Rattle.s80_session.specs.Run.{HasKept}
+use Rattle.s80_session.specs.Run.{HasKept, IsOneGroup}
 use Rattle.s80_session.specs.Session.{Was}
 use Rattle.s80_session.specs.Working.{at_rest, BreaksOff, EndsForMemory, Flushed, FlushLeaves, Ground, holding, Holds, IsAmid, IsAt, IsBehind, IsLost, IsLostAt, IsLostBehind, IsPast, Worked, WorkLeaves}
+use Rattle.s80_session.proofs.OneGroup.{group_last, group_more}
 
 -- ---- the work behind two lists of asks
 
@@ -52,6 +53,7 @@ behind_done work before asks = record {
   kept = ap (list_after_all work) (sym (append-nil asks));
   put = refl;
   held = append-nil (before ++ replies work asks);
+  early = omega arith;
 }
 
 module _ (work : Work) (before : List ℕ) (asks : List Ask) (ask : Ask) (basis : Ground) (b : IsBehind work before asks basis) where
@@ -71,6 +73,7 @@ module _ (work : Work) (before : List ℕ) (asks : List Ask) (ask : Ask) (basis 
     kept = b.kept;
     put = b.put;
     held = sym (append_assoc basis.put basis.held line) ∙ put_more;
+    early = b.early;
   }
 
   -- behind a flush
@@ -83,18 +86,19 @@ module _ (work : Work) (before : List ℕ) (asks : List Ask) (ask : Ask) (basis 
     kept = ap (λ (w : Work). w.changes) (sym (work_after_more work asks ask));
     put = b.held;
     held = put_more;
+    early = omega arith;
   }
 
-  -- one ask more was worked, and its reply is held
-  pub stands_more : (may_leave : Image → Type 0) (now : Shown) (session : Session) → Holds may_leave now session (work_after (work_after_all work asks) ask) basis line
-      → (g : Ground) × IsBehind work before (asks ++ ask ∷ []) g × IsAmid may_leave now session (work_after_all work (asks ++ ask ∷ [])) g
-  stands_more may_leave now session (inl at) =
+  -- one ask more was worked, and its reply is held; before it little waited
+  pub stands_more : (may_leave : Image → Type 0) (now : Shown) (session : Session) → IsOneGroup work (asks ++ ask ∷ []) (length (replies work b.answered)) → Holds may_leave now session (work_after (work_after_all work asks) ask) basis line
+      → (g : Ground) × IsAmid may_leave now session (work_after_all work (asks ++ ask ∷ [])) g × (behind : IsBehind work before (asks ++ ask ∷ []) g) × IsOneGroup work (asks ++ ask ∷ []) (length (replies work behind.answered))
+  stands_more may_leave now session group (inl at) =
       let P : Work → Type 0 = λ w. IsAmid may_leave now session w (holding basis line) in
-      (holding basis line, behind_held, subst P (sym (work_after_more work asks ask)) at)
-  stands_more may_leave now session (inr at) =
+      (holding basis line, subst P (sym (work_after_more work asks ask)) at, behind_held, group)
+  stands_more may_leave now session group (inr at) =
       let g = holding (at_rest (work_after (work_after_all work asks) ask) (basis.put ++ basis.held)) line in
       let P : Work → Type 0 = λ w. IsAmid may_leave now session w g in
-      (g, behind_flushed, subst P (sym (work_after_more work asks ask)) at)
+      (g, subst P (sym (work_after_more work asks ask)) at, behind_flushed, group_last work asks (ask ∷ []) (omega arith))
 
 -- ---- where the work breaks off
 
@@ -131,18 +135,20 @@ module _ (Begins : List Ask → Type 0) (fronts : (first more : List Ask) → Be
       h.is
 
   -- the output failed within the replies that were held
-  part_broke : (may_leave : Image → Type 0) (now : Shown) (session : Session) (count : ℕ) → count < length basis.held → IsAt may_leave now session (work_after_all work asks) (basis.put ++ take count basis.held)
-      → (x : List Ask) × (n : ℕ) × (n < length (replies work x)) × Begins x × IsAt may_leave now session (work_after_all work x) (before ++ take n (replies work x))
-  part_broke may_leave now session count short at =
+  part_broke : IsOneGroup work asks (length (replies work b.answered)) → (may_leave : Image → Type 0) (now : Shown) (session : Session) (count : ℕ) → count < length basis.held → IsAt may_leave now session (work_after_all work asks) (basis.put ++ take count basis.held)
+      → (x : List Ask) × (n : ℕ) × (n < length (replies work x)) × Begins x × IsAt may_leave now session (work_after_all work x) (before ++ take n (replies work x)) × IsOneGroup work x n
+  part_broke group may_leave now session count short at =
       let part = part_put before (replies work b.answered) (replies work asks) basis.put basis.held count b.put b.held short in
       let P : List ℕ → Type 0 = λ l. IsAt may_leave now session (work_after_all work asks) l in
-      (asks, length (replies work b.answered) + count, part.1, begins, subst P part.0 at)
+      let n = length (replies work b.answered) in
+      (asks, n + count, part.1, begins, subst P part.0 at, group_more work asks n (n + count) (omega arith) group)
 
   -- and so it did behind a doIt that was kept
-  part_kept : (may_leave : Image → Type 0) (now : Shown) (session : Session) (ask : Ask) (count : ℕ) → count < length basis.held → Begins (asks ++ ask ∷ []) → IsAt may_leave now session (work_after (work_after_all work asks) ask) (basis.put ++ take count basis.held)
-      → (x : List Ask) × (n : ℕ) × (n < length (replies work x)) × Begins x × IsAt may_leave now session (work_after_all work x) (before ++ take n (replies work x))
-  part_kept may_leave now session ask count short begin at =
-      let n = length (replies work b.answered) + count in
+  part_kept : (may_leave : Image → Type 0) (now : Shown) (session : Session) (ask : Ask) (count : ℕ) → IsOneGroup work (asks ++ ask ∷ []) (length (replies work b.answered)) → count < length basis.held → Begins (asks ++ ask ∷ []) → IsAt may_leave now session (work_after (work_after_all work asks) ask) (basis.put ++ take count basis.held)
+      → (x : List Ask) × (n : ℕ) × (n < length (replies work x)) × Begins x × IsAt may_leave now session (work_after_all work x) (before ++ take n (replies work x)) × IsOneGroup work x n
+  part_kept may_leave now session ask count group short begin at =
+      let first = length (replies work b.answered) in
+      let n = first + count in
       let line = reply_text (reply_to (work_after_all work asks) ask) in
       let part = part_put before (replies work b.answered) (replies work asks) basis.put basis.held count b.put b.held short in
       let same : take n (replies work asks) ≡ take n (replies work (asks ++ ask ∷ [])) =
@@ -150,27 +156,27 @@ module _ (Begins : List Ask → Type 0) (fronts : (first more : List Ask) → Be
       let size : length (replies work (asks ++ ask ∷ [])) ≡ length (replies work asks) + length line = ap length (replies_more work asks ask) ∙ length-append (replies work asks) line in
       let P : List ℕ → Type 0 = λ l. IsAt may_leave now session (work_after_all work (asks ++ ask ∷ [])) l in
       let Q : Work → Type 0 = λ w. IsAt may_leave now session w (basis.put ++ take count basis.held) in
-      (asks ++ ask ∷ [], n, omega (arith, part.1, size), begin, subst P (part.0 ∙ ap (λ l. before ++ l) same) (subst Q (sym (work_after_more work asks ask)) at))
+      (asks ++ ask ∷ [], n, omega (arith, part.1, size), begin, subst P (part.0 ∙ ap (λ l. before ++ l) same) (subst Q (sym (work_after_more work asks ask)) at), group_more work (asks ++ ask ∷ []) first n (omega arith) group)
 
   -- by a flush
-  pub broke_by_flush : (T : Type 0) (end : SessionEnd) (may_leave : Image → Type 0) (now : Shown) (session : Session) → Flushed {T = T} (Err end) may_leave now session (work_after_all work asks) basis → BreaksOff end may_leave now session Begins work before
-  broke_by_flush T (ends.Disk failed) may_leave now session h = lost_flush may_leave now h
-  broke_by_flush T (ends.Write failed) may_leave now session h = part_broke may_leave now session h.0 h.1 h.2
-  broke_by_flush T ends.Memory may_leave now session h = absurd h
-  broke_by_flush T (ends.Read failed) may_leave now session h = absurd h
-  broke_by_flush T (ends.Damaged damage) may_leave now session h = absurd h
-  broke_by_flush T ends.TooLong may_leave now session h = absurd h
+  pub broke_by_flush : IsOneGroup work asks (length (replies work b.answered)) → (T : Type 0) (end : SessionEnd) (may_leave : Image → Type 0) (now : Shown) (session : Session) → Flushed {T = T} (Err end) may_leave now session (work_after_all work asks) basis → BreaksOff end may_leave now session Begins work before
+  broke_by_flush group T (ends.Disk failed) may_leave now session h = lost_flush may_leave now h
+  broke_by_flush group T (ends.Write failed) may_leave now session h = part_broke group may_leave now session h.0 h.1 h.2
+  broke_by_flush group T ends.Memory may_leave now session h = absurd h
+  broke_by_flush group T (ends.Read failed) may_leave now session h = absurd h
+  broke_by_flush group T (ends.Damaged damage) may_leave now session h = absurd h
+  broke_by_flush group T ends.TooLong may_leave now session h = absurd h
 
   -- for want of memory
-  pub broke_for_memory : (end : SessionEnd) (may_leave : Image → Type 0) (now : Shown) (session : Session) → EndsForMemory end may_leave now session (work_after_all work asks) basis → BreaksOff end may_leave now session Begins work before
-  broke_for_memory ends.Memory may_leave now session at =
+  pub broke_for_memory : IsOneGroup work asks (length (replies work b.answered)) → (end : SessionEnd) (may_leave : Image → Type 0) (now : Shown) (session : Session) → EndsForMemory end may_leave now session (work_after_all work asks) basis → BreaksOff end may_leave now session Begins work before
+  broke_for_memory group ends.Memory may_leave now session at =
       let P : List ℕ → Type 0 = λ l. IsAt may_leave now session (work_after_all work asks) l in
       inl (asks, begins, subst P b.held at)
-  broke_for_memory (ends.Disk failed) may_leave now session h = lost_flush may_leave now h
-  broke_for_memory (ends.Write failed) may_leave now session h = part_broke may_leave now session h.0 h.1 h.2
-  broke_for_memory (ends.Read failed) may_leave now session h = absurd h
-  broke_for_memory (ends.Damaged damage) may_leave now session h = absurd h
-  broke_for_memory ends.TooLong may_leave now session h = absurd h
+  broke_for_memory group (ends.Disk failed) may_leave now session h = lost_flush may_leave now h
+  broke_for_memory group (ends.Write failed) may_leave now session h = part_broke group may_leave now session h.0 h.1 h.2
+  broke_for_memory group (ends.Read failed) may_leave now session h = absurd h
+  broke_for_memory group (ends.Damaged damage) may_leave now session h = absurd h
+  broke_for_memory group ends.TooLong may_leave now session h = absurd h
 
   -- what a crash leaves of the basis, and while it is flushed
   pub ground_leaves : (told : ℕ) (c : Image) → HasKept basis.kept (length basis.put) told c → Leaves Begins work before told c
@@ -198,20 +204,22 @@ module _ (Begins : List Ask → Type 0) (fronts : (first more : List Ask) → Be
     lost_work may_leave now (inr h) = lost_past may_leave now (basis.put ++ basis.held) h.list asks [] (sym (append-nil asks)) h.taken h.reads b.held h.is
 
     -- by the work on an item
-    pub broke_by_work : (T : Type 0) (end : SessionEnd) (may_leave : Image → Type 0) (now : Shown) (session : Session) (was : Was) → Worked {T = T} (Err end) may_leave now session was (work_after_all work asks) basis item → BreaksOff end may_leave now session Begins work before
-    broke_by_work T ends.Memory may_leave now session was (inl at) =
+    pub broke_by_work : ((last : List Ask) → length last ≤ 1 → IsOneGroup work (asks ++ last) (length (replies work b.answered))) → (T : Type 0) (end : SessionEnd) (may_leave : Image → Type 0) (now : Shown) (session : Session) (was : Was) → Worked {T = T} (Err end) may_leave now session was (work_after_all work asks) basis item → BreaksOff end may_leave now session Begins work before
+    broke_by_work group T ends.Memory may_leave now session was (inl at) =
         let P : List ℕ → Type 0 = λ l. IsAt may_leave now session (work_after_all work asks) l in
         inl (asks, begins, subst P b.held at)
-    broke_by_work T ends.Memory may_leave now session was (inr (text, told, stopped, one, at)) =
+    broke_by_work group T ends.Memory may_leave now session was (inr (text, told, stopped, one, at)) =
         let P : List ℕ → Type 0 = λ l. IsAt may_leave now session (kept (work_after_all work asks) (evaluates text told stopped)) l in
         inr (asks, text, told, stopped, grows (evaluates text told stopped) one, subst P b.held at)
-    broke_by_work T (ends.Disk failed) may_leave now session was h = lost_work may_leave now h
-    broke_by_work T (ends.Write failed) may_leave now session was (count, short, inl at) = part_broke may_leave now session count short at
-    broke_by_work T (ends.Write failed) may_leave now session was (count, short, inr (text, told, stopped, one, at)) =
-        part_kept may_leave now session (evaluates text told stopped) count short (grows (evaluates text told stopped) one) at
-    broke_by_work T (ends.Read failed) may_leave now session was h = absurd h
-    broke_by_work T (ends.Damaged damage) may_leave now session was h = absurd h
-    broke_by_work T ends.TooLong may_leave now session was h = absurd h
+    broke_by_work group T (ends.Disk failed) may_leave now session was h = lost_work may_leave now h
+    broke_by_work group T (ends.Write failed) may_leave now session was (count, short, inl at) =
+        let P : List Ask → Type 0 = λ l. IsOneGroup work l (length (replies work b.answered)) in
+        part_broke (subst P (append-nil asks) (group [] (omega arith))) may_leave now session count short at
+    broke_by_work group T (ends.Write failed) may_leave now session was (count, short, inr (text, told, stopped, one, at)) =
+        part_kept may_leave now session (evaluates text told stopped) count (group (evaluates text told stopped ∷ []) (omega arith)) short (grows (evaluates text told stopped) one) at
+    broke_by_work group T (ends.Read failed) may_leave now session was h = absurd h
+    broke_by_work group T (ends.Damaged damage) may_leave now session was h = absurd h
+    broke_by_work group T ends.TooLong may_leave now session was h = absurd h
 
     -- what a crash leaves while an item is worked
     pub work_leaves : (told : ℕ) (c : Image) → WorkLeaves (work_after_all work asks) basis item told c → Leaves Begins work before told c

@@ -14,6 +14,7 @@ pub mod Holding
 pub mod Lawful
 pub mod Marking
 pub mod Noting
+pub mod OneGroup
 pub mod Reading
 pub mod Stepping
 pub mod Taking

@@ -89,6 +89,7 @@ breaks T (ends.Write failed) may_leave now session Begins was is_now work before
   asks = h.0;
   count = h.1;
   short = h.2;
+  group = h.5;
   first = firsts h.0 h.3;
   stands = amid_stands may_leave now session (work_after_all work h.0) (at_rest (work_after_all work h.0) (before ++ take h.1 (replies work h.0))) h.4;
   taken = h.4.taken;
@@ -101,7 +102,7 @@ breaks T (ends.Damaged damage) may_leave now session Begins was is_now work befo
 
 -- more bytes are fed
 pub fed_on : (may_leave : Image → Type 0) (o : Shown) (session : Session) (held reader : Held) (was : Was) (work : Work) (before bytes more : List ℕ) (given : List Item) → IsWorking may_leave o session held was work before bytes given → HasRead reader more given → IsWorking may_leave o session reader was work before more given
-fed_on may_leave o session held reader was work before bytes more given w read = record { asks = w.asks; read = read; asked = w.asked; basis = w.basis; behind = w.behind; at = w.at; troubled = w.troubled; last_run = w.last_run }
+fed_on may_leave o session held reader was work before bytes more given w read = record { asks = w.asks; read = read; asked = w.asked; basis = w.basis; behind = w.behind; group = w.group; at = w.at; troubled = w.troubled; last_run = w.last_run }
 
 -- ---- a piece
 

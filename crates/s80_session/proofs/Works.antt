@@ -16,11 +16,12 @@ use Rattle.s80_session.specs.declared.session.Session.{Session}
 use Rattle.s80_session.specs.declared.end.SessionEnd.{SessionEnd}
 use Rattle.s80_session.specs.Putting.{IsAsBefore}
 use Rattle.s80_session.specs.Run.{FirstAsksOf, Ends, Keeps, input_limit}
-use Rattle.s80_session.specs.Session.{Was, HasSameRest, was_of}
+use Rattle.s80_session.specs.Session.{Was, HasLittle, HasSameRest, was_of}
 use Rattle.s80_session.specs.Working.{AnswersLeave, AtEnd, BeginsAsking, BreaksOff, EndsForMemory, Flushed, FlushLeaves, Ground, IsAmid, IsDone, IsReadable, IsWorking, PieceWorked, Takes, Worked, WorkLeaves, WorksAll}
 use Rattle.s80_session.proofs.Answering.{begins, begins_so, done_on, flushed_on, grows, holds_none, read_none, read_some, readable_some, worked_on}
 use Rattle.s80_session.proofs.Fronts.{begins_front, first_front}
 use Rattle.s80_session.proofs.Grouping.{broke_by_flush, broke_by_work, broke_for_memory}
+use Rattle.s80_session.proofs.OneGroup.{group_little}
 use Rattle.s80_session.proofs.Taking.{breaks, ends_taking, fed_on, first_asks, IsTaken, IsTaking, no_more, still_open, taken_more, takes_first, taking_on}
 use Rattle.s80_session.proofs.lemmas.Groups.{answers_last, group_flushed, group_quiet, group_starts, group_worked, keeps_on}
 
@@ -72,21 +73,21 @@ module _ {D : Type 0} (moment : D → ℕ) (left_since : D → ℕ → ℕ → I
     pub flush_breaks : (T : Type 0) (end : SessionEnd) (b : Bool) → b ≡ ended → ((w : Work) (basis : Ground) → IsAmid (may_leave mid) (shown mid) session w basis → Flushed {T = T} (Err end) (may_leave now) (shown now) self w basis) → BreaksOff end (may_leave now) (shown now) self (BeginsAsking work b bytes) work before
     flush_breaks T end b is broke =
         let w = x.working in
-        broke_by_flush (BeginsAsking work b bytes) (begins_front work b bytes) work before w.asks w.basis (begins_so reader b work bytes x.given w.asks (x.ended_is ∙ sym is) w.read w.asked) w.behind T end (may_leave now) (shown now) self (broke (work_after_all work w.asks) w.basis w.at)
+        broke_by_flush (BeginsAsking work b bytes) (begins_front work b bytes) work before w.asks w.basis (begins_so reader b work bytes x.given w.asks (x.ended_is ∙ sym is) w.read w.asked) w.behind w.group T end (may_leave now) (shown now) self (broke (work_after_all work w.asks) w.basis w.at)
 
     pub memory_breaks : (end : SessionEnd) (b : Bool) → b ≡ ended → ((w : Work) (basis : Ground) → IsAmid (may_leave mid) (shown mid) session w basis → EndsForMemory end (may_leave now) (shown now) self w basis) → BreaksOff end (may_leave now) (shown now) self (BeginsAsking work b bytes) work before
     memory_breaks end b is broke =
         let w = x.working in
-        broke_for_memory (BeginsAsking work b bytes) (begins_front work b bytes) work before w.asks w.basis (begins_so reader b work bytes x.given w.asks (x.ended_is ∙ sym is) w.read w.asked) w.behind end (may_leave now) (shown now) self (broke (work_after_all work w.asks) w.basis w.at)
+        broke_for_memory (BeginsAsking work b bytes) (begins_front work b bytes) work before w.asks w.basis (begins_so reader b work bytes x.given w.asks (x.ended_is ∙ sym is) w.read w.asked) w.behind w.group end (may_leave now) (shown now) self (broke (work_after_all work w.asks) w.basis w.at)
 
   -- what the reader gives next
-  module _ (mid : D) (session : Session) (had reader : Held) (x : Works moment left_since may_leave shown begun mid session had ended was work before bytes) (found : Option Item) (gives : (fed : List ℕ) (items : List Item) → HasRead had fed items → HasRead reader fed (items ++ option_to_list found)) (same_ended : reader.ended ≡ had.ended) where
+  module _ (mid : D) (session : Session) (had reader : Held) (x : Works moment left_since may_leave shown begun mid session had ended was work before bytes) (little : HasLittle session) (found : Option Item) (gives : (fed : List ℕ) (items : List Item) → HasRead had fed items → HasRead reader fed (items ++ option_to_list found)) (same_ended : reader.ended ≡ had.ended) where
     -- no item
     pub works_all : found ≡ None → IfNone found ((fed : List ℕ) (items : List Item) → HasRead had fed items → HoldsNoMore had.ended fed items) → WorksAll {T = Unit {0}} (Ok tt) (may_leave mid) (shown mid) session reader was work before bytes
     works_all is none =
         let w = x.working in (
           x.given,
-          record { asks = w.asks; read = read_none reader bytes x.given found is (gives bytes x.given w.read); asked = w.asked; basis = w.basis; behind = w.behind; at = w.at; troubled = w.troubled; last_run = w.last_run },
+          record { asks = w.asks; read = read_none reader bytes x.given found is (gives bytes x.given w.read); asked = w.asked; basis = w.basis; behind = w.behind; group = w.group; at = w.at; troubled = w.troubled; last_run = w.last_run },
           holds_none found had reader.ended bytes x.given is none w.read same_ended,
         )
 
@@ -112,7 +113,7 @@ module _ {D : Type 0} (moment : D → ℕ) (left_since : D → ℕ → ℕ → I
           let w = x.working in
           record {
             given = x.given ++ item ∷ [];
-            working = worked_on (may_leave mid) (may_leave now) (shown mid) (shown now) session self had reader was work before bytes x.given item w given_read (worked (work_after_all work w.asks) w.basis given_readable w.at);
+            working = worked_on (may_leave mid) (may_leave now) (shown mid) (shown now) session self had reader was work before bytes x.given item w little given_read (worked (work_after_all work w.asks) w.basis given_readable w.at);
             ended_is = same_ended ∙ x.ended_is;
             run = work_run leaves;
           }
@@ -120,7 +121,7 @@ module _ {D : Type 0} (moment : D → ℕ) (left_since : D → ℕ → ℕ → I
       pub work_breaks : (T : Type 0) (end : SessionEnd) (b : Bool) → b ≡ ended → ((w : Work) (basis : Ground) → IsReadable (Chunk item) → IsAmid (may_leave mid) (shown mid) session w basis → Worked {T = T} (Err end) (may_leave now) (shown now) self (was_of session) w basis (Chunk item)) → BreaksOff end (may_leave now) (shown now) self (BeginsAsking work b bytes) work before
       work_breaks T end b same broke =
           let w = x.working in
-          broke_by_work (BeginsAsking work b bytes) (begins_front work b bytes) work before w.asks w.basis (begins_so had b work bytes x.given w.asks (x.ended_is ∙ sym same) w.read w.asked) w.behind (Chunk item) (grows_at b same) T end (may_leave now) (shown now) self (was_of session) (broke (work_after_all work w.asks) w.basis given_readable w.at)
+          broke_by_work (BeginsAsking work b bytes) (begins_front work b bytes) work before w.asks w.basis (begins_so had b work bytes x.given w.asks (x.ended_is ∙ sym same) w.read w.asked) w.behind (Chunk item) (grows_at b same) (group_little (may_leave mid) (shown mid) session work before w.asks w.basis w.behind w.at little) T end (may_leave now) (shown now) self (was_of session) (broke (work_after_all work w.asks) w.basis given_readable w.at)
 
 -- ---- the parts of a piece
 
@@ -271,7 +272,7 @@ module _ {D : Type 0} (moment : D → ℕ) (left_since : D → ℕ → ℕ → I
             piece_flush_ends T end is_now broke =
                 let w = piece_worked.1 in
                 breaks T end (may_leave end_of) (shown end_of) last (FirstAsksOf work input) was is_now work before input (λ asks first. first)
-                (broke_by_flush (FirstAsksOf work input) (first_front work input) work before w.asks w.basis piece_first w.behind T end (may_leave end_of) (shown end_of) last (broke (work_after_all work w.asks) w.basis w.at))
+                (broke_by_flush (FirstAsksOf work input) (first_front work input) work before w.asks w.basis piece_first w.behind w.group T end (may_leave end_of) (shown end_of) last (broke (work_after_all work w.asks) w.basis w.at))
 
             pub takes_piece : ((w : Work) (basis : Ground) → IsAmid (may_leave now) (shown now) self w basis → Flushed {T = Unit {0}} (Ok tt) (may_leave end_of) (shown end_of) last w basis) → HasSameRest self last → (shown now).left ≡ (shown mid).left → (shown end_of).left ≡ (shown now).left → LeavesOnly moment left_since old mid (IsAsBefore (may_leave old) (shown old).told 0)
                 → TakesOn moment left_since may_leave shown begun end_of last now_reader was work input before

@@ -1,9 +1,10 @@
 -- What a run leaves: on its disk, of its input and in its output.
-use Rattle.std.specs.Prelude.{◌≡◌, ◌⊎◌, ℕ, ◌^◌, ◌<◌, ◌≤◌, ◌||◌, Bool, true, false, List, [], ◌∷◌, ◌++◌, length, map, take, Option, Some, Result, Ok, Err}
+use Rattle.std.specs.Prelude.{◌≡◌, ◌⊎◌, ℕ, ◌+◌, ◌^◌, ◌<◌, ◌≤◌, ◌||◌, Bool, true, false, List, [], ◌∷◌, ◌++◌, length, map, take, Option, Some, Result, Ok, Err}
 use Rattle.s80_chunk.specs.declared.item.Item.{Item}
 use Rattle.s80_chunk.specs.Chunks.{Reads, IsReading, IsBlank}
 use Rattle.s80_chunk.specs.Held.{HoldsNoMore}
 use Rattle.s80_change.specs.declared.change.Change.{Change}
+use Rattle.s80_change.specs.Block.{blocks}
 use Rattle.s80_disk.specs.Image.{Image}
 use Rattle.s80_disk.specs.Shown.{Shown}
 use Rattle.s80_keeper.specs.Standing.{FilesStandFor, ReadsFor, StandsFor}
@@ -12,7 +13,7 @@ use Rattle.s80_model.specs.declared.item.SessionItem.TheVariants.{Chunk, Unended
 use Rattle.s80_session.specs.declared.end.SessionEnd.{SessionEnd}
 use Rattle.s80_session.specs.declared.end.SessionEnd.TheVariants as ends
 use Rattle.s80_session.specs.LastRun.{RunBehindAll}
-use Rattle.s80_session.specs.Session.{Was}
+use Rattle.s80_session.specs.Session.{group_limit, Was}
 use Rattle.s80_machine.specs.Came.{RanValue}
 use Rattle.s80_model.specs.Asked.{Ask, evaluates}
 use Rattle.s80_model.specs.Replies.{Work, AllAsk, replies, reply_to, reply_text, work_after_all, list_after_all, any_trouble}
@@ -101,11 +102,26 @@ pub record BrokeOff (may_leave : Image → Type 0) (now : Shown) (work : Work) (
   pub first : FirstAsksOf work input asks
   pub answered : Answered may_leave now work before asks
 
--- a run whose output failed within the replies to what it had worked and kept
+-- What was worked is one group behind replies of which at least so many bytes were put: without the last ask, less than a group of replies to
+-- those that weren't answered, and less than a group of blocks that weren't kept, of which at most one change was before its reply.
+pub record IsOneGroup (work : Work) (asks : List Ask) (put : ℕ) : Type 0 where
+  pub answered : List Ask
+  pub more : List Ask
+  pub waiting : List Ask
+  pub last : List Ask
+  pub all : asks ≡ ((answered ++ more) ++ waiting) ++ last
+  pub early : length more ≤ 1
+  pub one : length last ≤ 1
+  pub whole : length (replies work answered) ≤ put
+  pub few_replies : length (replies work ((answered ++ more) ++ waiting)) < length (replies work answered) + group_limit
+  pub few_blocks : length (blocks (list_after_all work ((answered ++ more) ++ waiting))) < length (blocks (list_after_all work (answered ++ more))) + group_limit
+
+-- a run whose output failed within the replies to what it had worked and kept, which is no more than a group
 pub record Unanswered (may_leave : Image → Type 0) (now : Shown) (work : Work) (input before : List ℕ) : Type 0 where
   pub asks : List Ask
   pub count : ℕ
   pub short : count < length (replies work asks)
+  pub group : IsOneGroup work asks count
   pub first : FirstAsksOf work input asks
   pub stands : ShownFor may_leave now (list_after_all work asks)
   pub taken : now.taken ≡ Some (before ++ take count (replies work asks))

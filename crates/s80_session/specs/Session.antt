@@ -70,6 +70,11 @@ pub record HasSameRest (before now : Session) : Type 0 where
 abbrev pub group_limit : ℕ
 group_limit = 65536
 
+-- less than a group is pending, and less than one is held
+pub record HasLittle (session : Session) : Type 0 where
+  pub pending : pending_of session.keeper < group_limit
+  pub held : length (held_of session) < group_limit
+
 -- no call of the disk has failed in it, nothing is pending, and no reply is held
 pub record IsResting (session : Session) : Type 0 where
   pub faultless : IsFaultless session

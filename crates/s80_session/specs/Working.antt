@@ -36,7 +36,7 @@ use Rattle.s80_form.specs.declared.refusal.Refusal.{Refusal}
 use Rattle.s80_session.specs.Ends.{reply_to_keeping}
 use Rattle.s80_session.specs.LastRun.{RunBehind, RunBehindAll}
 use Rattle.s80_session.specs.Session.{Was, budget_of, held_of, keeper_of, last_run_of, section_of, troubled_of, was_of}
-use Rattle.s80_session.specs.Run.{AsksOf, ShownFor, HasKept, chunks, input_limit, Ends}
+use Rattle.s80_session.specs.Run.{AsksOf, ShownFor, HasKept, chunks, input_limit, Ends, IsOneGroup}
 
 -- What a session stands on: the list that is kept on the disk, the bytes that were put, and the replies that are held until what they answer
 -- is kept.
@@ -265,7 +265,7 @@ abbrev pub HasReadSome : Held → Type 0
 HasReadSome reader = (bytes : List ℕ) × (given : List Item) × HasRead reader bytes given
 
 -- What a session stands on behind what was asked: the replies to the first asks are put, the list behind at least these is kept, and the
--- replies to the others are held.
+-- replies to the others are held. At most one is kept before it is answered.
 pub record IsBehind (work : Work) (before : List ℕ) (asks : List Ask) (basis : Ground) : Type 0 where
   pub answered : List Ask
   pub more : List Ask
@@ -274,6 +274,7 @@ pub record IsBehind (work : Work) (before : List ℕ) (asks : List Ask) (basis :
   pub kept : basis.kept ≡ list_after_all work (answered ++ more)
   pub put : basis.put ≡ before ++ replies work answered
   pub held : basis.put ++ basis.held ≡ before ++ replies work asks
+  pub early : length more ≤ 1
 
 -- of these bytes the reader gave these items, and what each asks was worked, since the session held that
 pub record IsWorking (may_leave : Image → Type 0) (o : Shown) (session : Session) (reader : Held) (was : Was) (work : Work) (before bytes : List ℕ) (given : List Item) : Type 0 where
@@ -282,6 +283,7 @@ pub record IsWorking (may_leave : Image → Type 0) (o : Shown) (session : Sessi
   pub asked : AllAsk work (chunks given) asks
   pub basis : Ground
   pub behind : IsBehind work before asks basis
+  pub group : IsOneGroup work asks (length (replies work behind.answered))
   pub at : IsAmid may_leave o session (work_after_all work asks) basis
   pub troubled : troubled_of session ≡ (was.troubled || any_trouble work asks)
   pub last_run : RunBehindAll work asks was.last_run (last_run_of session)
@@ -317,7 +319,7 @@ BreaksOff ends.Memory may_leave now session Begins work before =
 BreaksOff (ends.Disk failed) may_leave now session Begins work before =
     (asks : List Ask) × (more : List Ask) × Begins (asks ++ more) × IsLostBehind may_leave now work before asks more
 BreaksOff (ends.Write failed) may_leave now session Begins work before =
-    (asks : List Ask) × (count : ℕ) × (count < length (replies work asks)) × Begins asks × IsAt may_leave now session (work_after_all work asks) (before ++ take count (replies work asks))
+    (asks : List Ask) × (count : ℕ) × (count < length (replies work asks)) × Begins asks × IsAt may_leave now session (work_after_all work asks) (before ++ take count (replies work asks)) × IsOneGroup work asks count
 BreaksOff (ends.Read failed) may_leave now session Begins work before = ⊥
 BreaksOff (ends.Damaged damage) may_leave now session Begins work before = ⊥
 BreaksOff ends.TooLong may_leave now session Begins work before = ⊥
@@ -363,6 +365,7 @@ pub record IsFinished (may_leave : Image → Type 0) (now : Shown) (session : Se
   pub left : now.left ≡ Some []
   pub basis : Ground
   pub behind : IsBehind work before asks basis
+  pub group : IsOneGroup work asks (length (replies work behind.answered))
   pub at : IsAmid may_leave now session (work_after_all work asks) basis
   pub troubled : troubled_of session ≡ (was.troubled || any_trouble work asks)
   pub last_run : RunBehindAll work asks was.last_run (last_run_of session)

@@ -10,7 +10,7 @@ ghost use Rattle.s80_keeper.specs.Keeper.{pending_of};
 ghost use Rattle.s80_session.specs.Putting.{IsAsBefore};
 ghost use Rattle.s80_session.specs.Run.{input_limit, Ends, Keeps};
 ghost use Rattle.s80_model.specs.Replies.{Work};
-ghost use Rattle.s80_session.specs.Session.{group_limit, held_of, keeper_of, was_of, HasSameRest, IsFaultless, IsResting, RunSince, Was};
+ghost use Rattle.s80_session.specs.Session.{group_limit, held_of, keeper_of, was_of, HasLittle, HasSameRest, IsFaultless, IsResting, RunSince, Was};
 ghost use Rattle.s80_session.specs.Working.{AnswersLeave, AtEnd, EndsForMemory, Finishes, FlushLeaves, Ground, HasReadSome, IsAmid, IsAt, IsDone, IsWorking, PieceWorked, Takes, TakesAll, WorksAll};
 
 use crate::end::SessionEnd;
@@ -105,6 +105,7 @@ impl Session {
         outside: &mut O,
     ) -> Result<(), SessionEnd>
         requires faultless { IsFaultless self.old }
+        requires little { HasLittle self.old }
         requires reading { HasReadSome reader.old }
         ensures worked { (was : Was) (work : Work) (before bytes : List ℕ) (given : List Item)
             → IsWorking (O.may_leave outside.old) (O.shown outside.old) self.old reader.old was work before bytes given
@@ -116,6 +117,7 @@ impl Session {
         ensures counts { Counts (O.faults outside.old) (O.faults outside.new) result }
         ensures last_run { RunSince self.old self.new }
         ensures faultless { OnOk result (IsFaultless self.new) }
+        ensures little { OnOk result (HasLittle self.new) }
         ensures reading { OnOk result (HasReadSome reader.new) }
         ensures spent { OnOk result (IsSpent reader.new × (reader.new.room ≡ 4096)) }
         ensures fed { fed reader.new ≡ fed reader.old }
@@ -139,6 +141,7 @@ impl Session {
         outside: &mut O,
     ) -> Result<(), SessionEnd>
         requires faultless { IsFaultless self.old }
+        requires little { HasLittle self.old }
         requires reading { HasReadSome reader.old }
         requires open { reader.old.ended ≡ false }
         requires room { reader.old.room ≡ 4096 }
@@ -155,6 +158,7 @@ impl Session {
         ensures counts { Counts (O.faults outside.old) (O.faults outside.new) result }
         ensures last_run { RunSince self.old self.new }
         ensures faultless { OnOk result (IsFaultless self.new) }
+        ensures little { OnOk result (HasLittle self.new) }
         ensures reading { OnOk result (HasReadSome reader.new) }
         ensures room { OnOk result (reader.new.room ≡ 4096) }
         ensures fed { OnOk result (fed reader.new ≡ fed reader.old + length piece.now) }
@@ -242,6 +246,7 @@ impl Session {
         outside: &mut O,
     ) -> Result<(), SessionEnd>
         requires faultless { IsFaultless self.old }
+        requires little { HasLittle self.old }
         requires reading { HasReadSome reader.old }
         requires ended { reader.old.ended ≡ true }
         ensures finished { (was : Was) (work : Work) (input before : List ℕ)

@@ -5,6 +5,7 @@ mod end;
 mod input;
 mod outside;
 mod plain;
+mod queries;
 mod replies;
 mod reply;
 mod session;

@@ -14,20 +14,17 @@ ghost use Rattle.s80_model.specs.Asked.{adds, snapshot_note, Asks};
 ghost use Rattle.s80_model.specs.Replies.{is_trouble, reply_text, Work};
 ghost use Rattle.s80_model.specs.Section.{section_or};
 ghost use Rattle.s80_model.specs.Settings.{Settings};
-ghost use Rattle.s80_session.specs.Ending.{Counts, CountsFor, MeetsNoDamage, NoFewer, OnOkOrMemory, SourceCounts, StartsForReason};
-ghost use Rattle.s80_session.specs.Files.{IsAsking, IsAsLeft, IsElsewhere, IsQuestion};
+ghost use Rattle.s80_session.specs.Ending.{Counts, CountsFor, MeetsNoDamage, NoFewer, OnOkOrMemory, StartsForReason};
+ghost use Rattle.s80_session.specs.Files.{IsAsking, IsAsLeft, IsElsewhere};
 ghost use Rattle.s80_session.specs.Putting.{IsAsBefore};
 ghost use Rattle.s80_session.specs.Replies.{HasRoom, HasRoomFor, LacksRoom};
 ghost use Rattle.s80_session.specs.Run.{HasKept, ShownFor};
 
 use crate::end::SessionEnd;
-use crate::outside::{
-    commit, keep_later, put_all, read_set, read_source, read_versions, start_keeper,
-};
+use crate::outside::{commit, keep_later, put_all, start_keeper};
 use crate::plain::{Plain, plain_of};
 use crate::replies::Replies;
 use crate::reply::{ACCEPTED, refusal_at_fault, refusal_line, reply_to_keeping};
-use crate::told::{has_method, tell_browsed, tell_classes, tell_recovered, tell_versions};
 use s80_apply::{accepted_forms_are_lawful, classes_are_named};
 use s80_base::{OutOfMemory, Text};
 use s80_change::{Change, Source};
@@ -38,8 +35,7 @@ use s80_form::{FitWord, Refusal, Refused};
 use s80_keeper::Keeper;
 use s80_machine::Ran;
 use s80_model::{
-    Answer, Query, Reply, Section, SessionItem, changes_text, head_answer, method_of, side_named,
-    snapshot_note, too_long_answer,
+    Answer, Reply, Section, SessionItem, head_answer, method_of, snapshot_note, too_long_answer,
 };
 use s80_syntax::MethodTree;
 use s80_verify::Verified;
@@ -67,7 +63,7 @@ impl Session {
     ghost use Rattle.s80_doit.specs.DoIt.{IsDoItCode, IsMethodOfDoIt};
     ghost use Rattle.s80_session.specs.Ending.{IsDiskEnd, IsFlushEnd, IsKeepEnd, IsWorkEnd, IsWriteEnd};
     ghost use Rattle.s80_session.specs.Session.{budget_of, held_of, keeper_of, last_run_of, room_of, section_of, troubled_of, was_of, HasBegun, HasMarked, HasSameRest, IsFaultless, IsResting, RunAfter, RunAfterText, RunAfterWork, TakesHeld, TroubleAfter, TroubleWhile};
-    ghost use Rattle.s80_session.specs.Working.{at_rest, Answers, Committed, CommitLeaves, EndsForMemory, Evaluates, Flushed, FlushLeaves, Ground, HeldPut, IsAmid, IsAt, IsGrouped, IsLawfulFor, IsReadable, IsSessionStart, ItemWorked, Kept, Noted, QueryWorked, Replied, Starts, Stepped, StepLeaves, Worked, WorkLeaves};
+    ghost use Rattle.s80_session.specs.Working.{at_rest, Answers, Committed, CommitLeaves, EndsForMemory, Evaluates, Flushed, FlushLeaves, Ground, HeldPut, IsAmid, IsAt, IsGrouped, IsLawfulFor, IsReadable, IsSessionStart, ItemWorked, Kept, Noted, Replied, Starts, Stepped, StepLeaves, Worked, WorkLeaves};
 
     /// A session on the folder that was attached, at the top level of its input. A doIt may take at most `budget` ticks.
     pub fn start<O: Outside>(
@@ -626,7 +622,11 @@ impl Session {
     }
 
     /// Keeps the note of a snapshot by itself: what is pending and held is flushed before.
-    fn keep_note<O: Outside>(&mut self, alloc: Global, outside: &mut O) -> Result<Reply, SessionEnd>
+    pub(crate) fn keep_note<O: Outside>(
+        &mut self,
+        alloc: Global,
+        outside: &mut O,
+    ) -> Result<Reply, SessionEnd>
         requires faultless { IsFaultless self.old }
         ensures noted { (work : Work) (basis : Ground) (item : SessionItem) → Asks item (adds (Change.DoIt snapshot_note))
             → IsAmid (O.may_leave outside.old) (O.shown outside.old) self.old work basis
@@ -688,179 +688,6 @@ impl Session {
         match keep_later(&mut self.keeper, outside, prepared) {
             Ok(_) => Ok(None),
             Err(fault) => Ok(Some(refusal_at_fault(fault)?)),
-        }
-    }
-
-    /// Works a query: keeps the note of a snapshot, and tells what any other query asks for.
-    fn work_query<O: Outside>(
-        &mut self,
-        alloc: Global,
-        query: Query,
-        outside: &mut O,
-    ) -> Result<Reply, SessionEnd>
-        requires resting { IsResting self.old }
-        ensures replied { (work : Work) (put : List ℕ)
-            → IsAt (O.may_leave outside.old) (O.shown outside.old) self.old work put
-            → QueryWorked result (O.may_leave outside.new) (O.shown outside.new) self.new (was_of self.old) work put (SessionItem.Query query) }
-        ensures any_moment { (work : Work) (put : List ℕ)
-            → IsAt (O.may_leave outside.old) (O.shown outside.old) self.old work put
-            → LeavesOnly O.moment O.left_since outside.old outside.new (WorkLeaves work (at_rest work put) (SessionItem.Query query)) }
-        // Whatever the disk stands for, but for the mark and the log the files stay, in what is read and at any moment.
-        ensures others { (other : FileId) → other ≢ Mark → other ≢ log_file (keeper_of self.old).log.number → (O.shown outside.new).files other ≡ (O.shown outside.old).files other }
-        ensures elsewhere { LeavesOnly O.moment O.left_since outside.old outside.new (IsElsewhere (O.may_leave outside.old) (log_file (keeper_of self.old).log.number)) }
-        // A question changes no file, and at any moment a crash leaves what it might have left before.
-        ensures asked { IsQuestion query → (file : FileId) → (O.shown outside.new).files file ≡ (O.shown outside.old).files file }
-        ensures images { IsQuestion query → (c : FileId → List ℕ) → O.may_leave outside.new c → O.may_leave outside.old c }
-        ensures no_more { IsQuestion query → LeavesOnly O.moment O.left_since outside.old outside.new (IsAsLeft (O.may_leave outside.old)) }
-        ensures sound { IsTrue (O.shown outside.old).tells → (changes : List Change) → Knows (O.shown outside.old).files (keeper_of self.old) changes → MeetsNoDamage result }
-        ensures troubled { troubled_of self.new ≡ troubled_of self.old }
-        ensures last_run { last_run_of self.new ≡ last_run_of self.old }
-        ensures budget { budget_of self.new ≡ budget_of self.old }
-        ensures faultless { OnOkOrMemory result (IsFaultless self.new) }
-        ensures left { (O.shown outside.new).left ≡ (O.shown outside.old).left }
-        ensures taken { (O.shown outside.new).taken ≡ (O.shown outside.old).taken }
-        ensures held { held_of self.new ≡ held_of self.old }
-        ensures room { 3 ≤ room_of self.old → IfOk result (λ reply. HasRoom reply (room_of self.new)) }
-        ensures settled { IsQuestion query → pending_of (keeper_of self.new) ≡ 0 }
-        ensures log { (keeper_of self.new).log.number ≡ (keeper_of self.old).log.number }
-        ensures ends { IfErr result IsKeepEnd }
-        ensures counts { CountsFor (SessionItem.Query query) (O.faults outside.old) (O.faults outside.new) result }
-    {
-        let system = self.keeper.system();
-        match query {
-            Query::Recover => Ok(tell_recovered(alloc, system, self.keeper.count())?),
-            Query::Classes => Ok(tell_classes(alloc, system)?),
-            Query::Browse(name) => Ok(tell_browsed(alloc, system, name)?),
-            Query::Source(spec, selector) => self.tell_source(alloc, spec, selector, outside),
-            Query::Versions(spec, selector) => {
-                self.tell_versions(alloc, spec, selector, outside)
-            }
-            Query::Changes => self.tell_changes(alloc, outside),
-            Query::Snapshot => self.keep_note(alloc, outside),
-        }
-    }
-
-    /// The source of a method, by the words that name its class and side, and its selector.
-    fn tell_source<O: Outside>(
-        &mut self,
-        alloc: Global,
-        spec: Text,
-        selector: Text,
-        outside: &mut O,
-    ) -> Result<Reply, SessionEnd>
-        requires resting { IsResting self.old }
-        ensures replied { (work : Work) (put : List ℕ)
-            → IsAt (O.may_leave outside.old) (O.shown outside.old) self.old work put
-            → QueryWorked result (O.may_leave outside.new) (O.shown outside.new) self.new (was_of self.old) work put (SessionItem.Query (Query.Source spec selector)) }
-        ensures any_moment { (work : Work) (put : List ℕ)
-            → IsAt (O.may_leave outside.old) (O.shown outside.old) self.old work put
-            → LeavesOnly O.moment O.left_since outside.old outside.new (HasKept work.changes (length put)) }
-        ensures shown { O.shown outside.new ≡ O.shown outside.old }
-        ensures images { (c : FileId → List ℕ) → O.may_leave outside.new c → O.may_leave outside.old c }
-        ensures no_more { LeavesOnly O.moment O.left_since outside.old outside.new (IsAsLeft (O.may_leave outside.old)) }
-        ensures sound { IsTrue (O.shown outside.old).tells → (changes : List Change) → Knows (O.shown outside.old).files (keeper_of self.old) changes → MeetsNoDamage result }
-        ensures troubled { troubled_of self.new ≡ troubled_of self.old }
-        ensures last_run { last_run_of self.new ≡ last_run_of self.old }
-        ensures budget { budget_of self.new ≡ budget_of self.old }
-        ensures faultless { OnOkOrMemory result (IsFaultless self.new) }
-        ensures held { self.new.held ≡ self.old.held }
-        ensures room { (room : ℕ) → IfOk result (λ reply. HasRoom reply room) }
-        ensures pending { pending_of (keeper_of self.new) ≡ pending_of (keeper_of self.old) }
-        ensures log { (keeper_of self.new).log.number ≡ (keeper_of self.old).log.number }
-        ensures ends { IfErr result IsKeepEnd }
-        ensures counts { SourceCounts (O.faults outside.old) (O.faults outside.new) result }
-    {
-        let Some((name, side)) = side_named(alloc, &spec)? else {
-            return Ok(Reply::Refused(Refusal::BadName(spec)));
-        };
-        let Some(number) = self.keeper.system().find(&name) else {
-            return Ok(Reply::Refused(Refusal::UnknownClass(name)));
-        };
-        match read_source(&mut self.keeper, alloc, outside, number, side, &selector) {
-            Ok(Some(mut source)) => {
-                source.append(b"\n")?;
-                Ok(Reply::Told(source))
-            }
-            Ok(None) => Ok(Reply::Refused(Refusal::NoSelector(name, side, selector))),
-            Err(fault) => Ok(Reply::Refused(refusal_at_fault(fault)?)),
-        }
-    }
-
-    /// The versions of a method, by the words that name its class and side, and its selector.
-    fn tell_versions<O: Outside>(
-        &mut self,
-        alloc: Global,
-        spec: Text,
-        selector: Text,
-        outside: &mut O,
-    ) -> Result<Reply, SessionEnd>
-        requires resting { IsResting self.old }
-        ensures replied { (work : Work) (put : List ℕ)
-            → IsAt (O.may_leave outside.old) (O.shown outside.old) self.old work put
-            → QueryWorked result (O.may_leave outside.new) (O.shown outside.new) self.new (was_of self.old) work put (SessionItem.Query (Query.Versions spec selector)) }
-        ensures any_moment { (work : Work) (put : List ℕ)
-            → IsAt (O.may_leave outside.old) (O.shown outside.old) self.old work put
-            → LeavesOnly O.moment O.left_since outside.old outside.new (HasKept work.changes (length put)) }
-        ensures shown { O.shown outside.new ≡ O.shown outside.old }
-        ensures images { (c : FileId → List ℕ) → O.may_leave outside.new c → O.may_leave outside.old c }
-        ensures no_more { LeavesOnly O.moment O.left_since outside.old outside.new (IsAsLeft (O.may_leave outside.old)) }
-        ensures sound { IsTrue (O.shown outside.old).tells → (changes : List Change) → Knows (O.shown outside.old).files (keeper_of self.old) changes → MeetsNoDamage result }
-        ensures troubled { troubled_of self.new ≡ troubled_of self.old }
-        ensures last_run { last_run_of self.new ≡ last_run_of self.old }
-        ensures budget { budget_of self.new ≡ budget_of self.old }
-        ensures faultless { OnOkOrMemory result (IsFaultless self.new) }
-        ensures held { self.new.held ≡ self.old.held }
-        ensures room { (room : ℕ) → IfOk result (λ reply. HasRoom reply room) }
-        ensures pending { pending_of (keeper_of self.new) ≡ pending_of (keeper_of self.old) }
-        ensures log { (keeper_of self.new).log.number ≡ (keeper_of self.old).log.number }
-        ensures ends { IfErr result IsKeepEnd }
-        ensures counts { SourceCounts (O.faults outside.old) (O.faults outside.new) result }
-    {
-        let Some((name, side)) = side_named(alloc, &spec)? else {
-            return Ok(Reply::Refused(Refusal::BadName(spec)));
-        };
-        let system = self.keeper.system();
-        let Some(number) = system.find(&name) else {
-            return Ok(Reply::Refused(Refusal::UnknownClass(name)));
-        };
-        let is_there = has_method(system, number, side, &selector);
-        match read_versions(&mut self.keeper, alloc, outside, &name, side, &selector) {
-            Ok(versions) => Ok(tell_versions(alloc, name, side, selector, is_there, &versions)?),
-            Err(fault) => Ok(Reply::Refused(refusal_at_fault(fault)?)),
-        }
-    }
-
-    /// The change set.
-    fn tell_changes<O: Outside>(
-        &mut self,
-        alloc: Global,
-        outside: &mut O,
-    ) -> Result<Reply, SessionEnd>
-        requires resting { IsResting self.old }
-        ensures replied { (work : Work) (put : List ℕ)
-            → IsAt (O.may_leave outside.old) (O.shown outside.old) self.old work put
-            → QueryWorked result (O.may_leave outside.new) (O.shown outside.new) self.new (was_of self.old) work put (SessionItem.Query Query.Changes) }
-        ensures any_moment { (work : Work) (put : List ℕ)
-            → IsAt (O.may_leave outside.old) (O.shown outside.old) self.old work put
-            → LeavesOnly O.moment O.left_since outside.old outside.new (HasKept work.changes (length put)) }
-        ensures shown { O.shown outside.new ≡ O.shown outside.old }
-        ensures images { (c : FileId → List ℕ) → O.may_leave outside.new c → O.may_leave outside.old c }
-        ensures no_more { LeavesOnly O.moment O.left_since outside.old outside.new (IsAsLeft (O.may_leave outside.old)) }
-        ensures sound { IsTrue (O.shown outside.old).tells → (changes : List Change) → Knows (O.shown outside.old).files (keeper_of self.old) changes → MeetsNoDamage result }
-        ensures troubled { troubled_of self.new ≡ troubled_of self.old }
-        ensures last_run { last_run_of self.new ≡ last_run_of self.old }
-        ensures budget { budget_of self.new ≡ budget_of self.old }
-        ensures faultless { OnOkOrMemory result (IsFaultless self.new) }
-        ensures held { self.new.held ≡ self.old.held }
-        ensures room { (room : ℕ) → IfOk result (λ reply. HasRoom reply room) }
-        ensures pending { pending_of (keeper_of self.new) ≡ pending_of (keeper_of self.old) }
-        ensures log { (keeper_of self.new).log.number ≡ (keeper_of self.old).log.number }
-        ensures ends { IfErr result IsKeepEnd }
-        ensures counts { SourceCounts (O.faults outside.old) (O.faults outside.new) result }
-    {
-        match read_set(&mut self.keeper, alloc, outside) {
-            Ok(set) => Ok(Reply::Told(changes_text(alloc, &set)?)),
-            Err(fault) => Ok(Reply::Refused(refusal_at_fault(fault)?)),
         }
     }
 }

@@ -41,7 +41,7 @@ returns-in-Unended-clause-finished g c = λ was work input before t.
     let w = done_on (g.O.Disk.may_leave c.args.outside.now) (g.O.Outside.shown c.args.outside.now) c.args.self.now c.args.reader.now was work before input t.given t.done in
     let a = c.in_ok-work_items.ensures.worked was work before input t.given w in
     let u = unended_input c.rest.result work input a.0 a.1.asks c.in-Unended.field-0 c.in-Unended.is (c.rest.ensures input a.0 a.1.read) a.1.asked in
-    finished_unended c.work.result (g.O.Disk.may_leave c.work_items.new.outside) (g.O.Disk.may_leave c.work.new.outside) (g.O.Outside.shown c.work_items.new.outside) (g.O.Outside.shown c.work.new.outside) c.work_items.new.self c.work.new.self c.work_items.new.reader was work input before a.0 a.1 u (c.work.ensures.worked (work_after_all work a.1.asks) a.1.basis tt a.1.at) (c.work.ensures.left ∙ c.work_items.ensures.left ∙ t.left) t.within
+    finished_unended c.work.result (g.O.Disk.may_leave c.work_items.new.outside) (g.O.Disk.may_leave c.work.new.outside) (g.O.Outside.shown c.work_items.new.outside) (g.O.Outside.shown c.work.new.outside) c.work_items.new.self c.work.new.self c.work_items.new.reader was work input before a.0 a.1 c.in_ok-work_items.ensures.little u (c.work.ensures.worked (work_after_all work a.1.asks) a.1.basis tt a.1.at) (c.work.ensures.left ∙ c.work_items.ensures.left ∙ t.left) t.within
 
 pub returns-in-Unended-clause-any_moment : goal.returns-in-Unended-clause-any_moment
 returns-in-Unended-clause-any_moment g c = λ was work input before t.

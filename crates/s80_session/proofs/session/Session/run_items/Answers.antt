@@ -8,6 +8,7 @@ use Rattle.s80_session.proofs.Answering.{run_of_rest}
 use Rattle.s80_session.proofs.Finishing.{finished_ends}
 use Rattle.s80_session.proofs.Fronts.{first_front, first_of_all}
 use Rattle.s80_session.proofs.Marking.{both_runs, no_run}
+use Rattle.s80_session.proofs.OneGroup.{little_at_rest}
 use Rattle.s80_session.proofs.Taking.{broke_at_start, starts_done}
 use Rattle.s80_session.proofs.lemmas.Groups.{group_flushed, keeps_on, run_starts}
 use Rattle.s80_session.proofs.session.Session.run_items.Goals as goal
@@ -49,6 +50,9 @@ returns-in_err-take_all-clause-any_moment g c = λ work input before left_is at.
 
 pub returns-in_err-take_all-clause-last_run : goal.returns-in_err-take_all-clause-last_run
 returns-in_err-take_all-clause-last_run g c = c.take_all.ensures.last_run
+
+pub finish-requires-clause-little : goal.finish-requires-clause-little
+finish-requires-clause-little g c = little_at_rest c.take_all.new.self c.in_ok-take_all.ensures.resting
 
 pub returns-in_err-finish-clause-ran : goal.returns-in_err-finish-clause-ran
 returns-in_err-finish-clause-ran g c = λ work input before left_is at.

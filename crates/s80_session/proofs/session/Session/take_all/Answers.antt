@@ -5,6 +5,7 @@ use Rattle.s80_disk.proofs.lemmas.Showing.{told_beside}
 use Rattle.s80_session.specs.Session.{was_of}
 use Rattle.s80_session.proofs.Answering.{no_fewer_on, run_of_rest}
 use Rattle.s80_session.proofs.Marking.{both_runs, no_run}
+use Rattle.s80_session.proofs.OneGroup.{little_at_rest}
 use Rattle.s80_session.proofs.Works.{piece_ends, piece_flush_ends, piece_flush_run, piece_run, take_ends, take_last, take_run, takes_piece, takes_start}
 use Rattle.s80_session.proofs.session.Session.take_all.Goals as goal
 
@@ -36,6 +37,9 @@ returns-in_err-count-clause-any_moment g c = λ was work input before left_is st
 
 pub returns-in_err-count-clause-last_run : goal.returns-in_err-count-clause-last_run
 returns-in_err-count-clause-last_run g c = c.pieces.invariant.last_run
+
+pub work_piece-requires-clause-little : goal.work_piece-requires-clause-little
+work_piece-requires-clause-little g c = little_at_rest c.pieces.self c.pieces.invariant.resting
 
 pub returns-in_err-work_piece-clause-took : goal.returns-in_err-work_piece-clause-took
 returns-in_err-work_piece-clause-took g c = λ was work input before left_is start.

@@ -4,6 +4,7 @@ use Rattle.s80_disk.proofs.lemmas.Showing.{told_beside}
 use Rattle.s80_model.specs.declared.item.SessionItem.TheVariants.{Chunk}
 use Rattle.s80_session.proofs.Answering.{no_fewer_on, read_none, read_some, run_of_rest}
 use Rattle.s80_session.proofs.Marking.{both_runs, no_run, run_of_item}
+use Rattle.s80_session.proofs.OneGroup.{little_at_rest, little_below, little_same}
 use Rattle.s80_session.proofs.Works.{flush_breaks, flush_run, memory_breaks, work_breaks, work_run, works_all, works_flushed, works_item, works_same, works_start}
 use Rattle.s80_session.proofs.session.Session.work_items.Goals as goal
 
@@ -18,6 +19,7 @@ loop-item-init g c = record {
   fed = refl;
   ended = refl;
   faultless = c.requires.faultless;
+  little = c.requires.little;
 }
 
 pub returns-in_err-item-clause-worked : goal.returns-in_err-item-clause-worked
@@ -39,13 +41,13 @@ returns-in_err-work-clause-worked g c = λ was work before bytes given start.
     let x = c.loop-item.invariant.works was work before bytes given start in
     let y = works_same g.O.Disk.moment g.O.Disk.left_since g.O.Disk.may_leave g.O.Outside.shown c.args.outside.now c.args.reader.now.ended was work before bytes c.loop-item.outside c.next_item.new.outside c.loop-item.self c.next_item.new.self c.loop-item.reader x c.in_ok-item.ensures.same in
     let p = err_from_is_err_and c.from_residual-in_err-work.result c.from_residual-in_err-work.ensures.1 in
-    rw (p.1, p.2) (work_breaks g.O.Disk.moment g.O.Disk.left_since g.O.Disk.may_leave g.O.Outside.shown c.args.outside.now c.args.reader.now.ended was work before bytes c.next_item.new.outside c.next_item.new.self c.loop-item.reader c.next_item.new.reader y c.in_ok-item.field-0 c.in_ok-item.ensures.item c.next_item.ensures.ended c.work.new.outside c.work.new.self c.in-Some.item c.in-Some.is c.in_ok-item.ensures.sound (Unit {0}) _ c.next_item.new.reader.ended (c.next_item.ensures.ended ∙ c.loop-item.invariant.ended) c.in_err-work.ensures.worked)
+    rw (p.1, p.2) (work_breaks g.O.Disk.moment g.O.Disk.left_since g.O.Disk.may_leave g.O.Outside.shown c.args.outside.now c.args.reader.now.ended was work before bytes c.next_item.new.outside c.next_item.new.self c.loop-item.reader c.next_item.new.reader y (little_same c.loop-item.self c.next_item.new.self c.in_ok-item.ensures.same.0 c.loop-item.invariant.little) c.in_ok-item.field-0 c.in_ok-item.ensures.item c.next_item.ensures.ended c.work.new.outside c.work.new.self c.in-Some.item c.in-Some.is c.in_ok-item.ensures.sound (Unit {0}) _ c.next_item.new.reader.ended (c.next_item.ensures.ended ∙ c.loop-item.invariant.ended) c.in_err-work.ensures.worked)
 
 pub returns-in_err-work-clause-any_moment : goal.returns-in_err-work-clause-any_moment
 returns-in_err-work-clause-any_moment g c = λ was work before bytes given start.
     let x = c.loop-item.invariant.works was work before bytes given start in
     let y = works_same g.O.Disk.moment g.O.Disk.left_since g.O.Disk.may_leave g.O.Outside.shown c.args.outside.now c.args.reader.now.ended was work before bytes c.loop-item.outside c.next_item.new.outside c.loop-item.self c.next_item.new.self c.loop-item.reader x c.in_ok-item.ensures.same in
-    work_run g.O.Disk.moment g.O.Disk.left_since g.O.Disk.may_leave g.O.Outside.shown c.args.outside.now c.args.reader.now.ended was work before bytes c.next_item.new.outside c.next_item.new.self c.loop-item.reader c.next_item.new.reader y c.in_ok-item.field-0 c.in_ok-item.ensures.item c.next_item.ensures.ended c.work.new.outside c.work.new.self c.in-Some.item c.in-Some.is c.in_ok-item.ensures.sound c.work.ensures.any_moment
+    work_run g.O.Disk.moment g.O.Disk.left_since g.O.Disk.may_leave g.O.Outside.shown c.args.outside.now c.args.reader.now.ended was work before bytes c.next_item.new.outside c.next_item.new.self c.loop-item.reader c.next_item.new.reader y (little_same c.loop-item.self c.next_item.new.self c.in_ok-item.ensures.same.0 c.loop-item.invariant.little) c.in_ok-item.field-0 c.in_ok-item.ensures.item c.next_item.ensures.ended c.work.new.outside c.work.new.self c.in-Some.item c.in-Some.is c.in_ok-item.ensures.sound c.work.ensures.any_moment
 
 pub returns-in_err-work-clause-last_run : goal.returns-in_err-work-clause-last_run
 returns-in_err-work-clause-last_run g c = both_runs c.args.self.now c.next_item.new.self c.work.new.self (both_runs c.args.self.now c.loop-item.self c.next_item.new.self c.loop-item.invariant.last_run (run_of_rest c.loop-item.self c.next_item.new.self c.next_item.ensures.rest)) (run_of_item (Unit {0}) c.work.result (Chunk c.in-Some.item) c.next_item.new.self c.work.new.self c.work.ensures.budget c.work.ensures.last_run)
@@ -54,7 +56,7 @@ pub returns-in_err-flush-clause-worked : goal.returns-in_err-flush-clause-worked
 returns-in_err-flush-clause-worked g c = λ was work before bytes given start.
     let x = c.loop-item.invariant.works was work before bytes given start in
     let y = works_same g.O.Disk.moment g.O.Disk.left_since g.O.Disk.may_leave g.O.Outside.shown c.args.outside.now c.args.reader.now.ended was work before bytes c.loop-item.outside c.next_item.new.outside c.loop-item.self c.next_item.new.self c.loop-item.reader x c.in_ok-item.ensures.same in
-    let z = works_item g.O.Disk.moment g.O.Disk.left_since g.O.Disk.may_leave g.O.Outside.shown c.args.outside.now c.args.reader.now.ended was work before bytes c.next_item.new.outside c.next_item.new.self c.loop-item.reader c.next_item.new.reader y c.in_ok-item.field-0 c.in_ok-item.ensures.item c.next_item.ensures.ended c.work.new.outside c.work.new.self c.in-Some.item c.in-Some.is c.in_ok-item.ensures.sound c.in_ok-work.ensures.worked c.work.ensures.any_moment in
+    let z = works_item g.O.Disk.moment g.O.Disk.left_since g.O.Disk.may_leave g.O.Outside.shown c.args.outside.now c.args.reader.now.ended was work before bytes c.next_item.new.outside c.next_item.new.self c.loop-item.reader c.next_item.new.reader y (little_same c.loop-item.self c.next_item.new.self c.in_ok-item.ensures.same.0 c.loop-item.invariant.little) c.in_ok-item.field-0 c.in_ok-item.ensures.item c.next_item.ensures.ended c.work.new.outside c.work.new.self c.in-Some.item c.in-Some.is c.in_ok-item.ensures.sound c.in_ok-work.ensures.worked c.work.ensures.any_moment in
     let p = err_from_is_err_and c.from_residual-in_err-flush.result c.from_residual-in_err-flush.ensures.1 in
     rw (p.1, p.2) (flush_breaks g.O.Disk.moment g.O.Disk.left_since g.O.Disk.may_leave g.O.Outside.shown c.args.outside.now c.args.reader.now.ended was work before bytes c.work.new.outside c.flush.new.outside c.work.new.self c.flush.new.self c.next_item.new.reader z (Unit {0}) _ c.next_item.new.reader.ended (c.next_item.ensures.ended ∙ c.loop-item.invariant.ended) c.in_err-flush.ensures.flushed)
 
@@ -62,7 +64,7 @@ pub returns-in_err-flush-clause-any_moment : goal.returns-in_err-flush-clause-an
 returns-in_err-flush-clause-any_moment g c = λ was work before bytes given start.
     let x = c.loop-item.invariant.works was work before bytes given start in
     let y = works_same g.O.Disk.moment g.O.Disk.left_since g.O.Disk.may_leave g.O.Outside.shown c.args.outside.now c.args.reader.now.ended was work before bytes c.loop-item.outside c.next_item.new.outside c.loop-item.self c.next_item.new.self c.loop-item.reader x c.in_ok-item.ensures.same in
-    let z = works_item g.O.Disk.moment g.O.Disk.left_since g.O.Disk.may_leave g.O.Outside.shown c.args.outside.now c.args.reader.now.ended was work before bytes c.next_item.new.outside c.next_item.new.self c.loop-item.reader c.next_item.new.reader y c.in_ok-item.field-0 c.in_ok-item.ensures.item c.next_item.ensures.ended c.work.new.outside c.work.new.self c.in-Some.item c.in-Some.is c.in_ok-item.ensures.sound c.in_ok-work.ensures.worked c.work.ensures.any_moment in
+    let z = works_item g.O.Disk.moment g.O.Disk.left_since g.O.Disk.may_leave g.O.Outside.shown c.args.outside.now c.args.reader.now.ended was work before bytes c.next_item.new.outside c.next_item.new.self c.loop-item.reader c.next_item.new.reader y (little_same c.loop-item.self c.next_item.new.self c.in_ok-item.ensures.same.0 c.loop-item.invariant.little) c.in_ok-item.field-0 c.in_ok-item.ensures.item c.next_item.ensures.ended c.work.new.outside c.work.new.self c.in-Some.item c.in-Some.is c.in_ok-item.ensures.sound c.in_ok-work.ensures.worked c.work.ensures.any_moment in
     flush_run g.O.Disk.moment g.O.Disk.left_since g.O.Disk.may_leave g.O.Outside.shown c.args.outside.now c.args.reader.now.ended was work before bytes c.work.new.outside c.flush.new.outside c.work.new.self c.flush.new.self c.next_item.new.reader z c.flush.ensures.any_moment
 
 pub returns-in_err-flush-clause-last_run : goal.returns-in_err-flush-clause-last_run
@@ -73,7 +75,7 @@ loop-item-preserved-in-Continue-branch-4 g c = record {
   works = λ was work before bytes given start.
       let x = c.loop-item.invariant.works was work before bytes given start in
       let y = works_same g.O.Disk.moment g.O.Disk.left_since g.O.Disk.may_leave g.O.Outside.shown c.args.outside.now c.args.reader.now.ended was work before bytes c.loop-item.outside c.next_item.new.outside c.loop-item.self c.next_item.new.self c.loop-item.reader x c.in_ok-item.ensures.same in
-      let z = works_item g.O.Disk.moment g.O.Disk.left_since g.O.Disk.may_leave g.O.Outside.shown c.args.outside.now c.args.reader.now.ended was work before bytes c.next_item.new.outside c.next_item.new.self c.loop-item.reader c.next_item.new.reader y c.in_ok-item.field-0 c.in_ok-item.ensures.item c.next_item.ensures.ended c.work.new.outside c.work.new.self c.in-Some.item c.in-Some.is c.in_ok-item.ensures.sound c.in_ok-work.ensures.worked c.work.ensures.any_moment in
+      let z = works_item g.O.Disk.moment g.O.Disk.left_since g.O.Disk.may_leave g.O.Outside.shown c.args.outside.now c.args.reader.now.ended was work before bytes c.next_item.new.outside c.next_item.new.self c.loop-item.reader c.next_item.new.reader y (little_same c.loop-item.self c.next_item.new.self c.in_ok-item.ensures.same.0 c.loop-item.invariant.little) c.in_ok-item.field-0 c.in_ok-item.ensures.item c.next_item.ensures.ended c.work.new.outside c.work.new.self c.in-Some.item c.in-Some.is c.in_ok-item.ensures.sound c.in_ok-work.ensures.worked c.work.ensures.any_moment in
       works_flushed g.O.Disk.moment g.O.Disk.left_since g.O.Disk.may_leave g.O.Outside.shown c.args.outside.now c.args.reader.now.ended was work before bytes c.work.new.outside c.flush.new.outside c.work.new.self c.flush.new.self c.next_item.new.reader z c.in_ok-flush.ensures.flushed c.flush.ensures.any_moment c.flush.ensures.rest;
   reading =
       let some = c.loop-item.invariant.reading in
@@ -85,6 +87,7 @@ loop-item-preserved-in-Continue-branch-4 g c = record {
   fed = c.next_item.ensures.fed ∙ c.loop-item.invariant.fed;
   ended = c.next_item.ensures.ended ∙ c.loop-item.invariant.ended;
   faultless = c.in_ok-flush.ensures.resting.faultless;
+  little = little_at_rest c.flush.new.self c.in_ok-flush.ensures.resting;
 }
 
 pub loop-item-preserved : goal.loop-item-preserved
@@ -92,7 +95,7 @@ loop-item-preserved g c = record {
   works = λ was work before bytes given start.
       let x = c.loop-item.invariant.works was work before bytes given start in
       let y = works_same g.O.Disk.moment g.O.Disk.left_since g.O.Disk.may_leave g.O.Outside.shown c.args.outside.now c.args.reader.now.ended was work before bytes c.loop-item.outside c.next_item.new.outside c.loop-item.self c.next_item.new.self c.loop-item.reader x c.in_ok-item.ensures.same in
-      let z = works_item g.O.Disk.moment g.O.Disk.left_since g.O.Disk.may_leave g.O.Outside.shown c.args.outside.now c.args.reader.now.ended was work before bytes c.next_item.new.outside c.next_item.new.self c.loop-item.reader c.next_item.new.reader y c.in_ok-item.field-0 c.in_ok-item.ensures.item c.next_item.ensures.ended c.work.new.outside c.work.new.self c.in-Some.item c.in-Some.is c.in_ok-item.ensures.sound c.in_ok-work.ensures.worked c.work.ensures.any_moment in
+      let z = works_item g.O.Disk.moment g.O.Disk.left_since g.O.Disk.may_leave g.O.Outside.shown c.args.outside.now c.args.reader.now.ended was work before bytes c.next_item.new.outside c.next_item.new.self c.loop-item.reader c.next_item.new.reader y (little_same c.loop-item.self c.next_item.new.self c.in_ok-item.ensures.same.0 c.loop-item.invariant.little) c.in_ok-item.field-0 c.in_ok-item.ensures.item c.next_item.ensures.ended c.work.new.outside c.work.new.self c.in-Some.item c.in-Some.is c.in_ok-item.ensures.sound c.in_ok-work.ensures.worked c.work.ensures.any_moment in
       z;
   reading =
       let some = c.loop-item.invariant.reading in
@@ -104,13 +107,14 @@ loop-item-preserved g c = record {
   fed = c.next_item.ensures.fed ∙ c.loop-item.invariant.fed;
   ended = c.next_item.ensures.ended ∙ c.loop-item.invariant.ended;
   faultless = c.in_ok-work.ensures.faultless;
+  little = little_below c.is_full.result c.work.new.self c.is_full.ensures hole;
 }
 
 pub returns-clause-worked : goal.returns-clause-worked
 returns-clause-worked g c = λ was work before bytes given start.
     let x = c.loop-item.invariant.works was work before bytes given start in
     let y = works_same g.O.Disk.moment g.O.Disk.left_since g.O.Disk.may_leave g.O.Outside.shown c.args.outside.now c.args.reader.now.ended was work before bytes c.loop-item.outside c.next_item.new.outside c.loop-item.self c.next_item.new.self c.loop-item.reader x c.in_ok-item.ensures.same in
-    works_all g.O.Disk.moment g.O.Disk.left_since g.O.Disk.may_leave g.O.Outside.shown c.args.outside.now c.args.reader.now.ended was work before bytes c.next_item.new.outside c.next_item.new.self c.loop-item.reader c.next_item.new.reader y c.in_ok-item.field-0 c.in_ok-item.ensures.item c.next_item.ensures.ended c.in_default.is c.in_ok-item.ensures.none
+    works_all g.O.Disk.moment g.O.Disk.left_since g.O.Disk.may_leave g.O.Outside.shown c.args.outside.now c.args.reader.now.ended was work before bytes c.next_item.new.outside c.next_item.new.self c.loop-item.reader c.next_item.new.reader y (little_same c.loop-item.self c.next_item.new.self c.in_ok-item.ensures.same.0 c.loop-item.invariant.little) c.in_ok-item.field-0 c.in_ok-item.ensures.item c.next_item.ensures.ended c.in_default.is c.in_ok-item.ensures.none
 
 pub returns-clause-any_moment : goal.returns-clause-any_moment
 returns-clause-any_moment g c = λ was work before bytes given start.
@@ -120,6 +124,9 @@ returns-clause-any_moment g c = λ was work before bytes given start.
 
 pub returns-clause-last_run : goal.returns-clause-last_run
 returns-clause-last_run g c = both_runs c.args.self.now c.loop-item.self c.next_item.new.self c.loop-item.invariant.last_run (run_of_rest c.loop-item.self c.next_item.new.self c.next_item.ensures.rest)
+
+pub returns-clause-little : goal.returns-clause-little
+returns-clause-little g c = little_same c.loop-item.self c.next_item.new.self c.in_ok-item.ensures.same.0 c.loop-item.invariant.little
 
 pub returns-clause-reading : goal.returns-clause-reading
 returns-clause-reading g c =

@@ -3,7 +3,7 @@ use Rattle.s80_chunk.specs.declared.item.Item.{Item}
 use Rattle.s80_chunk.specs.Held.{fed, work_of}
 use Rattle.s80_model.specs.Replies.{Work}
 use Rattle.s80_session.specs.Ending.{NoFewer}
-use Rattle.s80_session.specs.Session.{IsFaultless, RunSince, Was}
+use Rattle.s80_session.specs.Session.{HasLittle, IsFaultless, RunSince, Was}
 use Rattle.s80_session.specs.Working.{HasReadSome, IsWorking}
 use Rattle.s80_session.proofs.Works.{Works}
 use Rattle.s80_session.proofs.session.Session.work_items.Given as goal
@@ -20,6 +20,7 @@ invariant-loop-item g l = record {
   fed : fed l.reader ≡ fed l.fn.reader;
   ended : l.reader.ended ≡ l.fn.reader.ended;
   faultless : IsFaultless l.self;
+  little : HasLittle l.self;
 }
 
 abbrev pub decreases-loop-item : goal.decreases-loop-item

@@ -20,6 +20,7 @@ loop-done-init g c = record {
   room = c.requires.room;
   opened = c.requires.open;
   faultless = c.requires.faultless;
+  little = c.requires.little;
 }
 
 pub work_items-requires-clause-reading : goal.work_items-requires-clause-reading
@@ -42,6 +43,7 @@ loop-done-preserved g c = record {
   room = c.in_ok-work_items.ensures.spent.1;
   opened = c.work_items.ensures.ended ∙ c.feed-count.ensures.open;
   faultless = c.in_ok-work_items.ensures.faultless;
+  little = c.in_ok-work_items.ensures.little;
 }
 
 pub returns-in_err-work_items-clause-worked : goal.returns-in_err-work_items-clause-worked

@@ -3,7 +3,7 @@ use Rattle.s80_chunk.specs.declared.item.Item.{Item}
 use Rattle.s80_chunk.specs.Held.{fed}
 use Rattle.s80_model.specs.Replies.{Work}
 use Rattle.s80_session.specs.Ending.{NoFewer}
-use Rattle.s80_session.specs.Session.{IsFaultless, RunSince, Was}
+use Rattle.s80_session.specs.Session.{HasLittle, IsFaultless, RunSince, Was}
 use Rattle.s80_session.specs.Working.{HasReadSome, IsWorking}
 use Rattle.s80_session.proofs.Works.{Feeds}
 use Rattle.s80_session.proofs.session.Session.work_piece.Given as goal
@@ -22,6 +22,7 @@ invariant-loop-done g l = record {
   room : l.reader.room ≡ 4096;
   opened : l.reader.ended ≡ false;
   faultless : IsFaultless l.self;
+  little : HasLittle l.self;
 }
 
 abbrev pub decreases-loop-done : goal.decreases-loop-done
