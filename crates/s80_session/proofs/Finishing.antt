@@ -1,5 +1,5 @@
 -- The end of an input.
-use Rattle.std.proofs.Common.{◌≡◌, inl, inr, ℕ, ◌≤◌, List, [], ◌∷◌, ◌++◌, length, refl, sym, subst, ◌∙◌, Result, Ok, Err, Option, Some}
+use Rattle.std.proofs.Common.{arith, ◌≡◌, inl, inr, ℕ, ◌≤◌, List, [], ◌∷◌, ◌++◌, length, refl, sym, subst, ◌∙◌, Result, Ok, Err, Option, Some}
 use Rattle.s80_chunk.specs.declared.item.Item.{Item}
 use Rattle.s80_chunk.specs.declared.rest.Rest.{Rest}
 use Rattle.s80_chunk.specs.declared.rest.Rest.TheVariants as rests
@@ -15,7 +15,7 @@ use Rattle.s80_model.specs.Asked.{Ask}
 use Rattle.s80_model.specs.Replies.{Work, AllAsk, AsksIn, work_after_all, any_trouble}
 use Rattle.s80_session.specs.LastRun.{RunBehindAll}
 use Rattle.s80_session.specs.Run.{chunks, ItemsOf, FirstAsksOf, Ends, input_limit}
-use Rattle.s80_session.specs.Session.{Was, HasSameRest, last_run_of, troubled_of, was_of}
+use Rattle.s80_session.specs.Session.{Was, HasLittle, HasSameRest, last_run_of, troubled_of, was_of}
 use Rattle.s80_session.specs.Working.{Finishes, Flushed, IsAt, IsFinished, IsWorking, Worked}
 use Rattle.s80_session.proofs.Answering.{asks_more, run_by_now, troubled_by_now}
 use Rattle.s80_session.proofs.Fronts.{first_front, first_of_all}

@@ -44,7 +44,7 @@ put_longer work before asks others =
 -- ---- what the session stands on
 
 -- at rest
-pub behind_done : (work : Work) (before : List ℕ) (asks : List Ask) → IsBehind work before asks (at_rest (work_after_all work asks) (before ++ replies work asks))
+abbrev pub behind_done : (work : Work) (before : List ℕ) (asks : List Ask) → IsBehind work before asks (at_rest (work_after_all work asks) (before ++ replies work asks))
 behind_done work before asks = record {
   answered = asks;
   more = [];
@@ -64,7 +64,7 @@ module _ (work : Work) (before : List ℕ) (asks : List Ask) (ask : Ask) (basis 
   put_more = ap (λ l. l ++ line) b.held ∙ append_assoc before (replies work asks) line ∙ ap (λ l. before ++ l) (sym (replies_more work asks ask))
 
   -- a reply more is held
-  behind_held : IsBehind work before (asks ++ ask ∷ []) (holding basis line)
+  abbrev behind_held : IsBehind work before (asks ++ ask ∷ []) (holding basis line)
   behind_held = record {
     answered = b.answered;
     more = b.more;
@@ -77,7 +77,7 @@ module _ (work : Work) (before : List ℕ) (asks : List Ask) (ask : Ask) (basis 
   }
 
   -- behind a flush
-  behind_flushed : IsBehind work before (asks ++ ask ∷ []) (holding (at_rest (work_after (work_after_all work asks) ask) (basis.put ++ basis.held)) line)
+  abbrev behind_flushed : IsBehind work before (asks ++ ask ∷ []) (holding (at_rest (work_after (work_after_all work asks) ask) (basis.put ++ basis.held)) line)
   behind_flushed = record {
     answered = asks;
     more = ask ∷ [];

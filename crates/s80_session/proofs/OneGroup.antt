@@ -2,12 +2,11 @@
 use Rattle.std.proofs.Common.{◌≡◌, ℕ, ◌+◌, ◌<◌, ◌≤◌, List, [], ◌∷◌, ◌++◌, length, Bool, true, false, true≢false, refl, sym, ap, subst, ◌∙◌, length-append, arith}
 use Rattle.std.specs.Prelude.{◌||◌, nat_le}
 use Rattle.std.proofs.lemmas.Bool.{leb-false}
-use Rattle.std.proofs.lemmas.List.{append-nil, flat_map-append}
-use Rattle.s80_change.specs.Block.{block, blocks}
+use Rattle.std.proofs.lemmas.List.{append-nil}
+use Rattle.s80_change.specs.Block.{blocks}
 use Rattle.s80_disk.specs.Image.{Image}
 use Rattle.s80_disk.specs.Shown.{Shown}
 use Rattle.s80_keeper.specs.Keeper.{pending_of}
-use Rattle.s80_keeper.proofs.Keeping.{pending_is}
 use Rattle.s80_model.specs.Asked.{Ask}
 use Rattle.s80_model.specs.Replies.{Work, work_after_all, list_after_all, replies}
 use Rattle.s80_session.specs.declared.session.Session.{Session}
@@ -64,12 +63,10 @@ module _ (may_leave : Image → Type 0) (o : Shown) (session : Session) (work : 
 
   pending_little : length (blocks (list_after_all work ((b.answered ++ b.more) ++ b.pending))) < length (blocks (list_after_all work (b.answered ++ b.more))) + group_limit
   pending_little =
-      let front = at.keeps.front in
+      let holds = at.keeps.holds in
       let same = ap (λ l. length (blocks (list_after_all work l))) b.all in
       let kept = ap (λ l. length (blocks l)) b.kept in
-      let parts = ap (λ l. length (blocks l)) front.1 ∙ ap length (flat_map-append block basis.kept front.0) ∙ length-append (blocks basis.kept) (blocks front.0) in
-      let pending = pending_is o.tells o.files may_leave (keeper_of session) basis.kept (list_after_all work asks) at.keeps front.0 front.1 in
-      omega (arith, same, kept, parts, pending, little.pending)
+      omega (arith, same, kept, holds.whole, holds.stands.files.whole, little.pending)
 
   pub group_little : (last : List Ask) → length last ≤ 1 → IsOneGroup work (asks ++ last) (length (replies work b.answered))
   group_little last one = record {

@@ -107,7 +107,7 @@ loop-item-preserved g c = record {
   fed = c.next_item.ensures.fed ∙ c.loop-item.invariant.fed;
   ended = c.next_item.ensures.ended ∙ c.loop-item.invariant.ended;
   faultless = c.in_ok-work.ensures.faultless;
-  little = little_below c.is_full.result c.work.new.self c.is_full.ensures hole;
+  little = little_below c.is_full.result c.work.new.self c.is_full.ensures c.if-is_full.false;
 }
 
 pub returns-clause-worked : goal.returns-clause-worked
