@@ -1,0 +1,3 @@
+pub mod Condensed
+pub mod Moment
+pub mod FileText
