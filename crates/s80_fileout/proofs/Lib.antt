@@ -13,4 +13,9 @@ pub mod Held
 pub mod ManyCells
 pub mod MethodsPart
 pub mod OfMethod
-pub mod Canon
+pub mod Condensing
+pub mod SetBegun
+pub mod Putting
+pub mod KeptVersions
+pub mod KeptOnce
+pub mod FoldsBack

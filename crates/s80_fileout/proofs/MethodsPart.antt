@@ -36,7 +36,7 @@ by_side {P} s t same other = go (same_side s t) refl
     go true is = same (side_same s t is)
     go false is = other (λ e. true≢false (sym (side_itself t) ∙ ap (λ r. same_side r t) (sym e) ∙ is))
 
-by_cell : {P : Type 0} (c q : Cell) → (q ≡ c → P) → (q ≢ c → P) → P
+pub by_cell : {P : Type 0} (c q : Cell) → (q ≡ c → P) → (q ≢ c → P) → P
 by_cell c q same other = by_bytes q.0 c.0 (λ class. by_side q.1 c.1 (λ side. by_bytes q.2 c.2 (λ selector. same (λ i. (class i, side i, selector i))) (λ ne. other (λ e. ne (ap (λ (x : Cell). x.2) e))))
     (λ ne. other (λ e. ne (ap (λ (x : Cell). x.1) e)))) (λ ne. other (λ e. ne (ap (λ (x : Cell). x.0) e)))
 

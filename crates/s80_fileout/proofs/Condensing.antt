@@ -1,24 +1,23 @@
 -- A condensed list is accepted, and makes the state.
-use Rattle.std.proofs.Common.{◌≡◌, ◌∙◌, ◌++◌, ℕ, true, false, Bool, cond, refl, sym, ap, subst, List, [], ◌∷◌}
+use Rattle.std.proofs.Common.{◌≡◌, ◌∙◌, ◌++◌, ℕ, refl, ap, List, [], ◌∷◌}
 use Rattle.std.specs.FinMap as map
 use Rattle.s80_base.specs.declared.names.Side.{Side}
 use Rattle.s80_change.specs.declared.change.Change.{Change}
 use Rattle.s80_change.specs.declared.change.Change.TheVariants.{Form}
 use Rattle.s80_form.specs.declared.form.Form.TheVariants.{NoChanges}
 use Rattle.s80_class.specs.Classes.{Name}
-use Rattle.s80_apply.specs.List.{AreAccepted, IsBuilt, state_from, state_of}
+use Rattle.s80_apply.specs.List.{state_of}
 use Rattle.s80_apply.specs.State.{MethodRow, State, kernel_state}
 use Rattle.s80_apply.proofs.LastingKernel.{stands_last}
 use Rattle.s80_apply.proofs.LastingWithin.{within_last}
-use Rattle.s80_fileout.specs.Condensed.{canon, condensed_with, for_methods, kernel_part, of_method, own_part}
-use Rattle.s80_fileout.proofs.Leading.{Leads, leads_one, leads_then, leads_weaker}
-use Rattle.s80_fileout.proofs.Cells.{Cell, in_cell}
-use Rattle.s80_fileout.proofs.KernelPart.{IsSettled, left_cell, leads_kernel_part}
+use Rattle.s80_fileout.specs.Condensed.{condensed_with, for_methods, kernel_part, own_part}
+use Rattle.s80_fileout.proofs.Leading.{Leads, leads_one, leads_then}
+use Rattle.s80_fileout.proofs.Cells.{Cell}
+use Rattle.s80_fileout.proofs.KernelPart.{IsSettled, leads_kernel_part}
 use Rattle.s80_fileout.proofs.OwnRows.{few_last, own_last}
 use Rattle.s80_fileout.proofs.OwnPart.{AllMade, leads_own_part}
 use Rattle.s80_fileout.proofs.Held.{held_last}
 use Rattle.s80_fileout.proofs.MethodsPart.{SetsEach, leads_methods_part}
-use Rattle.s80_fileout.proofs.OfMethod.{of_method_sets}
 
 module _ (changes : List Change) (method : Name → Side → List ℕ → MethodRow → List Change) (sets : SetsEach (state_of changes) method) where
   abbrev final : State
@@ -35,9 +34,3 @@ module _ (changes : List Change) (method : Name → Side → List ℕ → Method
       leads_then (for_methods method final) (Form NoChanges ∷ []) t IsFinal IsFinal
       (leads_methods_part final (held_last changes) method sets t made.classes (λ c. ap (λ m. map.get (m c.0 c.1) c.2) made.methods ∙ (settled c.0).methods c.1 c.2)) (λ u is.
       leads_one (Form NoChanges) u u IsFinal refl is)))
-
-pub canon_built : (changes : List Change) → IsBuilt (canon (state_of changes))
-canon_built changes = (leads_condensed changes of_method (of_method_sets (state_of changes))).0
-
-pub canon_makes : (changes : List Change) → state_of (canon (state_of changes)) ≡ state_of changes
-canon_makes changes = (leads_condensed changes of_method (of_method_sets (state_of changes))).1
