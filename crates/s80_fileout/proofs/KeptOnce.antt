@@ -121,7 +121,7 @@ module _ (count : ℕ) (cs : List Change) where
   mine x = of_versions count cs x.0 x.1 x.2 x.3
 
   -- those of its cell are its newest versions
-  newest_are : (c : Cell) → newest count cs (name_of c) ≡ reverse (take count (versions cs c))
+  pub newest_are : (c : Cell) → newest count cs (name_of c) ≡ reverse (take count (versions cs c))
   newest_are c = ap (λ vs. reverse (take count vs)) (versions_are cs c)
 
   newest_put : (c : Cell) (x : Change) → IsIn x (newest count cs (name_of c)) → PutsCell c x

@@ -4,7 +4,6 @@ use Rattle.std.specs.FinMap as map
 use Rattle.std.specs.Str.{bytes_eq}
 use Rattle.std.specs.Cmp.Lexicographic.{nat_list_cmp_total}
 use Rattle.s80_base.specs.declared.names.Side.{Side}
-use Rattle.s80_kernel.specs.Methods.{KernelMethodRow, found_method}
 use Rattle.s80_change.specs.declared.change.Change.{Change}
 use Rattle.s80_change.specs.declared.change.Change.TheVariants as changes
 use Rattle.s80_change.specs.declared.change.Method.{Method as MethodChange}
@@ -12,13 +11,13 @@ use Rattle.s80_class.specs.Classes.{Name, Classes}
 use Rattle.s80_history.specs.Lists.{Placed, puts, versions_of}
 use Rattle.s80_apply.specs.Accept.{accept, len_with}
 use Rattle.s80_apply.specs.List.{IsBuilt, state_of}
-use Rattle.s80_apply.specs.State.{MethodRow, State, kernel_method, kernel_state, on_class_side, put_method}
+use Rattle.s80_apply.specs.State.{MethodRow, State, kernel_state, put_method}
 use Rattle.s80_fileout.specs.Condensed.{category_put, classified, first_category, kernel_category, newest, of_versions}
 use Rattle.s80_fileout.proofs.Elements.{IsIn, filter_passed}
 use Rattle.s80_fileout.proofs.Keyed.{get_put_here}
 use Rattle.s80_fileout.proofs.Leading.{Leads, leads_first, leads_then, leads_weaker}
 use Rattle.s80_fileout.proofs.Cells.{Cell, in_cell, is_place, method_accepted, place_itself, put_elsewhere, put_here}
-use Rattle.s80_fileout.proofs.KernelCells.{kernel_cell}
+use Rattle.s80_fileout.proofs.KernelCells.{kernel_category_is}
 use Rattle.s80_fileout.proofs.MethodsPart.{IsSet, SetsEach}
 use Rattle.s80_fileout.proofs.OfMethod.{leads_classified}
 use Rattle.s80_fileout.proofs.Putting.{IsFrom, PutsCell, built_from, in_reversed, name_of, puts_told, reverse_cons, versions, versions_are}
@@ -81,13 +80,6 @@ put_category c change p = ap category_put p.is
 from_text : (c : Cell) (change : Change) (older : List Change) (p : PutsCell c change) (source : List ℕ) → IsFrom c (change ∷ older) source → p.method.source.text ≡ source
 from_text c change older p source from = subst (λ x. IsFrom c (x ∷ older) source) p.is from
 
-old_category : (c : Cell) (old : MethodRow) → in_cell c kernel_state ≡ Some old → old.category ≡ kernel_category
-old_category c old is = go (found_method c.0 (on_class_side c.1) c.2) (sym (kernel_cell c) ∙ is)
-  where
-    go : (o : Option KernelMethodRow) → option_map kernel_method o ≡ Some old → old.category ≡ kernel_category
-    go None bad = absurd (let none : None ≡ Some old = bad in cc)
-    go (Some k) here = let same : kernel_method k ≡ old = cc in ap (λ (r : MethodRow). r.category) (sym same)
-
 module _ (c : Cell) (row : MethodRow) (s : State) (known : map.contains_key s.classes c.0 ≡ true) (room : len_with c.2 (s.methods c.0 c.1) ≤ 16384) (as_kernel : in_cell c s ≡ in_cell c kernel_state) where
   abbrev after : ℕ → List Change → List Change
   after count vs = reverse (take count vs) ++ classified c.0 c.1 c.2 (first_category vs) row.category
@@ -96,7 +88,7 @@ module _ (c : Cell) (row : MethodRow) (s : State) (known : map.contains_key s.cl
   leads_versions zero some vs each from = absurd (omega (arith, some))
   leads_versions (suc n) some [] each from =
       let old = from.0 in
-      subst (λ category. Leads s (classified c.0 c.1 c.2 category row.category) (IsSet c row s)) (old_category c old from.1)
+      subst (λ category. Leads s (classified c.0 c.1 c.2 category row.category) (IsSet c row s)) (kernel_category_is c old from.1)
       (leads_classified c row s known old (as_kernel ∙ from.1) from.2)
   leads_versions (suc n) some (v ∷ vs) each from =
       let p = each v (inl refl) in

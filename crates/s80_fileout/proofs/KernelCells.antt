@@ -1,5 +1,5 @@
 -- The kernel's classes and methods, as they are looked up.
-use Rattle.std.proofs.Common.{◌≡◌, ◌≢◌, ◌∙◌, ◌&&◌, ◌||◌, ◌+◌, ◌≤◌, ℕ, Bool, cond, true, false, not, find, refl, sym, ap, subst, List, [], ◌∷◌, length, map as list_map, Option, Some, None, is_some, option_map, true≢false, arith}
+use Rattle.std.proofs.Common.{◌≡◌, ◌≢◌, ◌∙◌, ◌&&◌, ◌||◌, ◌+◌, ◌≤◌, ℕ, Bool, cond, true, false, nat_le, not, find, codes, refl, sym, ap, subst, List, [], ◌∷◌, length, map as list_map, Option, Some, None, is_some, option_map, true≢false, arith}
 use Rattle.std.specs.List.{list_all}
 use Rattle.std.specs.Bool.{beq}
 use Rattle.std.specs.Cmp.{booleans_Decides}
@@ -17,8 +17,8 @@ use Rattle.s80_class.specs.Classes.{Name, ClassRow, Classes}
 use Rattle.s80_apply.specs.Kernel.{kernel_classes, kernel_row}
 use Rattle.s80_apply.specs.State.{MethodRow, State, kernel_method, kernel_state, no_methods, on_class_side, put_kernel_methods, put_method, side_of}
 use Rattle.s80_apply.proofs.Booted.{built, built_has}
-use Rattle.s80_apply.proofs.LastingKernel.{has_row}
-use Rattle.s80_fileout.proofs.Keyed.{by_found, contained, get_put, no_value, same_named}
+use Rattle.s80_apply.proofs.LastingKernel.{has_row, most_of}
+use Rattle.s80_fileout.proofs.Keyed.{by_found, contained, get_put, no_value, one_value}
 use Rattle.s80_fileout.proofs.Cells.{Cell, in_cell, is_place, put_here, put_elsewhere}
 
 -- ---- classes
@@ -160,6 +160,50 @@ not_found c is = none_of_class kernel_methods c all_of_classes is
 -- and a class that isn't the kernel's has none
 pub no_kernel_cell : (c : Cell) → is_kernel_class c.0 ≡ false → in_cell c kernel_state ≡ None
 no_kernel_cell c is = kernel_cell c ∙ ap (option_map kernel_method) (not_found c is)
+
+-- ---- how long their names are
+
+short_rows : list_all (λ row. nat_le (length row.name) 100) kernel_rows ≡ true
+short_rows = refl
+
+short_selectors : list_all (λ k. nat_le (length k.selector) 100) kernel_methods ≡ true
+unfolding kernel_methods
+short_selectors = refl
+
+short_among : (rows : List KernelRow) (q : Name) → list_all (λ row. nat_le (length row.name) 100) rows ≡ true → has_name rows q ≡ true → nat_le (length q) 100 ≡ true
+short_among [] q all has = absurd (true≢false (sym has))
+short_among (row ∷ rows) q all has =
+    let parts = and_parts (nat_le (length row.name) 100) (list_all (λ row. nat_le (length row.name) 100) rows) all in
+    elim (bytes_eq row.name q) as (λ b. bytes_eq row.name q ≡ b → (b || has_name rows q) ≡ true → nat_le (length q) 100 ≡ true) [
+      | true ↦ λ is _. ap (λ name. nat_le (length name) 100) (sym ((bytes_decides row.name q).0 is)) ∙ parts.0
+      | false ↦ λ _ more. short_among rows q parts.1 more
+    ] refl has
+
+pub kernel_name_short : (name : Name) (row : ClassRow) → map.get kernel_classes name ≡ Some row → length name ≤ 100
+kernel_name_short name row is = most_of (length name) 100 (short_among kernel_rows name short_rows (has_row name row is))
+
+found_short : (ks : List KernelMethodRow) (c : Cell) (k : KernelMethodRow) → list_all (λ k. nat_le (length k.selector) 100) ks ≡ true → find (passes c) ks ≡ Some k → nat_le (length c.2) 100 ≡ true
+found_short [] c k all is = absurd (let bad : None ≡ Some k = is in cc)
+found_short (j ∷ ks) c k all is =
+    let parts = and_parts (nat_le (length j.selector) 100) (list_all (λ k. nat_le (length k.selector) 100) ks) all in
+    elim (passes c j) as (λ b. passes c j ≡ b → cond b (Some j) (find (passes c) ks) ≡ Some k → nat_le (length c.2) 100 ≡ true) [
+      | true ↦ λ here _. ap (λ (d : Cell). nat_le (length d.2) 100) (named c j here) ∙ parts.0
+      | false ↦ λ _ more. found_short ks c k parts.1 more
+    ] refl is
+
+method_short : (c : Cell) (k : KernelMethodRow) → found_method c.0 (on_class_side c.1) c.2 ≡ Some k → nat_le (length c.2) 100 ≡ true
+unfolding found_method
+method_short c k is = found_short kernel_methods c k short_selectors is
+
+pub kernel_selector_short : (c : Cell) (row : MethodRow) → in_cell c kernel_state ≡ Some row → length c.2 ≤ 100
+kernel_selector_short c row is = by_found (found_method c.0 (on_class_side c.1) c.2)
+    (λ none. no_value (in_cell c kernel_state) row (kernel_cell c ∙ ap (option_map kernel_method) none) is)
+    (λ k found. most_of (length c.2) 100 (method_short c k found))
+
+pub kernel_category_is : (c : Cell) (row : MethodRow) → in_cell c kernel_state ≡ Some row → row.category ≡ codes "kernel"
+kernel_category_is c row is = by_found (found_method c.0 (on_class_side c.1) c.2)
+    (λ none. no_value (in_cell c kernel_state) row (kernel_cell c ∙ ap (option_map kernel_method) none) is)
+    (λ k found. let both : kernel_method k ≡ row = one_value (in_cell c kernel_state) (kernel_method k) row (kernel_cell c ∙ ap (option_map kernel_method) found) is in ap (λ (r : MethodRow). r.category) (sym both))
 
 -- ---- how many they are
 

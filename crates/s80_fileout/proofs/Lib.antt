@@ -18,4 +18,9 @@ pub mod SetBegun
 pub mod Putting
 pub mod KeptVersions
 pub mod KeptOnce
+pub mod Brief
+pub mod LawfulList
+pub mod SoundParts
+pub mod KeptCategories
+pub mod KeptSound
 pub mod FoldsBack

@@ -136,7 +136,7 @@ abbrev AreFrom : List Change → State → Type 0
 AreFrom cs s = (c : Cell) (row : MethodRow) → in_cell c s ≡ Some row → IsFrom c (versions cs c) row.source
 
 -- one change more
-versions_more : (cs : List Change) (change : Change) (c : Cell) → versions (cs ++ change ∷ []) c ≡ cond (puts (name_of c) change) (change ∷ versions cs c) (versions cs c)
+pub versions_more : (cs : List Change) (change : Change) (c : Cell) → versions (cs ++ change ∷ []) c ≡ cond (puts (name_of c) change) (change ∷ versions cs c) (versions cs c)
 versions_more cs change c = ap reverse (filter-append (puts (name_of c)) cs (change ∷ [])) ∙ go (puts (name_of c) change)
   where
     go : (b : Bool) → reverse (filter (puts (name_of c)) cs ++ cond b (change ∷ []) []) ≡ cond b (change ∷ versions cs c) (versions cs c)
