@@ -11,7 +11,7 @@ use Rattle.s80_form.specs.declared.refusal.Refusal.{Refusal}
 use Rattle.s80_class.specs.Classes.{Name, change_row, with_class_side_vars, with_comment}
 use Rattle.s80_apply.specs.State.{MethodRow, State, put_method, take_class, take_method}
 use Rattle.s80_apply.specs.Accept.{accept, accept_checked, accepted, classify, define, first_some, keeping_rows, no_method, put_source, refusal_of, refusal_of_class_vars, refusal_of_removal, too_many_methods, unknown_name}
-use Rattle.s80_apply.specs.List.{AreAccepted, IsAccepted, state_after, state_from, state_or}
+use Rattle.s80_apply.specs.List.{state_after, state_from, state_or}
 use Rattle.s80_apply.proofs.Passing.{known_name, method_there, none_first}
 use Rattle.s80_fileout.proofs.Cells.{in_cell}
 use Rattle.s80_fileout.proofs.Keyed.{contained}

@@ -1,23 +1,19 @@
 -- The names and texts in the state of a list of lawful changes are brief, and its methods are the kernel's or lawful.
-use Rattle.std.proofs.Common.{◌≡◌, ◌≢◌, ◌⊎◌, inl, inr, ◌∙◌, ◌≤◌, ◌<◌, ◌^◌, ◌&&◌, ℕ, Bool, cond, true, false, refl, sym, ap, subst, List, [], ◌∷◌, length, Option, Some, None, Result, Ok, Err, true≢false, codes, arith}
+use Rattle.std.proofs.Common.{◌≡◌, ◌⊎◌, inl, inr, ◌∙◌, ◌≤◌, ℕ, Bool, cond, true, false, refl, sym, ap, subst, List, [], ◌∷◌, length, Option, Some, None, Result, Ok, Err, true≢false, arith}
 use Rattle.std.specs.List.{All}
 use Rattle.std.specs.Str.{bytes_eq}
 use Rattle.std.specs.Ordering.{nat_cmp}
 use Rattle.std.specs.Cmp.Lexicographic.{slice_cmp}
 use Rattle.std.specs.FinMap as map
 use Rattle.std.proofs.lemmas.List.Elements.{All-nil, All-head, All-tail}
-use Rattle.s80_base.specs.declared.names.Side.{Side}
 use Rattle.s80_chunk.specs.Chunks.{IsChunkText, longest}
 use Rattle.s80_kernel.specs.Rows.{is_kernel_class}
 use Rattle.s80_form.specs.declared.definition.Definition.{Definition}
-use Rattle.s80_form.specs.declared.form.Form.TheVariants.{Define, ClassVars, Comment, RemoveMethod, Classify, RemoveClass, NoChanges}
 use Rattle.s80_form.specs.declared.refusal.Refusal.{Refusal}
 use Rattle.s80_form.specs.Definition.{IsBriefDefinition}
 use Rattle.s80_form.specs.Name.{IsBrief, AreBrief}
 use Rattle.s80_change.specs.declared.change.Change.{Change}
-use Rattle.s80_change.specs.declared.change.Change.TheVariants as changes
-use Rattle.s80_change.specs.declared.change.Method.{Method as MethodChange}
-use Rattle.s80_change.specs.Block.{IsLawful, IsLawfulMethod}
+use Rattle.s80_change.specs.Block.{IsLawful}
 use Rattle.s80_change.specs.Check.{IsCheckOf}
 use Rattle.s80_class.specs.Classes.{Name, ClassRow, Classes, change_row, with_class_side_vars, with_comment}
 use Rattle.s80_class.proofs.lemmas.Changed.{changed_absent, changed_elsewhere, changed_here}
@@ -30,7 +26,7 @@ use Rattle.s80_fileout.proofs.Keyed.{by_bytes, by_found, get_put_here, get_put_o
 use Rattle.s80_fileout.proofs.Cells.{Cell, in_cell, put_elsewhere, put_here, taken_elsewhere, taken_here}
 use Rattle.s80_fileout.proofs.KernelCells.{kernel_bare, kernel_category_is, kernel_name_short, kernel_state_classes, there_kernel_class}
 use Rattle.s80_fileout.proofs.MethodsPart.{by_cell}
-use Rattle.s80_fileout.proofs.Accepting.{Cases, by_case, with_method}
+use Rattle.s80_fileout.proofs.Accepting.{Cases, by_case}
 
 -- ---- what lists of lawful changes keep
 
@@ -101,9 +97,9 @@ module _ (d : Definition) (s : State) (definition : IsBriefDefinition d) (brief 
   defined_brief = record {
     rows = λ name row is. by_bytes name d.class_name
         (λ same.
-            let made : ClassRow = row_of d (map.get s.classes d.class_name) in
-            let here : made ≡ row = one_value (map.get (define d s.classes) name) made row (ap (map.get (define d s.classes)) same ∙ get_put_here s.classes d.class_name made) is in
-            subst (λ n. IsBriefRow n row) (sym same) (subst (IsBriefRow d.class_name) here (defined_row (map.get s.classes d.class_name) refl)))
+        let made : ClassRow = row_of d (map.get s.classes d.class_name) in
+        let here : made ≡ row = one_value (map.get (define d s.classes) name) made row (ap (map.get (define d s.classes)) same ∙ get_put_here s.classes d.class_name made) is in
+        subst (λ n. IsBriefRow n row) (sym same) (subst (IsBriefRow d.class_name) here (defined_row (map.get s.classes d.class_name) refl)))
         (λ ne. brief.rows name row (sym (get_put_other s.classes d.class_name (row_of d (map.get s.classes d.class_name)) name ne) ∙ is));
     cells = brief.cells;
   }
@@ -112,10 +108,10 @@ changed_brief : (change : ClassRow → ClassRow) (class : Name) (s : State) → 
 changed_brief change class s stays brief = record {
   rows = λ name row is. by_bytes name class
       (λ same. by_found (map.get s.classes class)
-          (λ none. brief.rows name row (ap (λ (k : Classes). map.get k name) (sym (changed_absent change class s.classes none)) ∙ is))
-          (λ old was.
-              let here : change old ≡ row = one_value (map.get (change_row change class s.classes) name) (change old) row (ap (map.get (change_row change class s.classes)) same ∙ changed_here change class s.classes old was) is in
-              subst (λ n. IsBriefRow n row) (sym same) (subst (IsBriefRow class) here (stays old (brief.rows class old was)))))
+      (λ none. brief.rows name row (ap (λ (k : Classes). map.get k name) (sym (changed_absent change class s.classes none)) ∙ is))
+      (λ old was.
+      let here : change old ≡ row = one_value (map.get (change_row change class s.classes) name) (change old) row (ap (map.get (change_row change class s.classes)) same ∙ changed_here change class s.classes old was) is in
+      subst (λ n. IsBriefRow n row) (sym same) (subst (IsBriefRow class) here (stays old (brief.rows class old was)))))
       (λ ne. brief.rows name row (sym (changed_elsewhere change class s.classes name ne) ∙ is));
   cells = brief.cells;
 }
@@ -127,9 +123,9 @@ put_brief c made s here brief = record {
   rows = brief.rows;
   cells = λ q row is. by_cell c q
       (λ same.
-          let now : State = put_method c.0 c.1 c.2 made s in
-          let both : made ≡ row = one_value (in_cell q now) made row (ap (λ (d : Cell). in_cell d now) same ∙ put_here c.0 c.1 c.2 s made) is in
-          subst (λ d. IsBriefCell d row) (sym same) (subst (IsBriefCell c) both here))
+      let now : State = put_method c.0 c.1 c.2 made s in
+      let both : made ≡ row = one_value (in_cell q now) made row (ap (λ (d : Cell). in_cell d now) same ∙ put_here c.0 c.1 c.2 s made) is in
+      subst (λ d. IsBriefCell d row) (sym same) (subst (IsBriefCell c) both here))
       (λ ne. brief.cells q row (sym (put_elsewhere c.0 c.1 c.2 s made q ne) ∙ is));
 }
 

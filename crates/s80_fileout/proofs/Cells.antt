@@ -1,5 +1,5 @@
 -- The methods of a state, each by its class, its side and its selector.
-use Rattle.std.proofs.Common.{◌≡◌, ◌≢◌, ◌∙◌, ◌&&◌, ◌+◌, ◌≤◌, ℕ, Bool, cond, true, false, nat_le, refl, sym, ap, List, [], ◌∷◌, Option, Some, None, Ok, true≢false, is_some, option_map, unwrap_or, arith}
+use Rattle.std.proofs.Common.{◌≡◌, ◌≢◌, ◌∙◌, ◌&&◌, ◌≤◌, ℕ, Bool, cond, true, false, nat_le, refl, sym, ap, List, [], ◌∷◌, Option, Some, None, Ok, true≢false, is_some, option_map, unwrap_or, arith}
 use Rattle.std.specs.Str.{bytes_eq}
 use Rattle.std.specs.Cmp.Lexicographic.{bytes_decides}
 use Rattle.std.specs.FinMap as map
@@ -14,10 +14,10 @@ use Rattle.s80_form.specs.declared.form.Form.TheVariants.{RemoveMethod, Classify
 use Rattle.s80_form.specs.declared.refusal.Refusal.TheVariants.{UnknownClass, NoSelector, TooMany}
 use Rattle.s80_form.specs.declared.refusal.ManyKind.{ManyKind}
 use Rattle.s80_form.specs.declared.refusal.ManyKind.TheVariants.{Methods as ManyMethods}
-use Rattle.s80_class.specs.Classes.{Name, Classes}
+use Rattle.s80_class.specs.Classes.{Name}
 use Rattle.s80_apply.specs.State.{MethodRow, State, put_method, take_method}
-use Rattle.s80_apply.specs.Accept.{accept, accept_checked, accepted, above, classify, first_some, keeping_rows, len_with, no_method, no_selector, put_source, too_many_methods, unknown_name}
-use Rattle.s80_fileout.proofs.Keyed.{same_bytes, other_bytes, get_put_here, get_put_other, get_taken_here, get_taken_other}
+use Rattle.s80_apply.specs.Accept.{accept, accept_checked, accepted, above, classify, first_some, keeping_rows, len_with, put_source}
+use Rattle.s80_fileout.proofs.Keyed.{same_bytes, get_put_here, get_put_other, get_taken_here, get_taken_other}
 
 -- a class, a side and a selector
 abbrev pub Cell : Type 0

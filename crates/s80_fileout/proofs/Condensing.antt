@@ -12,7 +12,6 @@ use Rattle.s80_apply.proofs.LastingKernel.{stands_last}
 use Rattle.s80_apply.proofs.LastingWithin.{within_last}
 use Rattle.s80_fileout.specs.Condensed.{condensed_with, for_methods, kernel_part, own_part}
 use Rattle.s80_fileout.proofs.Leading.{Leads, leads_one, leads_then}
-use Rattle.s80_fileout.proofs.Cells.{Cell}
 use Rattle.s80_fileout.proofs.KernelPart.{IsSettled, leads_kernel_part}
 use Rattle.s80_fileout.proofs.OwnRows.{few_last, own_last}
 use Rattle.s80_fileout.proofs.OwnPart.{AllMade, leads_own_part}

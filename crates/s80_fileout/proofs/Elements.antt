@@ -71,11 +71,13 @@ module _ {X : Type 0} where
 
   pub apart_append : {K : Type 0} (key : X → K) (xs ys : List X) → AreApart key xs → AreApart key ys → ((x y : X) → IsIn x xs → IsIn y ys → key y ≢ key x) → AreApart key (xs ++ ys)
   apart_append key [] ys first second across = second
-  apart_append key (x ∷ xs) ys first second across =
-      (λ y at. elim (in_either y xs ys at) as (λ _. key y ≢ key x) [
-        | inl here ↦ first.0 y here
-        | inr there ↦ across x y (inl refl) there
-      ], apart_append key xs ys first.1 second (λ u v at there. across u v (inr at) there))
+  apart_append key (x ∷ xs) ys first second across = (
+    λ y at. elim (in_either y xs ys at) as (λ _. key y ≢ key x) [
+      | inl here ↦ first.0 y here
+      | inr there ↦ across x y (inl refl) there
+    ],
+    apart_append key xs ys first.1 second (λ u v at there. across u v (inr at) there),
+  )
 
 -- ---- those that a function gives
 

@@ -1,5 +1,5 @@
 -- A condensed list folds back: it is accepted, makes the state that it was made of, and has an empty change set; and where versions are kept, just these.
-use Rattle.std.proofs.Common.{◌≡◌, ◌≤◌, ℕ, List, [], ◌∷◌, take, map as list_map, Some, Ok}
+use Rattle.std.proofs.Common.{◌≡◌, ◌≤◌, ℕ, List, [], take, map as list_map, Some, Ok}
 use Rattle.std.specs.List.{All}
 use Rattle.std.specs.FinMap as map
 use Rattle.s80_base.specs.declared.names.Side.{Side}
@@ -9,7 +9,7 @@ use Rattle.s80_change.specs.declared.change.Change.{Change}
 use Rattle.s80_change.specs.Block.{IsLawful}
 use Rattle.s80_change.specs.Check.{IsCheckOf}
 use Rattle.s80_class.specs.Classes.{Name}
-use Rattle.s80_history.specs.Lists.{MethodName, Placed, set_of, versions_of}
+use Rattle.s80_history.specs.Lists.{Placed, set_of, versions_of}
 use Rattle.s80_apply.specs.List.{AreAccepted, IsBuilt, state_of}
 use Rattle.s80_apply.specs.State.{MethodRow, kernel_state}
 use Rattle.s80_fileout.specs.Condensed.{canon, kept, of_method, of_versions}
@@ -52,7 +52,7 @@ kept_has_no_set count changes = set_is_empty (of_versions count changes) (state_
 -- each method of the state has its newest versions, at most so many
 pub kept_has_versions : (count : ℕ) (changes : List Change) (name : Name) (side : Side) (selector : List ℕ) (row : MethodRow) → map.get ((state_of changes).methods name side) selector ≡ Some row
     → list_map (λ (p : Placed). p.1) (versions_of (kept changes count) (record { class_name = name; side = side; selector = selector }))
-        ≡ take count (list_map (λ (p : Placed). p.1) (versions_of changes (record { class_name = name; side = side; selector = selector })))
+    ≡ take count (list_map (λ (p : Placed). p.1) (versions_of changes (record { class_name = name; side = side; selector = selector })))
 kept_has_versions count changes name side selector row is = versions_kept count changes (name, side, selector) row is
 
 pub kept_is_lawful : ((source selector : List ℕ) → IsCheckOf source (Ok selector) → IsSelectorWord selector) → All (λ row. IsCheckOf row.source (Ok row.selector)) kernel_methods

@@ -1,5 +1,5 @@
 -- In the state of a list no side of a class has too many methods, and a name that no class has, has none.
-use Rattle.std.proofs.Common.{◌≡◌, ◌≢◌, ◌∙◌, ◌≤◌, ◌+◌, ◌-◌, ◌&&◌, ℕ, Bool, cond, true, false, refl, sym, ap, subst, List, [], ◌∷◌, Option, Some, None, Ok, is_some, arith}
+use Rattle.std.proofs.Common.{◌≡◌, ◌∙◌, ◌≤◌, ◌+◌, ◌-◌, Bool, cond, true, false, refl, sym, ap, subst, List, Some, None, is_some, arith}
 use Rattle.std.specs.Str.{bytes_eq}
 use Rattle.std.specs.Ordering.{nat_cmp}
 use Rattle.std.specs.Cmp.Lexicographic.{slice_cmp, nat_list_cmp_total}
@@ -7,19 +7,18 @@ use Rattle.std.specs.FinMap as map
 use Rattle.s80_base.specs.declared.names.Side.{Side}
 use Rattle.s80_dict.specs.Dict.{Methods}
 use Rattle.s80_change.specs.declared.change.Change.{Change}
-use Rattle.s80_change.specs.declared.change.Method.{Method as MethodChange}
 use Rattle.s80_form.specs.declared.refusal.ManyKind.TheVariants.{Methods as ManyMethods}
 use Rattle.s80_class.specs.Classes.{Name, ClassRow, Classes, change_row, with_class_side_vars, with_comment}
 use Rattle.s80_class.proofs.lemmas.Changed.{changed_here, changed_elsewhere}
-use Rattle.s80_apply.specs.Accept.{define, len_with, row_of}
+use Rattle.s80_apply.specs.Accept.{len_with, row_of}
 use Rattle.s80_apply.specs.List.{state_of}
 use Rattle.s80_apply.specs.State.{MethodRow, State, kernel_state, put_method, take_class, take_method}
 use Rattle.s80_apply.proofs.Passing.{few_enough}
 use Rattle.s80_kernel.specs.Rows.{is_kernel_class}
-use Rattle.s80_fileout.proofs.Keyed.{by_bytes, by_found, contained, get_put_here, get_put_other, get_taken, get_taken_other, no_value, other_bytes}
+use Rattle.s80_fileout.proofs.Keyed.{by_bytes, by_found, contained, get_put_here, get_put_other, get_taken, no_value}
 use Rattle.s80_fileout.proofs.Cells.{Cell, in_cell, is_place, place_same, put_elsewhere}
 use Rattle.s80_fileout.proofs.KernelCells.{kernel_class_there, kernel_few, kernel_state_classes, no_kernel_cell}
-use Rattle.s80_fileout.proofs.Accepting.{Cases, each_kept, with_method}
+use Rattle.s80_fileout.proofs.Accepting.{Cases, each_kept}
 
 pub record AreHeld (s : State) : Type 0 where
   pub few : (name : Name) (side : Side) → map.len (s.methods name side) ≤ 16384
@@ -30,7 +29,7 @@ pub record AreHeld (s : State) : Type 0 where
 changed_none : (change : ClassRow → ClassRow) (name : Name) (classes : Classes) (q : Name) → map.get (change_row change name classes) q ≡ None → map.get classes q ≡ None
 changed_none change name classes q none = by_bytes q name
     (λ same. by_found (map.get classes name) (λ absent. ap (map.get classes) same ∙ absent) (λ row is.
-        no_value (map.get (change_row change name classes) q) (change row) none (ap (map.get (change_row change name classes)) same ∙ changed_here change name classes row is)))
+    no_value (map.get (change_row change name classes) q) (change row) none (ap (map.get (change_row change name classes)) same ∙ changed_here change name classes row is)))
     (λ ne. sym (changed_elsewhere change name classes q ne) ∙ none)
 
 changed_held : (change : ClassRow → ClassRow) (name : Name) (s : State) → AreHeld s → AreHeld (record s { classes = change_row change name s.classes })

@@ -1,5 +1,5 @@
 -- A method of a lawful list that was built is under the category that its newest version gave it, or else its selector is brief, as it was put under another.
-use Rattle.std.proofs.Common.{◌≡◌, ◌⊎◌, inl, inr, ◌∙◌, ◌++◌, ℕ, Bool, cond, true, false, refl, sym, ap, subst, List, [], ◌∷◌, Option, Some, None, Result, Ok, Err, append-nil, append_assoc}
+use Rattle.std.proofs.Common.{◌≡◌, ◌⊎◌, inl, inr, ◌∙◌, ◌++◌, ℕ, Bool, cond, true, false, refl, sym, ap, subst, List, [], ◌∷◌, Some, None, Result, Ok, Err, append-nil, append_assoc}
 use Rattle.std.specs.List.{All}
 use Rattle.std.specs.Str.{bytes_eq}
 use Rattle.std.specs.Ordering.{nat_cmp}
@@ -15,10 +15,10 @@ use Rattle.s80_form.specs.declared.form.Form.TheVariants.{Define, ClassVars, Com
 use Rattle.s80_form.specs.declared.refusal.Refusal.{Refusal}
 use Rattle.s80_form.specs.Name.{IsBrief}
 use Rattle.s80_history.specs.Lists.{puts}
-use Rattle.s80_apply.specs.Accept.{accept, define}
+use Rattle.s80_apply.specs.Accept.{accept}
 use Rattle.s80_apply.specs.List.{AreAccepted, IsAccepted, IsBuilt, state_after, state_from, state_of, state_or}
 use Rattle.s80_apply.specs.State.{MethodRow, State, kernel_state, put_method, take_class, take_method}
-use Rattle.s80_class.specs.Classes.{Name, Classes, change_row, with_class_side_vars, with_comment}
+use Rattle.s80_class.specs.Classes.{Name}
 use Rattle.s80_fileout.specs.Condensed.{first_category}
 use Rattle.s80_fileout.proofs.Keyed.{no_value, one_value}
 use Rattle.s80_fileout.proofs.Cells.{Cell, in_cell, put_elsewhere, put_here, taken_elsewhere, taken_here}
@@ -45,14 +45,14 @@ taken_under : (name : Name) (side : Side) (selector : Name) (s : State) → Kept
 taken_under name side selector s lawful cs under c row is =
     let now : State = take_method name side selector s in
     by_cell (name, side, selector) c
-        (λ same. no_value (in_cell c now) row (ap (λ (d : Cell). in_cell d now) same ∙ taken_here name side selector s) is)
-        (λ ne. as_before (changes.Form (RemoveMethod name side selector)) s cs under c row refl (sym (taken_elsewhere name side selector s c ne) ∙ is))
+    (λ same. no_value (in_cell c now) row (ap (λ (d : Cell). in_cell d now) same ∙ taken_here name side selector s) is)
+    (λ ne. as_before (changes.Form (RemoveMethod name side selector)) s cs under c row refl (sym (taken_elsewhere name side selector s c ne) ∙ is))
 
 classified_under : (name : Name) (side : Side) (selector category : Name) (made : MethodRow) (s : State) → Kept (changes.Form (Classify name side selector category)) s (put_method name side selector made s)
 classified_under name side selector category made s lawful cs under c row is =
     by_cell (name, side, selector) c
-        (λ same. inr (subst (λ (d : Cell). IsBrief d.2) (sym same) lawful.brief.1))
-        (λ ne. as_before (changes.Form (Classify name side selector category)) s cs under c row refl (sym (put_elsewhere name side selector s made c ne) ∙ is))
+    (λ same. inr (subst (λ (d : Cell). IsBrief d.2) (sym same) lawful.brief.1))
+    (λ ne. as_before (changes.Form (Classify name side selector category)) s cs under c row refl (sym (put_elsewhere name side selector s made c ne) ∙ is))
 
 removed_under : (name : Name) (s : State) → Kept (changes.Form (RemoveClass name)) s (take_class name s)
 removed_under name s lawful cs under c row is = as_before (changes.Form (RemoveClass name)) s cs under c row refl (left (bytes_eq c.0 name) is)
@@ -66,14 +66,14 @@ put_under m selector s so lawful cs under c row is =
     let made : MethodRow = record { category = m.category; source = m.source.text } in
     let now : State = with_method m selector s in
     by_cell (m.class_name, m.side, selector) c
-        (λ same.
-            let p : PutsCell c (changes.Method m) = record { method = m; is = refl; class = ap (λ (d : Cell). d.0) (sym same); side = ap (λ (d : Cell). d.1) (sym same); selector = so ∙ ap Ok (ap (λ (d : Cell). d.2) (sym same)) } in
-            let both : made ≡ row = one_value (in_cell c now) made row (ap (λ (d : Cell). in_cell d now) same ∙ put_here m.class_name m.side selector s made) is in
-            subst (λ vs. IsUnder c vs row.category) (sym (versions_more cs (changes.Method m) c ∙ ap (λ b. cond b (changes.Method m ∷ versions cs c) (versions cs c)) (puts_it c (changes.Method m) p)))
-            (inl (ap (λ (r : MethodRow). r.category) both)))
-        (λ ne.
-            let p : PutsCell (m.class_name, m.side, selector) (changes.Method m) = record { method = m; is = refl; class = refl; side = refl; selector = so } in
-            as_before (changes.Method m) s cs under c row (puts_no_other c (m.class_name, m.side, selector) (changes.Method m) (λ e. ne (sym e)) p) (sym (put_elsewhere m.class_name m.side selector s made c ne) ∙ is))
+    (λ same.
+    let p : PutsCell c (changes.Method m) = record { method = m; is = refl; class = ap (λ (d : Cell). d.0) (sym same); side = ap (λ (d : Cell). d.1) (sym same); selector = so ∙ ap Ok (ap (λ (d : Cell). d.2) (sym same)) } in
+    let both : made ≡ row = one_value (in_cell c now) made row (ap (λ (d : Cell). in_cell d now) same ∙ put_here m.class_name m.side selector s made) is in
+    subst (λ vs. IsUnder c vs row.category) (sym (versions_more cs (changes.Method m) c ∙ ap (λ b. cond b (changes.Method m ∷ versions cs c) (versions cs c)) (puts_it c (changes.Method m) p)))
+    (inl (ap (λ (r : MethodRow). r.category) both)))
+    (λ ne.
+    let p : PutsCell (m.class_name, m.side, selector) (changes.Method m) = record { method = m; is = refl; class = refl; side = refl; selector = so } in
+    as_before (changes.Method m) s cs under c row (puts_no_other c (m.class_name, m.side, selector) (changes.Method m) (λ e. ne (sym e)) p) (sym (put_elsewhere m.class_name m.side selector s made c ne) ∙ is))
 
 cases : Cases Kept
 cases = record {

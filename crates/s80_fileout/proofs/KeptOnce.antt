@@ -1,5 +1,5 @@
 -- A list that keeps versions has just these of each method of the state.
-use Rattle.std.proofs.Common.{◌≡◌, ◌≢◌, ◌⊎◌, inl, inr, ◌∙◌, ◌++◌, ℕ, Bool, cond, true, false, not, filter, reverse, take, refl, sym, ap, subst, List, [], ◌∷◌, map as list_map, Option, Some, None, append-nil}
+use Rattle.std.proofs.Common.{◌≡◌, ◌≢◌, inl, inr, ◌∙◌, ◌++◌, ℕ, Bool, cond, true, false, not, filter, reverse, take, refl, sym, ap, subst, List, [], ◌∷◌, map as list_map, Option, Some, None, append-nil}
 use Rattle.std.specs.List.{flat_map}
 use Rattle.std.specs.FinMap as map
 use Rattle.std.specs.Str.{bytes_eq}
@@ -12,13 +12,12 @@ use Rattle.s80_change.specs.declared.change.Change.{Change}
 use Rattle.s80_change.specs.declared.change.Change.TheVariants.{Form}
 use Rattle.s80_form.specs.declared.form.Form.TheVariants.{Classify, RemoveMethod, NoChanges}
 use Rattle.s80_class.specs.Classes.{Name, ClassRow}
-use Rattle.s80_history.specs.Lists.{MethodName, Placed, puts, versions_of}
+use Rattle.s80_history.specs.Lists.{Placed, puts, versions_of}
 use Rattle.s80_apply.specs.List.{state_of}
 use Rattle.s80_apply.specs.State.{MethodRow, State, kernel_state}
 use Rattle.s80_fileout.specs.Condensed.{class_vars_of, classified, comment_of, condensed_with, defined, for_classes, for_methods, is_own_at, kept, kernel_part, last_category, newest, of_kernel_class, of_own_class, of_versions, own_part, removals, up_to}
 use Rattle.s80_fileout.proofs.Elements.{IsIn, AreApart, flat_none}
 use Rattle.s80_fileout.proofs.Cells.{Cell, in_cell}
-use Rattle.s80_fileout.proofs.MethodsPart.{by_cell}
 use Rattle.s80_fileout.proofs.Held.{held_last}
 use Rattle.s80_fileout.proofs.Keyed.{by_found, no_value}
 use Rattle.s80_fileout.proofs.ManyCells.{CellRow, all_cells, all_cells_apart, cell_of, for_methods_are, in_all_cells}

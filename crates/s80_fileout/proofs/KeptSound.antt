@@ -1,10 +1,9 @@
 -- A list that keeps versions is lawful, where the list was.
-use Rattle.std.proofs.Common.{◌≡◌, ◌≢◌, ◌⊎◌, inl, inr, ◌∙◌, ℕ, refl, sym, ap, subst, List, [], ◌∷◌, filter, reverse, take}
+use Rattle.std.proofs.Common.{◌≢◌, inl, inr, ◌∙◌, ℕ, sym, ap, subst, List, [], ◌∷◌, filter, take}
 use Rattle.std.specs.List.{All}
 use Rattle.std.proofs.lemmas.List.Elements.{All-head, All-tail}
 use Rattle.s80_form.specs.Name.{IsBrief}
 use Rattle.s80_change.specs.declared.change.Change.{Change}
-use Rattle.s80_change.specs.declared.change.Change.TheVariants.{Method}
 use Rattle.s80_change.specs.Block.{IsLawful}
 use Rattle.s80_history.specs.Lists.{puts}
 use Rattle.s80_apply.specs.List.{IsBuilt, state_of}

@@ -1,22 +1,19 @@
 -- What a list that keeps versions has for one method: its newest versions, and the category that it is under.
-use Rattle.std.proofs.Common.{◌≡◌, ◌≢◌, ◌⊎◌, inl, inr, ◌∙◌, ◌≤◌, ◌+◌, ◌&&◌, ◌++◌, ℕ, zero, suc, Bool, cond, true, false, filter, reverse, take, refl, sym, ap, subst, List, [], ◌∷◌, Option, Some, None, Ok, is_some, option_map, append_assoc, arith}
+use Rattle.std.proofs.Common.{◌≡◌, ◌≢◌, inl, inr, ◌∙◌, ◌≤◌, ◌+◌, ◌++◌, ℕ, zero, suc, cond, true, filter, reverse, take, refl, sym, ap, subst, List, [], ◌∷◌, Ok, is_some, append_assoc, arith}
 use Rattle.std.specs.FinMap as map
-use Rattle.std.specs.Str.{bytes_eq}
 use Rattle.std.specs.Cmp.Lexicographic.{nat_list_cmp_total}
 use Rattle.s80_base.specs.declared.names.Side.{Side}
 use Rattle.s80_change.specs.declared.change.Change.{Change}
-use Rattle.s80_change.specs.declared.change.Change.TheVariants as changes
-use Rattle.s80_change.specs.declared.change.Method.{Method as MethodChange}
 use Rattle.s80_class.specs.Classes.{Name, Classes}
-use Rattle.s80_history.specs.Lists.{Placed, puts, versions_of}
+use Rattle.s80_history.specs.Lists.{puts}
 use Rattle.s80_apply.specs.Accept.{accept, len_with}
 use Rattle.s80_apply.specs.List.{IsBuilt, state_of}
 use Rattle.s80_apply.specs.State.{MethodRow, State, kernel_state, put_method}
-use Rattle.s80_fileout.specs.Condensed.{category_put, classified, first_category, kernel_category, newest, of_versions}
+use Rattle.s80_fileout.specs.Condensed.{category_put, classified, first_category, of_versions}
 use Rattle.s80_fileout.proofs.Elements.{IsIn, filter_passed}
 use Rattle.s80_fileout.proofs.Keyed.{get_put_here}
 use Rattle.s80_fileout.proofs.Leading.{Leads, leads_first, leads_then, leads_weaker}
-use Rattle.s80_fileout.proofs.Cells.{Cell, in_cell, is_place, method_accepted, place_itself, put_elsewhere, put_here}
+use Rattle.s80_fileout.proofs.Cells.{Cell, in_cell, method_accepted, place_itself, put_elsewhere, put_here}
 use Rattle.s80_fileout.proofs.KernelCells.{kernel_category_is}
 use Rattle.s80_fileout.proofs.MethodsPart.{IsSet, SetsEach}
 use Rattle.s80_fileout.proofs.OfMethod.{leads_classified}
@@ -31,8 +28,12 @@ record IsOnto (c : Cell) (s t : State) : Type 0 where
 put_room : (c : Cell) (row : MethodRow) (s : State) → len_with c.2 (s.methods c.0 c.1) ≤ 16384 → len_with c.2 ((put_method c.0 c.1 c.2 row s).methods c.0 c.1) ≤ 16384
 put_room c row s room =
     subst (λ b. len_with c.2 (cond b (map.insert (s.methods c.0 c.1) c.2 row) (s.methods c.0 c.1)) ≤ 16384) (sym (place_itself c.0 c.1))
-    (omega (arith, room, map.len-insert nat_list_cmp_total (s.methods c.0 c.1) c.2 row,
-        ap (λ o. cond (is_some o) (map.len (map.insert (s.methods c.0 c.1) c.2 row)) (map.len (map.insert (s.methods c.0 c.1) c.2 row) + 1)) (get_put_here (s.methods c.0 c.1) c.2 row)))
+    (omega (
+      arith,
+      room,
+      map.len-insert nat_list_cmp_total (s.methods c.0 c.1) c.2 row,
+      ap (λ o. cond (is_some o) (map.len (map.insert (s.methods c.0 c.1) c.2 row)) (map.len (map.insert (s.methods c.0 c.1) c.2 row) + 1)) (get_put_here (s.methods c.0 c.1) c.2 row),
+    ))
 
 -- one that puts it
 module _ (c : Cell) (s : State) (known : map.contains_key s.classes c.0 ≡ true) (room : len_with c.2 (s.methods c.0 c.1) ≤ 16384) (change : Change) (p : PutsCell c change) where
@@ -46,7 +47,7 @@ module _ (c : Cell) (s : State) (known : map.contains_key s.classes c.0 ≡ true
   put_accepted =
       ap (λ x. accept x s) p.is
       ∙ method_accepted p.method c.2 s p.selector (ap (map.contains_key s.classes) p.class ∙ known)
-          (subst (λ (at : Name × Side). len_with c.2 (s.methods at.0 at.1) ≤ 16384) (λ i. (sym p.class i, sym p.side i)) room)
+      (subst (λ (at : Name × Side). len_with c.2 (s.methods at.0 at.1) ≤ 16384) (λ i. (sym p.class i, sym p.side i)) room)
       ∙ (λ i. Ok (put_method (p.class i) (p.side i) c.2 row_put s))
 
   is_onto : IsOnto c s with_put

@@ -1,5 +1,5 @@
 -- The kernel's classes and methods, as they are looked up.
-use Rattle.std.proofs.Common.{◌≡◌, ◌≢◌, ◌∙◌, ◌&&◌, ◌||◌, ◌+◌, ◌≤◌, ℕ, Bool, cond, true, false, nat_le, not, find, codes, refl, sym, ap, subst, List, [], ◌∷◌, length, map as list_map, Option, Some, None, is_some, option_map, true≢false, arith}
+use Rattle.std.proofs.Common.{◌≡◌, ◌≢◌, ◌∙◌, ◌&&◌, ◌||◌, ◌+◌, ◌≤◌, ℕ, Bool, cond, true, false, nat_le, not, find, codes, refl, sym, ap, List, [], ◌∷◌, length, Option, Some, None, is_some, option_map, true≢false, arith}
 use Rattle.std.specs.List.{list_all}
 use Rattle.std.specs.Bool.{beq}
 use Rattle.std.specs.Cmp.{booleans_Decides}
@@ -13,7 +13,7 @@ use Rattle.s80_base.specs.declared.names.Side.TheVariants.{Instance, Class}
 use Rattle.s80_dict.specs.Dict.{Methods}
 use Rattle.s80_kernel.specs.Rows.{KernelRow, kernel_rows, has_name, is_kernel_class}
 use Rattle.s80_kernel.specs.Methods.{KernelMethodRow, found_method, is_method, kernel_methods}
-use Rattle.s80_class.specs.Classes.{Name, ClassRow, Classes}
+use Rattle.s80_class.specs.Classes.{Name, ClassRow}
 use Rattle.s80_apply.specs.Kernel.{kernel_classes, kernel_row}
 use Rattle.s80_apply.specs.State.{MethodRow, State, kernel_method, kernel_state, no_methods, on_class_side, put_kernel_methods, put_method, side_of}
 use Rattle.s80_apply.proofs.Booted.{built, built_has}

@@ -1,5 +1,5 @@
 -- The first part of a condensed list: the classes of the kernel get their comments, and lose the methods that the state lacks.
-use Rattle.std.proofs.Common.{◌≡◌, ◌≢◌, ◌⊎◌, inl, inr, ◌∙◌, ℕ, Bool, cond, true, false, not, filter, refl, sym, ap, subst, List, [], ◌∷◌, ◌++◌, map as list_map, Option, Some, None, Ok, is_some, true≢false}
+use Rattle.std.proofs.Common.{◌≡◌, ◌≢◌, ◌⊎◌, inl, inr, ◌∙◌, ℕ, Bool, cond, true, false, not, filter, refl, sym, ap, List, [], ◌∷◌, ◌++◌, map as list_map, Option, Some, None, is_some, true≢false}
 use Rattle.std.specs.FinMap as map
 use Rattle.s80_base.specs.declared.names.Side.{Side}
 use Rattle.s80_base.specs.declared.names.Side.TheVariants.{Instance, Class}
@@ -10,13 +10,13 @@ use Rattle.s80_form.specs.declared.form.Form.TheVariants.{Comment, RemoveMethod}
 use Rattle.s80_form.specs.declared.refusal.Refusal.TheVariants.{UnknownClass}
 use Rattle.s80_class.specs.Classes.{Name, ClassRow, Classes, change_row, with_comment}
 use Rattle.s80_class.proofs.lemmas.Changed.{changed_here, changed_elsewhere}
-use Rattle.s80_apply.specs.Accept.{accept, accepted}
+use Rattle.s80_apply.specs.Accept.{accepted}
 use Rattle.s80_apply.specs.Kernel.{kernel_classes}
 use Rattle.s80_apply.specs.State.{MethodRow, State, kernel_state, take_method}
 use Rattle.s80_apply.proofs.LastingKernel.{Stands}
 use Rattle.s80_fileout.specs.Condensed.{comment_of, kernel_part, of_kernel_class, removals}
 use Rattle.s80_fileout.proofs.Elements.{IsIn, AreApart, filter_apart, filter_passed, filtered_in, in_filtered}
-use Rattle.s80_fileout.proofs.Keyed.{by_found, entries_apart, entry_got, got_entry, got_key, key_got, keys_apart, no_value, not_contained, one_value}
+use Rattle.s80_fileout.proofs.Keyed.{by_found, entries_apart, entry_got, got_entry, got_key, key_got, keys_apart, no_value, one_value}
 use Rattle.s80_fileout.proofs.Leading.{Leads, Stepped, AllStepped, leads_first, leads_keyed, leads_one, leads_then, leads_weaker}
 use Rattle.s80_fileout.proofs.Cells.{Cell, in_cell, removal_accepted, taken_here, taken_elsewhere}
 use Rattle.s80_fileout.proofs.KernelCells.{kernel_bare, kernel_class_there, kernel_state_classes, no_kernel_cell, no_kernel_class}
@@ -45,7 +45,7 @@ leads_taken name side (k ∷ ks) s apart known there =
     leads_first (removal name side k) (list_map (removal name side) ks) s then_taken (AreTaken name side (k ∷ ks) s) (removal_accepted name side k s known (there k (inl refl)))
     (leads_weaker (list_map (removal name side) ks) then_taken (AreTaken name side ks then_taken) (AreTaken name side (k ∷ ks) s)
     (leads_taken name side ks then_taken apart.1 known (λ selector at.
-        ap is_some (taken_elsewhere name side k s (name, side, selector) (λ e. apart.0 selector at (ap (λ (c : Cell). c.2) e))) ∙ there selector (inr at)))
+    ap is_some (taken_elsewhere name side k s (name, side, selector) (λ e. apart.0 selector at (ap (λ (c : Cell). c.2) e))) ∙ there selector (inr at)))
     (λ t rest. record {
       classes = rest.classes;
       gone = gone_first name side k ks s t apart.0 rest;
@@ -113,7 +113,7 @@ leads_removed : (final : State) (name : Name) (side : Side) (s : State) → map.
 leads_removed final name side s known as_kernel =
     leads_weaker (removals final name side) s (AreTaken name side (lost final name side) s) (IsRemoved final name side s)
     (leads_taken name side (lost final name side) s (filter_apart (λ k. k) (lacks final name side) (selectors_of name side) (keys_apart (kernel_state.methods name side))) known
-        (λ selector at. let row = key_got (kernel_state.methods name side) selector (filtered_in (lacks final name side) selector (selectors_of name side) at) in ap is_some (as_kernel selector ∙ row.1)))
+    (λ selector at. let row = key_got (kernel_state.methods name side) selector (filtered_in (lacks final name side) selector (selectors_of name side) at) in ap is_some (as_kernel selector ∙ row.1)))
     (λ t taken. record {
       classes = taken.classes;
       here = λ selector. left t taken selector (is_some (in_cell (name, side, selector) final)) refl;
@@ -124,12 +124,12 @@ leads_removed final name side s known as_kernel =
         → in_cell (name, side, selector) t ≡ cond b (in_cell (name, side, selector) kernel_state) None
     left t taken selector true has =
         taken.others (name, side, selector) (λ k at e.
-            true≢false (sym (filter_passed (lacks final name side) k (selectors_of name side) at) ∙ ap (λ x. not (is_some (in_cell (name, side, x) final))) (ap (λ (c : Cell). c.2) (sym e)) ∙ ap not has))
+        true≢false (sym (filter_passed (lacks final name side) k (selectors_of name side) at) ∙ ap (λ x. not (is_some (in_cell (name, side, x) final))) (ap (λ (c : Cell). c.2) (sym e)) ∙ ap not has))
         ∙ as_kernel selector
     left t taken selector false has = by_found (in_cell (name, side, selector) kernel_state)
         (λ none. taken.others (name, side, selector) (λ k at e.
-            let row = key_got (kernel_state.methods name side) k (filtered_in (lacks final name side) k (selectors_of name side) at) in
-            no_value (in_cell (name, side, selector) kernel_state) row.0 none (ap (λ x. in_cell (name, side, x) kernel_state) (ap (λ (c : Cell). c.2) e) ∙ row.1)) ∙ as_kernel selector ∙ none)
+        let row = key_got (kernel_state.methods name side) k (filtered_in (lacks final name side) k (selectors_of name side) at) in
+        no_value (in_cell (name, side, selector) kernel_state) row.0 none (ap (λ x. in_cell (name, side, x) kernel_state) (ap (λ (c : Cell). c.2) e) ∙ row.1)) ∙ as_kernel selector ∙ none)
         (λ row is. taken.gone selector (in_filtered (lacks final name side) selector (selectors_of name side) (ap not has) (got_key (kernel_state.methods name side) selector row is)))
 
 -- ---- all classes
@@ -167,7 +167,7 @@ module _ (final : State) (stands : Stands final.classes) where
       (leads_removed final name Instance t (ap is_some commented.here) (λ selector. ap (λ m. map.get (m name Instance) selector) commented.methods ∙ untouched.methods Instance selector)) (λ u first.
       leads_weaker (removals final name Class) u (IsRemoved final name Class u) (IsDone name s)
       (leads_removed final name Class u (ap (λ (c : Classes). map.contains_key c name) first.classes ∙ ap is_some commented.here)
-          (λ selector. first.others (name, Class, selector) (λ k e. other_side (ap (λ (c : Cell). c.1) (sym e))) ∙ ap (λ m. map.get (m name Class) selector) commented.methods ∙ untouched.methods Class selector))
+      (λ selector. first.others (name, Class, selector) (λ k e. other_side (ap (λ (c : Cell). c.1) (sym e))) ∙ ap (λ m. map.get (m name Class) selector) commented.methods ∙ untouched.methods Class selector))
       (λ v second. (
         record {
           class =
@@ -222,11 +222,11 @@ module _ (final : State) (stands : Stands final.classes) where
   leads_kernel_part =
       leads_weaker (kernel_part final) kernel_state (AreStepped kernel_state) (λ t. (q : Name) → IsSettled final q t)
       (leads_keyed (λ (e : Row). e.0) changes_for SameAt same_itself same_through (λ s. Unit {0}) (λ e s. SameAt e.0 kernel_state s) (λ e s. IsSettled final e.0 s)
-          (λ e s t same before. same_through e.0 kernel_state s t before same) (λ e s t same settled. settled_yet final e.0 s t same settled)
-          (map.entries final.classes) (entries_apart final.classes) one_entry kernel_state tt (λ e at. same_itself e.0 kernel_state))
+      (λ e s t same before. same_through e.0 kernel_state s t before same) (λ e s t same settled. settled_yet final e.0 s t same settled)
+      (map.entries final.classes) (entries_apart final.classes) one_entry kernel_state tt (λ e at. same_itself e.0 kernel_state))
       (λ t all q. by_found (map.get final.classes q)
-          (λ none. untouched_settled q t (not_own q none (is_kernel_class q) refl) (all.others q (λ e at same. no_value (map.get final.classes q) e.1 none (ap (map.get final.classes) same ∙ entry_got final.classes e at))))
-          (λ row is. all.done (q, row) (got_entry final.classes q row is)))
+      (λ none. untouched_settled q t (not_own q none (is_kernel_class q) refl) (all.others q (λ e at same. no_value (map.get final.classes q) e.1 none (ap (map.get final.classes) same ∙ entry_got final.classes e at))))
+      (λ row is. all.done (q, row) (got_entry final.classes q row is)))
     where
       not_own : (q : Name) → map.get final.classes q ≡ None → (b : Bool) → is_kernel_class q ≡ b → is_kernel_class q ≡ false
       not_own q none false is = is

@@ -62,9 +62,10 @@ module _ {V : Type 0} where
 
   sorted_apart : (es : List (List ℕ × V)) → T (is_sorted (slice_cmp nat_cmp) es) → AreApart (λ e. e.0) es
   sorted_apart [] sorted = tt
-  sorted_apart (e ∷ es) sorted =
-      (apart_below e.0 es (first_of (below_all (slice_cmp nat_cmp) e.0 es) (is_sorted (slice_cmp nat_cmp) es) sorted),
-      sorted_apart es (second_of (below_all (slice_cmp nat_cmp) e.0 es) (is_sorted (slice_cmp nat_cmp) es) sorted))
+  sorted_apart (e ∷ es) sorted = (
+    apart_below e.0 es (first_of (below_all (slice_cmp nat_cmp) e.0 es) (is_sorted (slice_cmp nat_cmp) es) sorted),
+    sorted_apart es (second_of (below_all (slice_cmp nat_cmp) e.0 es) (is_sorted (slice_cmp nat_cmp) es) sorted),
+  )
 
   pub entries_apart : (m : Named V) → AreApart (λ e. e.0) (map.entries m)
   entries_apart m = sorted_apart (map.entries m) (map.entries_sorted m)

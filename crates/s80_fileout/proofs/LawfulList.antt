@@ -1,16 +1,16 @@
 -- A list that is accepted is lawful where its forms are brief, and its methods lawful.
 use Rattle.std.proofs.Common.{◌≡◌, ◌⊎◌, inl, inr, ◌∙◌, ◌++◌, ℕ, refl, sym, ap, subst, List, [], ◌∷◌, Ok, append_assoc, append-nil}
 use Rattle.std.specs.List.{All, flat_map}
-use Rattle.std.proofs.lemmas.List.Elements.{All-nil, All-cons, All-push}
+use Rattle.std.proofs.lemmas.List.Elements.{All-nil, All-push}
 use Rattle.s80_kernel.specs.Methods.{kernel_methods}
-use Rattle.s80_form.specs.Form.{IsBriefForm, IsLawfulForm}
+use Rattle.s80_form.specs.Form.{IsBriefForm}
 use Rattle.s80_form.specs.Name.{IsSelectorWord}
 use Rattle.s80_change.specs.declared.change.Change.{Change}
 use Rattle.s80_change.specs.declared.change.Change.TheVariants.{Form, Method, DoIt}
 use Rattle.s80_change.specs.Block.{IsLawful, IsLawfulMethod}
 use Rattle.s80_change.specs.Check.{IsCheckOf}
 use Rattle.s80_apply.specs.Accept.{accept}
-use Rattle.s80_apply.specs.List.{AreAccepted, IsAccepted, IsBuilt, state_after, state_from, state_of}
+use Rattle.s80_apply.specs.List.{AreAccepted, IsAccepted, IsBuilt, state_after, state_of}
 use Rattle.s80_apply.specs.State.{State, kernel_state}
 use Rattle.s80_apply.proofs.Lawful.{form_lawful}
 use Rattle.s80_apply.proofs.lemmas.Lists.{state_more}

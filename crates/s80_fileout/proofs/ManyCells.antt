@@ -1,6 +1,6 @@
 -- The methods of a state in the order in which a condensed list makes them: each stands there once.
-use Rattle.std.proofs.Common.{◌≡◌, ◌≢◌, ◌⊎◌, inl, inr, ◌∙◌, ◌++◌, ℕ, Bool, cond, true, false, refl, sym, ap, subst, List, [], ◌∷◌, map as list_map, filter, Option, Some, None, is_some, true≢false}
-use Rattle.std.specs.List.{flat_map, list_any}
+use Rattle.std.proofs.Common.{◌≡◌, ◌≢◌, inl, inr, ◌∙◌, ◌++◌, ℕ, Bool, cond, true, false, refl, sym, ap, List, [], ◌∷◌, map as list_map, filter, Option, Some, None, is_some, true≢false}
+use Rattle.std.specs.List.{flat_map}
 use Rattle.std.specs.Str.{bytes_eq}
 use Rattle.std.specs.Ordering.{nat_cmp, eq_by_cmp}
 use Rattle.std.specs.Cmp.Lexicographic.{slice_cmp, nat_list_cmp_total, bytes_decides, texts_ties}
@@ -107,7 +107,7 @@ pub for_methods_are : (changes : Name → Side → List ℕ → MethodRow → Li
 for_methods_are changes state =
     flat_flat each (rows_of state) (map.keys state.classes)
     ∙ (λ i. flat_map (λ name. (flat_flat each (rows_on state name) sides
-        ∙ (λ j. flat_map (λ side. flat_mapped each (λ (e : Entry). (name, side, e.0, e.1)) (by_category (state.methods name side)) j) sides)) i) (map.keys state.classes))
+    ∙ (λ j. flat_map (λ side. flat_mapped each (λ (e : Entry). (name, side, e.0, e.1)) (by_category (state.methods name side)) j) sides)) i) (map.keys state.classes))
   where
     each : CellRow → List Change
     each x = changes x.0 x.1 x.2 x.3
@@ -157,9 +157,9 @@ pub all_cells_apart : (state : State) → AreApart cell_of (all_cells state)
 all_cells_apart state =
     apart_flat (rows_of state) (λ n. n) cell_of (map.keys state.classes) (keys_apart state.classes)
     (λ name at.
-        apart_flat (rows_on state name) (λ s. s) cell_of sides sides_apart
-        (λ side there. apart_mapped (λ (e : Entry). (name, side, e.0, e.1)) cell_of (by_category (state.methods name side)) (weaker name side (by_category (state.methods name side)) (by_category_apart (state.methods name side))))
-        (λ s t x y here other ne first second same. ne (sym ((on_side state name t y second).on) ∙ ap (λ (c : Cell). c.1) same ∙ (on_side state name s x first).on)))
+    apart_flat (rows_on state name) (λ s. s) cell_of sides sides_apart
+    (λ side there. apart_mapped (λ (e : Entry). (name, side, e.0, e.1)) cell_of (by_category (state.methods name side)) (weaker name side (by_category (state.methods name side)) (by_category_apart (state.methods name side))))
+    (λ s t x y here other ne first second same. ne (sym ((on_side state name t y second).on) ∙ ap (λ (c : Cell). c.1) same ∙ (on_side state name s x first).on)))
     (λ n m x y here other ne first second same. ne (sym (class_of m y second) ∙ ap (λ (c : Cell). c.0) same ∙ class_of n x first))
   where
     class_of : (name : Name) (x : CellRow) → IsIn x (rows_of state name) → x.0 ≡ name

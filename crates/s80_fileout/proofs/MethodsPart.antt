@@ -1,22 +1,22 @@
 -- The third part of a condensed list: its methods, one after the other.
-use Rattle.std.proofs.Common.{◌≡◌, ◌≢◌, ◌∙◌, ◌≤◌, ◌+◌, ℕ, Bool, cond, true, false, refl, sym, ap, subst, List, [], ◌∷◌, length, Option, Some, None, is_some, true≢false, arith}
+use Rattle.std.proofs.Common.{◌≡◌, ◌≢◌, ◌∙◌, ◌≤◌, ℕ, Bool, cond, true, false, refl, sym, ap, subst, List, Some, None, is_some, true≢false, arith}
 use Rattle.std.specs.List.{flat_map}
 use Rattle.std.specs.FinMap as map
 use Rattle.std.specs.Cmp.Lexicographic.{nat_list_cmp_total}
 use Rattle.s80_base.specs.declared.names.Side.{Side}
 use Rattle.s80_dict.specs.Table.{same_side}
 use Rattle.s80_change.specs.declared.change.Change.{Change}
-use Rattle.s80_class.specs.Classes.{Name, ClassRow, Classes}
+use Rattle.s80_class.specs.Classes.{Name, Classes}
 use Rattle.s80_apply.specs.Accept.{len_with}
 use Rattle.s80_apply.specs.State.{MethodRow, State, kernel_state}
 use Rattle.s80_fileout.specs.Condensed.{for_methods}
 use Rattle.s80_fileout.proofs.Elements.{IsIn}
-use Rattle.s80_fileout.proofs.Keyed.{by_bytes, by_found, get_put_other, no_longer, no_value, one_value, same_named}
+use Rattle.s80_fileout.proofs.Keyed.{by_bytes, by_found, get_put_other, no_longer, no_value, same_named}
 use Rattle.s80_fileout.proofs.Leading.{AllStepped, Leads, Stepped, leads_keyed, leads_weaker}
 use Rattle.s80_fileout.proofs.Cells.{Cell, in_cell, side_itself, side_same}
 use Rattle.s80_fileout.proofs.KernelPart.{left_cell}
 use Rattle.s80_fileout.proofs.Held.{AreHeld}
-use Rattle.s80_fileout.proofs.ManyCells.{CellRow, IsCell, all_cells, all_cells_apart, all_cells_in, cell_of, for_methods_are, in_all_cells}
+use Rattle.s80_fileout.proofs.ManyCells.{CellRow, all_cells, all_cells_apart, all_cells_in, cell_of, for_methods_are, in_all_cells}
 
 -- one method has this row, and the others stay
 pub record IsSet (c : Cell) (row : MethodRow) (s t : State) : Type 0 where
@@ -69,8 +69,8 @@ module _ (final : State) (held : AreHeld final) (method : Name → Side → List
   room s roomy c row here =
       let most : map.len (map.insert (s.methods c.0 c.1) c.2 row) ≤ map.len (final.methods c.0 c.1) =
       no_longer (map.insert (s.methods c.0 c.1) c.2 row) (final.methods c.0 c.1) (λ q v is. by_bytes q c.2
-          (λ same. (row, ap (map.get (final.methods c.0 c.1)) same ∙ here))
-          (λ ne. roomy.within (c.0, c.1, q) v (sym (get_put_other (s.methods c.0 c.1) c.2 row q ne) ∙ is))) in
+      (λ same. (row, ap (map.get (final.methods c.0 c.1)) same ∙ here))
+      (λ ne. roomy.within (c.0, c.1, q) v (sym (get_put_other (s.methods c.0 c.1) c.2 row q ne) ∙ is))) in
       let few : map.len (final.methods c.0 c.1) ≤ 16384 = held.few c.0 c.1 in
       omega (arith, most, few, map.len-insert nat_list_cmp_total (s.methods c.0 c.1) c.2 row)
 
@@ -93,15 +93,18 @@ module _ (final : State) (held : AreHeld final) (method : Name → Side → List
       subst (λ cs. Leads s cs (λ t. t ≡ final)) (for_methods_are method final)
       (leads_weaker (flat_map each (all_cells final)) s (AreStepped s) (λ t. t ≡ final)
       (leads_keyed cell_of each SameCell (λ q s. refl) (λ q r s t first second. second ∙ first) IsRoomy Todo Done (λ x s t same todo. same ∙ todo) (λ x s t same done. same ∙ done)
-          (all_cells final) (all_cells_apart final) one_cell s
-          (record { classes = classes; within = λ q row is. by_found (in_cell q final)
-              (λ none. no_value (in_cell q s) row (left q ∙ ap (λ o. cond (is_some o) (in_cell q kernel_state) None) none) is) (λ now here. (now, here)) })
-          (λ x at. let cell = all_cells_in final x at in left (cell_of x) ∙ ap (λ o. cond (is_some o) (in_cell (cell_of x) kernel_state) None) cell.row))
+      (all_cells final) (all_cells_apart final) one_cell s
+      (record {
+        classes = classes;
+        within = λ q row is. by_found (in_cell q final)
+            (λ none. no_value (in_cell q s) row (left q ∙ ap (λ o. cond (is_some o) (in_cell q kernel_state) None) none) is) (λ now here. (now, here));
+      })
+      (λ x at. let cell = all_cells_in final x at in left (cell_of x) ∙ ap (λ o. cond (is_some o) (in_cell (cell_of x) kernel_state) None) cell.row))
       (λ t all. same_state t all.keeps.classes (λ c. by_found (in_cell c final)
-          (λ none. by_found (in_cell c t) (λ absent. absent ∙ sym none) (λ row is. let now = all.keeps.within c row is in no_value (in_cell c final) now.0 none now.1))
-          (λ row here. by_found (map.get final.classes c.0)
-              (λ none. no_value (in_cell c final) row (held.others c none) here)
-              (λ class there. all.done (c.0, c.1, c.2, row) (in_all_cells final c class row there here))))))
+      (λ none. by_found (in_cell c t) (λ absent. absent ∙ sym none) (λ row is. let now = all.keeps.within c row is in no_value (in_cell c final) now.0 none now.1))
+      (λ row here. by_found (map.get final.classes c.0)
+      (λ none. no_value (in_cell c final) row (held.others c none) here)
+      (λ class there. all.done (c.0, c.1, c.2, row) (in_all_cells final c class row there here))))))
     where
       same_state : (t : State) → t.classes ≡ final.classes → ((c : Cell) → in_cell c t ≡ in_cell c final) → t ≡ final
       same_state t classes cells =

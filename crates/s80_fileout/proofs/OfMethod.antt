@@ -1,16 +1,14 @@
 -- What a condensed list has for one method: the kernel's under its category, or the method itself.
-use Rattle.std.proofs.Common.{◌≡◌, ◌≢◌, ◌∙◌, ◌≤◌, ℕ, Bool, cond, true, false, refl, sym, ap, subst, List, [], ◌∷◌, Option, Some, None, Ok, option_map}
+use Rattle.std.proofs.Common.{◌≡◌, ◌∙◌, ◌≤◌, Bool, cond, true, false, refl, sym, ap, [], ◌∷◌, Option, Some, None, Ok, option_map}
 use Rattle.std.specs.Str.{bytes_eq}
 use Rattle.std.specs.Cmp.Lexicographic.{bytes_decides}
 use Rattle.std.specs.FinMap as map
-use Rattle.s80_base.specs.declared.names.Side.{Side}
 use Rattle.s80_kernel.specs.Methods.{KernelMethodRow, found_method}
 use Rattle.s80_change.specs.declared.change.Change.TheVariants.{Form, Method}
 use Rattle.s80_change.specs.declared.change.Method.{Method as MethodChange}
 use Rattle.s80_form.specs.declared.form.Form.TheVariants.{Classify}
-use Rattle.s80_class.specs.Classes.{Name}
 use Rattle.s80_apply.specs.Accept.{len_with}
-use Rattle.s80_apply.specs.State.{MethodRow, State, kernel_method, kernel_state, on_class_side, put_method}
+use Rattle.s80_apply.specs.State.{MethodRow, State, kernel_method, on_class_side, put_method}
 use Rattle.s80_fileout.specs.Condensed.{as_change, classified, kernel_category, of_method, over_kernels}
 use Rattle.s80_fileout.proofs.Leading.{Leads, leads_one}
 use Rattle.s80_fileout.proofs.Cells.{Cell, classify_accepted, in_cell, method_accepted, put_elsewhere, put_here}

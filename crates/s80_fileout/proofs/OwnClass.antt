@@ -1,5 +1,5 @@
 -- One class that isn't the kernel's: where its superclass is there, its definition, comment and class-side variables are accepted, and make it.
-use Rattle.std.proofs.Common.{◌≡◌, ◌≢◌, ◌∙◌, ◌≤◌, ◌+◌, ℕ, Bool, cond, true, false, not, find, refl, sym, ap, subst, List, [], ◌∷◌, ◌++◌, length, Option, Some, None, Ok, option_map, unwrap_or, is_some, arith}
+use Rattle.std.proofs.Common.{◌≡◌, ◌∙◌, ◌≤◌, ◌+◌, ℕ, cond, true, false, not, find, refl, sym, ap, subst, List, [], ◌∷◌, ◌++◌, length, Option, Some, None, Ok, option_map, is_some, arith}
 use Rattle.std.specs.List.{sum_by}
 use Rattle.std.specs.FinMap as map
 use Rattle.std.proofs.lemmas.List.Sums.{sum_by-cons}
@@ -13,7 +13,7 @@ use Rattle.s80_form.specs.Name.{is_name}
 use Rattle.s80_class.specs.Classes.{Name, ClassRow, Classes, IsLine, IsValid, bits_variables_of, change_row, effective_kind, extent_of, inherited_in, inherited_of, is_bits, is_under, lineage, own_or, with_class_side_vars, with_comment}
 use Rattle.s80_class.proofs.lemmas.Changed.{changed_there}
 use Rattle.s80_class.proofs.lemmas.Lines.{Entry, IsOver, lineage_line}
-use Rattle.s80_apply.specs.Accept.{accept, accepted, bad_name, define, duplicate, first_again, first_some, refusal_of, refusal_of_class_vars, row_of, too_many}
+use Rattle.s80_apply.specs.Accept.{accept, accepted, bad_name, define, duplicate, first_again, first_some, refusal_of, row_of, too_many}
 use Rattle.s80_apply.specs.State.{State}
 use Rattle.s80_apply.proofs.Defined.{inherited_defined, line_of}
 use Rattle.s80_apply.proofs.Extents.{alone_extent}
@@ -21,7 +21,7 @@ use Rattle.s80_apply.proofs.LastingWithin.{AreWithin}
 use Rattle.s80_apply.proofs.Looked.{under_absent}
 use Rattle.s80_fileout.specs.Condensed.{class_vars_of, comment_of, definition_of, of_own_class}
 use Rattle.s80_fileout.proofs.Keyed.{by_bytes, get_put_here, get_put_other, no_longer, put_twice}
-use Rattle.s80_fileout.proofs.Leading.{Leads, leads_first, leads_one, leads_then, leads_weaker}
+use Rattle.s80_fileout.proofs.Leading.{Leads, leads_first, leads_one, leads_then}
 use Rattle.s80_fileout.proofs.Cells.{few_above}
 use Rattle.s80_fileout.proofs.OwnRows.{IsOwnRow}
 
@@ -186,12 +186,12 @@ module _ (final : Classes) (within : AreWithin final) (few : map.len final ≤ 6
     given (v ∷ vs) side_named side_single extent =
         leads_one (Form (ClassVars name (v ∷ vs))) (with_row second_row) (with_row (with_class_side_vars (v ∷ vs) second_row)) (λ t. t ≡ with_row (with_class_side_vars (v ∷ vs) second_row))
         ((λ i. accepted (first_some (
-            side_named i
-            ∷ cond (known second_row i) None (Some (UnknownClass name))
-            ∷ cond (other i) (Some (KernelClass name)) None
-            ∷ side_single i
-            ∷ few_above 64 ClassSideVariables (extent_of (change_row (with_class_side_vars (v ∷ vs)) name (map.insert s name second_row)) name).class_side_vars extent i
-            ∷ [])) (record before { classes = change_row (with_class_side_vars (v ∷ vs)) name (map.insert s name second_row) }))
+        side_named i
+        ∷ cond (known second_row i) None (Some (UnknownClass name))
+        ∷ cond (other i) (Some (KernelClass name)) None
+        ∷ side_single i
+        ∷ few_above 64 ClassSideVariables (extent_of (change_row (with_class_side_vars (v ∷ vs)) name (map.insert s name second_row)) name).class_side_vars extent i
+        ∷ [])) (record before { classes = change_row (with_class_side_vars (v ∷ vs)) name (map.insert s name second_row) }))
         ∙ ap (λ (c : Classes). Ok (record before { classes = c })) (changed (with_class_side_vars (v ∷ vs)) second_row))
         refl
 
@@ -199,4 +199,4 @@ module _ (final : Classes) (within : AreWithin final) (few : map.len final ≤ 6
     leads_class =
         leads_first (Form (Define d)) (comment_of name row.comment ++ class_vars_of name row.class_side_vars) before (with_row first_row) (λ t. t ≡ with_row row) defines
         (leads_then (comment_of name row.comment) (class_vars_of name row.class_side_vars) (with_row first_row) (λ t. t ≡ with_row second_row) (λ t. t ≡ with_row row) (commented row.comment) (λ t is.
-            subst (λ u. Leads u (class_vars_of name row.class_side_vars) (λ t. t ≡ with_row row)) (sym is) (given row.class_side_vars own.side_named own.side_single extent_given)))
+        subst (λ u. Leads u (class_vars_of name row.class_side_vars) (λ t. t ≡ with_row row)) (sym is) (given row.class_side_vars own.side_named own.side_single extent_given)))

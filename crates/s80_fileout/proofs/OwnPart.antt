@@ -1,5 +1,5 @@
 -- The second part of a condensed list: the classes that aren't the kernel's, each behind its superclass.
-use Rattle.std.proofs.Common.{◌≡◌, ◌≢◌, ◌∙◌, ◌≤◌, ◌<◌, ◌==◌, ◌&&◌, ◌++◌, ℕ, zero, suc, Bool, cond, true, false, not, refl, sym, ap, subst, List, [], ◌∷◌, length, Option, Some, None, true≢false, append-nil, arith}
+use Rattle.std.proofs.Common.{◌≡◌, ◌∙◌, ◌≤◌, ◌<◌, ◌==◌, ◌&&◌, ◌++◌, ℕ, zero, suc, Bool, cond, true, false, not, refl, sym, ap, subst, List, [], ◌∷◌, length, Some, None, true≢false, append-nil, arith}
 use Rattle.std.specs.List.{flat_map}
 use Rattle.std.specs.FinMap as map
 use Rattle.std.proofs.lemmas.Bool.{and_parts}
@@ -178,13 +178,13 @@ module _ (final start : State) (within : AreWithin final.classes) (few : map.len
   one_depth n s made =
       leads_weaker (at_depth (suc n)) s (AreStepped n s) (IsMade (suc n) (suc n))
       (leads_keyed (λ (e : Row). e.0) (changes_at (suc n)) SameClass (λ q s. refl) (λ q r s t first second. second ∙ first) (IsMade n (suc n)) (Todo (suc n)) (Done (suc n))
-          (λ e s t same todo is. same ∙ todo is) (λ e s t same done is. same ∙ done is)
-          (map.entries C) (entries_apart C) (one_entry n) s
-          (record { methods = made.methods; among = made.among; valid = made.valid; kernel = made.kernel; others = made.others; later = λ q is more. made.later q is (omega (arith, more)) })
-          (λ e at is.
-              let parts = and_parts (not (is_kernel_class e.0)) (depth e.0 == suc n) is in
-              let deep = equal_told (depth e.0) (suc n) parts.1 in
-              made.later e.0 (not_true (is_kernel_class e.0) parts.0) (omega (arith, deep))))
+      (λ e s t same todo is. same ∙ todo is) (λ e s t same done is. same ∙ done is)
+      (map.entries C) (entries_apart C) (one_entry n) s
+      (record { methods = made.methods; among = made.among; valid = made.valid; kernel = made.kernel; others = made.others; later = λ q is more. made.later q is (omega (arith, more)) })
+      (λ e at is.
+      let parts = and_parts (not (is_kernel_class e.0)) (depth e.0 == suc n) is in
+      let deep = equal_told (depth e.0) (suc n) parts.1 in
+      made.later e.0 (not_true (is_kernel_class e.0) parts.0) (omega (arith, deep))))
       (λ t all. record {
         methods = all.keeps.methods;
         among = all.keeps.among;
@@ -192,7 +192,7 @@ module _ (final start : State) (within : AreWithin final.classes) (few : map.len
         kernel = all.keeps.kernel;
         others = λ q is le. by_test (depth q == suc n)
             (λ deep. by_found (map.get C q) (none_among t all.keeps.among q)
-                (λ row here. all.done (q, row) (got_entry C q row here) (λ i. not (is i) && deep i)))
+            (λ row here. all.done (q, row) (got_entry C q row here) (λ i. not (is i) && deep i)))
             (λ differs. all.keeps.others q is (less (depth q) n le differs));
         later = all.keeps.later;
       })

@@ -1,6 +1,5 @@
 -- What every class of a list has that isn't the kernel's, and that they aren't too many.
-use Rattle.std.proofs.Common.{◌≡◌, ◌≢◌, ◌∙◌, ◌≤◌, ◌+◌, ◌-◌, ℕ, Bool, cond, true, false, not, find, refl, sym, ap, subst, List, [], ◌∷◌, ◌++◌, length, map as list_map, Option, Some, None, option_map, unwrap_or, is_some, true≢false, arith}
-use Rattle.std.specs.Str.{bytes_eq}
+use Rattle.std.proofs.Common.{◌≡◌, ◌∙◌, ◌≤◌, ◌+◌, ◌-◌, ℕ, Bool, cond, true, false, not, find, refl, sym, ap, subst, List, [], ◌∷◌, length, Option, Some, None, option_map, unwrap_or, true≢false, arith}
 use Rattle.std.specs.Ordering.{nat_cmp}
 use Rattle.std.specs.Cmp.Lexicographic.{slice_cmp, nat_list_cmp_total}
 use Rattle.std.specs.FinMap as map
@@ -13,13 +12,13 @@ use Rattle.s80_form.specs.Name.{is_name}
 use Rattle.s80_class.specs.Classes.{Name, ClassRow, Classes, change_row, extent_of, with_class_side_vars, with_comment}
 use Rattle.s80_class.proofs.lemmas.Alike.{alike_len}
 use Rattle.s80_class.proofs.lemmas.Changed.{changed_alike, changed_elsewhere, changed_here}
-use Rattle.s80_apply.specs.Accept.{above, bad_name, cycle, define, duplicate, first_again, kernel_class, kernel_name, refusal_of, refusal_of_class_vars, refusal_of_removal, row_of, too_many, unknown_class, unknown_name}
+use Rattle.s80_apply.specs.Accept.{above, bad_name, cycle, define, duplicate, first_again, kernel_class, kernel_name, refusal_of, refusal_of_class_vars, row_of, too_many, unknown_class, unknown_name}
 use Rattle.s80_apply.specs.Kernel.{kernel_classes, kernel_row}
 use Rattle.s80_apply.specs.List.{classes_of}
 use Rattle.s80_apply.proofs.Booted.{built}
 use Rattle.s80_apply.proofs.LastingDefined.{accepted_apart}
 use Rattle.s80_apply.proofs.LastingLists.{in_each_list}
-use Rattle.s80_apply.proofs.Passing.{few_enough, none_first, vars_accepted}
+use Rattle.s80_apply.proofs.Passing.{few_enough, none_first}
 use Rattle.s80_apply.proofs.Refusing.{accepted_where}
 use Rattle.s80_fileout.specs.Condensed.{definition_of}
 use Rattle.s80_fileout.proofs.Keyed.{by_bytes, by_found, get_put_here, get_put_other, get_taken_here, get_taken_other, no_value, one_value}
@@ -102,20 +101,20 @@ module _ (d : Definition) (classes : Classes) (none : refusal_of d classes ≡ N
   defined_own : AreOwn (define d classes)
   defined_own name row is other = by_bytes name d.class_name
       (λ same.
-          let here : row_of d (map.get classes d.class_name) ≡ row =
-          one_value (map.get (define d classes) name) (row_of d (map.get classes d.class_name)) row
-          (ap (map.get (define d classes)) same ∙ get_put_here classes d.class_name (row_of d (map.get classes d.class_name))) is in
-          subst (λ n. IsOwnRow n row) (sym same) (subst (IsOwnRow d.class_name) here (defined_row (map.get classes d.class_name) refl)))
+      let here : row_of d (map.get classes d.class_name) ≡ row =
+      one_value (map.get (define d classes) name) (row_of d (map.get classes d.class_name)) row
+      (ap (map.get (define d classes)) same ∙ get_put_here classes d.class_name (row_of d (map.get classes d.class_name))) is in
+      subst (λ n. IsOwnRow n row) (sym same) (subst (IsOwnRow d.class_name) here (defined_row (map.get classes d.class_name) refl)))
       (λ ne. own name row (sym (get_put_other classes d.class_name (row_of d (map.get classes d.class_name)) name ne) ∙ is) other)
 
 -- a row changed, where what is told of it stays
 changed_own : (change : ClassRow → ClassRow) (class : Name) (classes : Classes) → ((row : ClassRow) → IsOwnRow class row → IsOwnRow class (change row)) → AreOwn classes → AreOwn (change_row change class classes)
 changed_own change class classes stays own name row is other = by_bytes name class
     (λ same. by_found (map.get classes class)
-        (λ none. own name row (ap (λ (c : Classes). map.get c name) (sym (absent none)) ∙ is) other)
-        (λ old was.
-            let here : change old ≡ row = one_value (map.get (change_row change class classes) name) (change old) row (ap (map.get (change_row change class classes)) same ∙ changed_here change class classes old was) is in
-            subst (λ n. IsOwnRow n row) (sym same) (subst (IsOwnRow class) here (stays old (own class old was (ap is_kernel_class (sym same) ∙ other))))))
+    (λ none. own name row (ap (λ (c : Classes). map.get c name) (sym (absent none)) ∙ is) other)
+    (λ old was.
+    let here : change old ≡ row = one_value (map.get (change_row change class classes) name) (change old) row (ap (map.get (change_row change class classes)) same ∙ changed_here change class classes old was) is in
+    subst (λ n. IsOwnRow n row) (sym same) (subst (IsOwnRow class) here (stays old (own class old was (ap is_kernel_class (sym same) ∙ other))))))
     (λ ne. own name row (sym (changed_elsewhere change class classes name ne) ∙ is) other)
   where
     absent : map.get classes class ≡ None → change_row change class classes ≡ classes
@@ -125,12 +124,26 @@ given_own : (class : Name) (names : List Name) (classes : Classes) → refusal_o
 given_own class names classes none own =
     let ok = vars_passed class names classes none in
     changed_own (with_class_side_vars names) class classes (λ row was. record {
-      superclass = was.superclass; above = was.above; named = was.named; single = was.single; class_vars = was.class_vars; pools = was.pools; side_named = ok.0; side_single = ok.1;
+      superclass = was.superclass;
+      above = was.above;
+      named = was.named;
+      single = was.single;
+      class_vars = was.class_vars;
+      pools = was.pools;
+      side_named = ok.0;
+      side_single = ok.1;
     }) own
 
 commented_own : (class : Name) (text : List ℕ) (classes : Classes) → AreOwn classes → AreOwn (change_row (with_comment text) class classes)
 commented_own class text classes own = changed_own (with_comment text) class classes (λ row was. record {
-  superclass = was.superclass; above = was.above; named = was.named; single = was.single; class_vars = was.class_vars; pools = was.pools; side_named = was.side_named; side_single = was.side_single;
+  superclass = was.superclass;
+  above = was.above;
+  named = was.named;
+  single = was.single;
+  class_vars = was.class_vars;
+  pools = was.pools;
+  side_named = was.side_named;
+  side_single = was.side_single;
 }) own
 
 removed_own : (class : Name) (classes : Classes) → AreOwn classes → AreOwn (map.remove classes class)

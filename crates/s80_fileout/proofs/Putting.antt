@@ -1,5 +1,5 @@
 -- The changes of a list that put one method, and what a state has of it.
-use Rattle.std.proofs.Common.{◌≡◌, ◌≢◌, ◌⊎◌, inl, inr, ◌∙◌, ◌+◌, ◌&&◌, ◌++◌, ℕ, zero, suc, Bool, cond, true, false, filter, reverse, take, refl, sym, ap, subst, List, [], ◌∷◌, length, map as list_map, Option, Some, None, Result, Ok, Err, option_map, true≢false, append-nil, append_assoc}
+use Rattle.std.proofs.Common.{◌≡◌, ◌≢◌, ◌⊎◌, inl, inr, ◌∙◌, ◌+◌, ◌&&◌, ◌++◌, ℕ, Bool, cond, true, false, filter, reverse, refl, sym, ap, subst, List, [], ◌∷◌, length, map as list_map, Some, None, Result, Ok, Err, true≢false, append-nil, append_assoc}
 use Rattle.std.specs.Option.{option_map_or}
 use Rattle.std.specs.Str.{bytes_eq}
 use Rattle.std.specs.Cmp.Lexicographic.{bytes_decides, slice_cmp}
@@ -107,7 +107,7 @@ without_places name at (c ∷ cs) = go (puts name c) (without_places name (at + 
   where
     go : (b : Bool) → list_map (λ (p : Placed). p.1) (filter (λ p. puts name p.1) (placed_from (at + length (block c)) cs)) ≡ filter (puts name) cs
         → list_map (λ (p : Placed). p.1) (cond b ((at, c) ∷ filter (λ p. puts name p.1) (placed_from (at + length (block c)) cs)) (filter (λ p. puts name p.1) (placed_from (at + length (block c)) cs)))
-            ≡ cond b (c ∷ filter (puts name) cs) (filter (puts name) cs)
+        ≡ cond b (c ∷ filter (puts name) cs) (filter (puts name) cs)
     go true rest = ap (λ ds. c ∷ ds) rest
     go false rest = rest
 
@@ -166,8 +166,8 @@ taken_from : (name : Name) (side : Side) (selector : Name) (s : State) → Kept 
 taken_from name side selector s cs from =
     let now : State = take_method name side selector s in
     left_from cs (changes.Form (RemoveMethod name side selector)) s now (λ c. refl) (λ c row is. by_cell (name, side, selector) c
-        (λ same. no_value (in_cell c now) row (ap (λ (d : Cell). in_cell d now) same ∙ taken_here name side selector s) is)
-        (λ ne. (row, sym (taken_elsewhere name side selector s c ne) ∙ is, refl))) from
+    (λ same. no_value (in_cell c now) row (ap (λ (d : Cell). in_cell d now) same ∙ taken_here name side selector s) is)
+    (λ ne. (row, sym (taken_elsewhere name side selector s c ne) ∙ is, refl))) from
 
 classified_from : (name : Name) (side : Side) (selector category : Name) (old : MethodRow) (s : State) → in_cell (name, side, selector) s ≡ Some old
     → Kept (changes.Form (Classify name side selector category)) s (put_method name side selector (record old { category = category }) s)
@@ -175,10 +175,10 @@ classified_from name side selector category old s there cs from =
     let made : MethodRow = record old { category = category } in
     let now : State = put_method name side selector made s in
     left_from cs (changes.Form (Classify name side selector category)) s now (λ c. refl) (λ c row is. by_cell (name, side, selector) c
-        (λ same.
-            let both : made ≡ row = one_value (in_cell c now) made row (ap (λ (d : Cell). in_cell d now) same ∙ put_here name side selector s made) is in
-            (old, ap (λ (d : Cell). in_cell d s) same ∙ there, ap (λ (r : MethodRow). r.source) both))
-        (λ ne. (row, sym (put_elsewhere name side selector s made c ne) ∙ is, refl))) from
+    (λ same.
+    let both : made ≡ row = one_value (in_cell c now) made row (ap (λ (d : Cell). in_cell d now) same ∙ put_here name side selector s made) is in
+    (old, ap (λ (d : Cell). in_cell d s) same ∙ there, ap (λ (r : MethodRow). r.source) both))
+    (λ ne. (row, sym (put_elsewhere name side selector s made c ne) ∙ is, refl))) from
 
 removed_from : (name : Name) (s : State) → Kept (changes.Form (RemoveClass name)) s (take_class name s)
 removed_from name s cs from = left_from cs (changes.Form (RemoveClass name)) s (take_class name s) (λ c. refl) (λ c row is. gone c row (bytes_eq c.0 name) is) from
@@ -194,14 +194,14 @@ put_from m selector s so cs from c row is =
     let told : (b : Bool) → puts (name_of c) (changes.Method m) ≡ b → cond b (changes.Method m ∷ versions cs c) (versions cs c) ≡ versions (cs ++ changes.Method m ∷ []) c =
     λ b h. sym (versions_more cs (changes.Method m) c ∙ ap (λ b. cond b (changes.Method m ∷ versions cs c) (versions cs c)) h) in
     by_cell (m.class_name, m.side, selector) c
-        (λ same.
-            let p : PutsCell c (changes.Method m) = record { method = m; is = refl; class = ap (λ (d : Cell). d.0) (sym same); side = ap (λ (d : Cell). d.1) (sym same); selector = so ∙ ap Ok (ap (λ (d : Cell). d.2) (sym same)) } in
-            let both : made ≡ row = one_value (in_cell c now) made row (ap (λ (d : Cell). in_cell d now) same ∙ put_here m.class_name m.side selector s made) is in
-            subst (λ vs. IsFrom c vs row.source) (told true (puts_it c (changes.Method m) p)) (ap (λ (r : MethodRow). r.source) both))
-        (λ ne.
-            let p : PutsCell (m.class_name, m.side, selector) (changes.Method m) = record { method = m; is = refl; class = refl; side = refl; selector = so } in
-            subst (λ vs. IsFrom c vs row.source) (told false (puts_no_other c (m.class_name, m.side, selector) (changes.Method m) (λ e. ne (sym e)) p))
-            (from c row (sym (put_elsewhere m.class_name m.side selector s made c ne) ∙ is)))
+    (λ same.
+    let p : PutsCell c (changes.Method m) = record { method = m; is = refl; class = ap (λ (d : Cell). d.0) (sym same); side = ap (λ (d : Cell). d.1) (sym same); selector = so ∙ ap Ok (ap (λ (d : Cell). d.2) (sym same)) } in
+    let both : made ≡ row = one_value (in_cell c now) made row (ap (λ (d : Cell). in_cell d now) same ∙ put_here m.class_name m.side selector s made) is in
+    subst (λ vs. IsFrom c vs row.source) (told true (puts_it c (changes.Method m) p)) (ap (λ (r : MethodRow). r.source) both))
+    (λ ne.
+    let p : PutsCell (m.class_name, m.side, selector) (changes.Method m) = record { method = m; is = refl; class = refl; side = refl; selector = so } in
+    subst (λ vs. IsFrom c vs row.source) (told false (puts_no_other c (m.class_name, m.side, selector) (changes.Method m) (λ e. ne (sym e)) p))
+    (from c row (sym (put_elsewhere m.class_name m.side selector s made c ne) ∙ is)))
 
 cases : Cases Kept
 cases = record {

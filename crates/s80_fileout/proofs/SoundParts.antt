@@ -1,5 +1,5 @@
 -- The forms of a condensed list are brief, and its methods lawful, where the list that made the state is lawful.
-use Rattle.std.proofs.Common.{◌≡◌, ◌≢◌, ◌⊎◌, inl, inr, ◌∙◌, ◌≤◌, ◌<◌, ◌==◌, ◌++◌, ℕ, Bool, cond, true, false, not, filter, reverse, take, refl, sym, ap, subst, List, [], ◌∷◌, length, map as list_map, Option, Some, None, Ok, option_map, true≢false, arith}
+use Rattle.std.proofs.Common.{◌≡◌, ◌≢◌, ◌⊎◌, inl, inr, ◌∙◌, ◌≤◌, ◌==◌, ◌++◌, ℕ, Bool, cond, true, false, not, filter, refl, sym, ap, subst, List, [], ◌∷◌, length, Option, Some, None, option_map, true≢false, arith}
 use Rattle.std.specs.List.{All}
 use Rattle.std.specs.FinMap as map
 use Rattle.std.specs.Str.{bytes_eq}
@@ -12,15 +12,15 @@ use Rattle.s80_kernel.specs.Methods.{KernelMethodRow, found_method}
 use Rattle.s80_form.specs.declared.form.Form.TheVariants.{Classify, Define, NoChanges, RemoveMethod}
 use Rattle.s80_form.specs.Name.{IsBrief, AreBrief}
 use Rattle.s80_change.specs.declared.change.Change.{Change}
-use Rattle.s80_change.specs.declared.change.Change.TheVariants.{Form, Method}
+use Rattle.s80_change.specs.declared.change.Change.TheVariants.{Form}
 use Rattle.s80_change.specs.Block.{IsLawful}
 use Rattle.s80_class.specs.Classes.{Name, ClassRow, lineage}
 use Rattle.s80_apply.specs.List.{state_of}
 use Rattle.s80_apply.specs.State.{MethodRow, State, kernel_method, kernel_state, on_class_side}
 use Rattle.s80_apply.proofs.Names.{classes_named}
 use Rattle.s80_fileout.specs.Condensed.{as_change, class_vars_of, classified, comment_of, condensed_with, defined, definition_of, for_classes, for_methods, is_own_at, kernel_category, kernel_part, of_kernel_class, of_method, of_own_class, over_kernels, own_part, removals, up_to}
-use Rattle.s80_fileout.proofs.Elements.{IsIn, filtered_in, mapped_in}
-use Rattle.s80_fileout.proofs.Keyed.{by_found, entry_got, key_got, one_value}
+use Rattle.s80_fileout.proofs.Elements.{filtered_in, mapped_in}
+use Rattle.s80_fileout.proofs.Keyed.{entry_got, key_got, one_value}
 use Rattle.s80_fileout.proofs.Cells.{Cell, in_cell}
 use Rattle.s80_fileout.proofs.KernelCells.{kernel_cell, kernel_selector_short}
 use Rattle.s80_fileout.proofs.ManyCells.{CellRow, IsCell, all_cells, all_cells_in, cell_of, for_methods_are}
