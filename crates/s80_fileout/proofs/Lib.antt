@@ -24,3 +24,6 @@ pub mod SoundParts
 pub mod KeptCategories
 pub mod KeptSound
 pub mod FoldsBack
+pub mod FileRead
+pub mod FiledTexts
+pub mod HeaderRead

@@ -1,3 +1,4 @@
 pub mod Condensed
 pub mod Moment
 pub mod FileText
+pub mod Items

@@ -72,7 +72,8 @@ impl File {
     {
         let head = head_of(alloc, method)?;
         self.begin(alloc, &head)?;
-        self.text.append(write_chunk(alloc, method.source.text())?.bytes())?;
+        self.text
+            .append(write_chunk(alloc, method.source.text())?.bytes())?;
         self.section = Some(head);
         Ok(())
     }
@@ -88,7 +89,8 @@ impl File {
         }
         self.close()?;
         self.text.append(b"!")?;
-        self.text.append(write_chunk(alloc, &head_text(alloc, head)?)?.bytes())?;
+        self.text
+            .append(write_chunk(alloc, &head_text(alloc, head)?)?.bytes())?;
         self.text.append(b"\n")
     }
 

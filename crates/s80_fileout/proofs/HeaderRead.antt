@@ -1,0 +1,67 @@
+-- The first line of a file of changes is read as a doIt.
+use Rattle.std.proofs.Common.{◌≡◌, ◌≢◌, ℕ, ◌+◌, ◌/◌, ◌%◌, ◌≤◌, ◌<◌, true, false, true≢false, codes, All, nat_abs, List, [], ◌∷◌, ◌++◌, length, Option, None, refl, sym, ap, subst, ◌∙◌, append_assoc, arith}
+use Rattle.std.proofs.lemmas.Bool.{ne_eqb}
+use Rattle.std.proofs.lemmas.Grind.{flat_map-append}
+use Rattle.jiff_core.specs.declared.civil.datetime.DateTime.{DateTime}
+use Rattle.s80_chunk.specs.declared.item.Item.{Item}
+use Rattle.s80_chunk.specs.declared.item.Item.TheVariants as items
+use Rattle.s80_chunk.specs.Chunks.{mark, chunk, longest, spell, spell_byte, IsBlank, IsPlainText, IsReading, Reads, HoldsNone, section_after}
+use Rattle.s80_chunk.proofs.Again.{plain_again}
+use Rattle.s80_chunk.proofs.Lines.{blank_holds_none}
+use Rattle.s80_change.specs.declared.change.Change.{Change}
+use Rattle.s80_change.specs.Block.{IsLawful}
+use Rattle.s80_fileout.specs.FileText.{changes_text, header, IsFile, IsHeader}
+use Rattle.s80_fileout.specs.Items.{header_text, items_from, IsReadAs, IsShort}
+use Rattle.s80_fileout.specs.Moment.{civil_text, two_digits, IsMoment}
+use Rattle.s80_fileout.proofs.FileRead.{changes_read, ends_at_top, one_more}
+use Rattle.s80_fileout.proofs.FiledTexts.{all_readable}
+
+-- without marks a text is spelled as it is
+abbrev HasNoMarks : List ℕ → Type 0
+HasNoMarks [] = Unit {0}
+HasNoMarks (b ∷ text) = (b ≢ mark) × HasNoMarks text
+
+spell_same : (text : List ℕ) → HasNoMarks text → spell text ≡ text
+spell_same [] none = refl
+spell_same (b ∷ text) none = rw (ne_eqb b mark none.0) (ap (λ l. b ∷ l) (spell_same text none.1))
+
+digit : (n : ℕ) → 48 + n ≢ mark
+digit n e = omega (arith, e)
+
+-- one of the bytes between the digits
+other : (b : ℕ) → mark < b → b ≢ mark
+other b more e = omega (arith, more, e)
+
+moment_has_none : (dt : DateTime) → HasNoMarks (civil_text dt)
+moment_has_none dt =
+    (digit _, (digit _, (digit _, (digit _, (other 45 (omega arith), (digit _, (digit _, (other 45 (omega arith), (digit _, (digit _, (other 84 (omega arith), (digit _, (digit _, (other 58 (omega arith), (digit _, (digit _, (other 58 (omega arith), (digit _, (digit _, (other 90 (omega arith), tt))))))))))))))))))))
+
+module _ (dt : DateTime) where
+  abbrev moment : List ℕ
+  moment = civil_text dt
+
+  spelled : spell (header_text moment) ≡ header_text moment
+  spelled =
+      let first = codes "'From Smalltalk-80, filed out " in
+      flat_map-append spell_byte first (moment ++ 39 ∷ []) ∙ ap (λ l. first ++ l) (flat_map-append spell_byte moment (39 ∷ []) ∙ ap (λ l. l ++ 39 ∷ []) (spell_same moment (moment_has_none dt)))
+
+  header_chunk : header moment ≡ chunk (header_text moment) ++ 10 ∷ []
+  header_chunk = sym (ap (λ l. (l ++ mark ∷ []) ++ 10 ∷ []) spelled)
+
+  header_plain : IsPlainText (header_text moment)
+  header_plain = (λ e. true≢false (sym e), other 39 (omega arith), let size : length (header_text moment) ≡ 51 = refl in omega (arith, size))
+
+  header_read : (changes : List Change) → All IsLawful changes → All IsShort changes → IsReadAs (header moment ++ changes_text changes) moment changes
+  header_read changes lawful short =
+      let more = changes_read None changes (all_readable changes lawful short) in
+      let parts : header moment ++ changes_text changes ≡ chunk (header_text moment) ++ (10 ∷ changes_text changes) = ap (λ l. l ++ changes_text changes) header_chunk ∙ append_assoc (chunk (header_text moment)) (10 ∷ []) (changes_text changes) in
+      let read = one_more false _ (chunk (header_text moment)) (10 ∷ changes_text changes) (items.Plain (header_text moment)) (items_from None changes) (plain_again (header_text moment) header_plain.0 header_plain.1 header_plain.2) (other_than_mark) parts more in
+      (read.0, record { reads = read.1; stops = subst (λ b. HoldsNone true b read.0) (sym (ends_at_top None changes)) (blank_holds_none read.0 read.2) }, read.2)
+    where
+      other_than_mark : 10 ≢ mark
+      other_than_mark e = omega (arith, e)
+
+pub file_read : (changes : List Change) (seconds : ℕ) (text : List ℕ) → All IsLawful changes → All IsShort changes → IsFile changes seconds text → (moment : List ℕ) × IsMoment seconds moment × IsReadAs text moment changes
+file_read changes seconds text lawful short (first, (_, (dt, civil, moment_is), first_is), text_is) =
+    let whole : text ≡ header (civil_text dt) ++ changes_text changes = text_is ∙ ap (λ l. l ++ changes_text changes) (first_is ∙ ap header moment_is) in
+    (civil_text dt, (dt, civil, refl), subst (λ t. IsReadAs t (civil_text dt) changes) (sym whole) (header_read dt changes lawful short))
