@@ -27,3 +27,11 @@ pub mod FoldsBack
 pub mod FileRead
 pub mod FiledTexts
 pub mod HeaderRead
+mod Grouped
+mod Pieces
+mod Looked
+mod Depths
+mod Owned
+mod Categories
+mod Made
+mod Systems

@@ -1,10 +1,10 @@
 -- Changes one after the other.
-use Rattle.std.proofs.Common.{◌≡◌, ◌∙◌, ◌+◌, ◌≤◌, ℕ, suc, zero, List, [], ◌∷◌, ◌++◌, Option, Some, None, drop, length, sym, ap, arith}
+use Rattle.std.proofs.Common.{◌≡◌, ◌∙◌, ◌+◌, ◌≤◌, ℕ, suc, zero, List, [], ◌∷◌, ◌++◌, Option, Some, drop, length, sym, ap, arith}
 use Rattle.std.specs.Prelude.{slice_get}
 use Rattle.std.proofs.lemmas.List.{drop_all}
 use Rattle.s80_change.specs.declared.change.Change.{Change}
 use Rattle.s80_change.specs.declared.head.SectionHead.{SectionHead}
-use Rattle.s80_fileout.specs.FileText.{changes_from, changes_text, closed}
+use Rattle.s80_fileout.specs.FileText.{changes_from, closed}
 
 -- what is left at a place begins with what stands there
 left_behind : (xs : List Change) (i : ℕ) (x : Change) → slice_get xs i ≡ Some x → drop i xs ≡ x ∷ drop (suc i) xs

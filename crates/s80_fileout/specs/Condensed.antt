@@ -1,6 +1,6 @@
 -- The shortest list that makes a state, and the one that keeps the newest versions of its methods (Goldberg, "Smalltalk-80: The Interactive
 -- Programming Environment", on condensing changes).
-use Rattle.std.specs.Prelude.{ℕ, zero, suc, ◌==◌, ◌&&◌, not, Bool, List, [], ◌∷◌, ◌++◌, length, map as list_map, filter, reverse, take, Option, Some, None, Ok, if◌then◌else◌, option_map, unwrap_or, codes}
+use Rattle.std.specs.Prelude.{ℕ, zero, suc, ◌==◌, ◌&&◌, not, Bool, List, [], ◌∷◌, ◌++◌, length, map as list_map, filter, reverse, take, Option, Some, None, Ok, if◌then◌else◌, codes}
 use Rattle.std.specs.List.{flat_map}
 use Rattle.std.specs.FinMap as map
 use Rattle.std.specs.Str.{bytes_eq}

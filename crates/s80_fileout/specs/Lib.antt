@@ -1,4 +1,5 @@
 pub mod Condensed
+pub mod Order
 pub mod Moment
 pub mod FileText
 pub mod Items

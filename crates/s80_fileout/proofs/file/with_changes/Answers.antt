@@ -1,4 +1,4 @@
-use Rattle.std.proofs.Common.{◌≡◌, ◌++◌, ◌+◌, ◌∙◌, drop, arith}
+use Rattle.std.proofs.Common.{◌++◌, ◌+◌, ◌∙◌, drop, arith}
 use Rattle.s80_fileout.specs.FileText.{changes_text}
 use Rattle.s80_fileout.proofs.Listed.{next_change, all_changes}
 use Rattle.s80_fileout.proofs.file.with_changes.Goals as goal

@@ -1,0 +1,32 @@
+//! Reads rows from standard input and prints behind each the text of a file of changes, or the shortest list that makes the state of a list of
+//! changes. What it is given and what it prints are tables of the repository's tests.
+#![tactic(auto)]
+
+mod lists;
+
+use anyhow::{Context, Result, bail};
+use s80_base::Text;
+use s80_rows::{input, print, word_of};
+use std::alloc::Global;
+
+/// What a row shows.
+fn answer(alloc: Global, word: &str, rest: &str) -> Result<Text> {
+    match word {
+        "file" => lists::file(alloc, rest),
+        "shortest" => lists::shortest(alloc, rest),
+        _ => bail!("no row: {word}"),
+    }
+}
+
+fn main(rt: HostRuntime) -> Result<()> {
+    let rows = input(&rt)?;
+    let rows = std::str::from_utf8(rows.bytes()).context("the rows are no text")?;
+    for row in rows.lines() {
+        let lines = match word_of(row) {
+            Some((word, rest)) => answer(rt.alloc(), word, rest).with_context(|| row)?,
+            None => Text::empty(rt.alloc()),
+        };
+        print(&rt, row, &lines)?;
+    }
+    Ok(())
+}

@@ -1,0 +1,11 @@
+-- What makes the classes so far.
+use Rattle.std.proofs.Common.{◌≡◌, ◌++◌, take}
+use Rattle.std.specs.List.{flat_map}
+use Rattle.std.specs.FinMap as map
+use Rattle.s80_apply.specs.State.{State}
+use Rattle.s80_apply.specs.System.{IsSystemOf}
+use Rattle.s80_fileout.specs.Order.{kernel_class}
+use Rattle.s80_fileout.proofs.classes.add_kernel_classes.Given as goal
+
+abbrev pub invariant-loop-i : goal.invariant-loop-i
+invariant-loop-i l = (state : State) → IsSystemOf l.system state → l.changes ≡ l.fn.changes ++ flat_map (kernel_class state) (take l.i (map.keys state.classes))
