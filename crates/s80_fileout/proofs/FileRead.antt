@@ -1,15 +1,12 @@
 -- A file of changes is read as its items.
-use Rattle.std.proofs.Common.{◌≡◌, ℕ, ◌≤◌, ◌==◌, ◌&&◌, Bool, true, false, if◌then◌else◌, codes, All, List, [], ◌∷◌, ◌++◌, length, Option, Some, None, refl, sym, ap, subst, ◌∙◌, append_assoc, arith}
-use Rattle.std.proofs.lemmas.List.{append-nil}
+use Rattle.std.proofs.Common.{◌≡◌, ℕ, ◌≤◌, Bool, true, false, if◌then◌else◌, All, List, [], ◌∷◌, ◌++◌, length, Option, Some, None, refl, sym, ap, subst, ◌∙◌, append_assoc, arith}
 use Rattle.std.proofs.lemmas.List.Elements.{All-head, All-tail}
-use Rattle.s80_base.specs.Byte.{is_separator}
 use Rattle.s80_chunk.specs.declared.item.Item.{Item}
 use Rattle.s80_chunk.specs.declared.item.Item.TheVariants as items
 use Rattle.s80_chunk.specs.declared.item.Role.TheVariants as roles
-use Rattle.s80_chunk.specs.Chunks.{mark, chunk, longest, IsBlank, IsChunkText, IsNoMark, IsPlainText, IsReadAgain, IsReading, IsText, Reads, section_after}
+use Rattle.s80_chunk.specs.Chunks.{mark, chunk, longest, IsBlank, IsChunkText, IsNoMark, IsPlainText, IsReadAgain, IsText, Reads, section_after}
 use Rattle.s80_chunk.specs.Chunks.Reads.{stop}
 use Rattle.s80_chunk.proofs.Again.{again, end_again, not_empty, plain_text}
-use Rattle.s80_chunk.proofs.Lines.{blank_holds_none}
 use Rattle.s80_chunk.proofs.lemmas.Reading.{reads_then}
 use Rattle.s80_form.specs.Form.{form_text}
 use Rattle.s80_change.specs.declared.change.Change.{Change}
@@ -18,8 +15,8 @@ use Rattle.s80_change.specs.declared.change.Method.{Method as MethodChange}
 use Rattle.s80_change.specs.declared.head.SectionHead.{SectionHead}
 use Rattle.s80_change.specs.Block.{block, head_of}
 use Rattle.s80_change.specs.Head.{head_text}
-use Rattle.s80_fileout.specs.FileText.{begun, changes_from, closed, closing, is_same_head, opening, parting}
-use Rattle.s80_fileout.specs.Items.{begins_section, ends_section, items_from}
+use Rattle.s80_fileout.specs.FileText.{changes_from, closing, is_same_head, opening, parting}
+use Rattle.s80_fileout.specs.Items.{items_from}
 
 -- what the texts of a change have to be, so that they are read again
 pub record IsReadableMethod (m : MethodChange) : Type 0 where

@@ -1,11 +1,11 @@
 -- The texts of lawful changes are those of chunks.
-use Rattle.std.proofs.Common.{◌≡◌, ◌≢◌, ℕ, ◌≤◌, ◌&&◌, ◌||◌, ◌==◌, Bool, true, false, nat_le, true≢false, codes, All, List, [], ◌∷◌, ◌++◌, length, refl, sym, ap, subst, ◌∙◌, append_assoc, arith, rules}
+use Rattle.std.proofs.Common.{◌≡◌, ◌≢◌, ℕ, true, true≢false, codes, All, List, [], ◌∷◌, ◌++◌, sym, subst, arith, rules}
 use Rattle.std.proofs.lemmas.Bool.Decides.{nat_tests}
 use Rattle.std.proofs.lemmas.List.Elements.{All-nil, All-cons, All-head, All-tail}
 use Rattle.std.specs.Char.{is_ascii_alphabetic}
 use Rattle.s80_base.specs.Byte.{is_separator}
 use Rattle.s80_lex.specs.Spelling.{quoted}
-use Rattle.s80_chunk.specs.Chunks.{mark, longest, IsChunkText, IsNoMark, IsPlainText, IsSeparator}
+use Rattle.s80_chunk.specs.Chunks.{mark, IsChunkText, IsNoMark}
 use Rattle.s80_form.specs.Definition.{joined}
 use Rattle.s80_form.specs.declared.form.Form.{Form as AnyForm}
 use Rattle.s80_form.specs.declared.form.Form.TheVariants as forms
@@ -14,10 +14,9 @@ use Rattle.s80_form.specs.Name.{IsName}
 use Rattle.s80_form.proofs.lemmas.Cuts.{spread}
 use Rattle.s80_change.specs.declared.change.Change.{Change}
 use Rattle.s80_change.specs.declared.change.Change.TheVariants.{Form, Method, DoIt}
-use Rattle.s80_change.specs.Block.{head_of, IsLawful}
-use Rattle.s80_change.specs.Head.{head_text}
+use Rattle.s80_change.specs.Block.{IsLawful}
 use Rattle.s80_fileout.specs.Items.{IsShort}
-use Rattle.s80_fileout.proofs.FileRead.{IsReadable, IsReadableMethod}
+use Rattle.s80_fileout.proofs.FileRead.{IsReadable}
 
 -- a text that begins with no separator and no mark
 abbrev Begins : List ℕ → Type 0

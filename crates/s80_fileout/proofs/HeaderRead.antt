@@ -1,18 +1,17 @@
 -- The first line of a file of changes is read as a doIt.
-use Rattle.std.proofs.Common.{◌≡◌, ◌≢◌, ℕ, ◌+◌, ◌/◌, ◌%◌, ◌≤◌, ◌<◌, true, false, true≢false, codes, All, nat_abs, List, [], ◌∷◌, ◌++◌, length, Option, None, refl, sym, ap, subst, ◌∙◌, append_assoc, arith}
+use Rattle.std.proofs.Common.{◌≡◌, ◌≢◌, ℕ, ◌+◌, ◌<◌, true, false, true≢false, codes, All, List, [], ◌∷◌, ◌++◌, length, None, refl, sym, ap, subst, ◌∙◌, append_assoc, arith}
 use Rattle.std.proofs.lemmas.Bool.{ne_eqb}
 use Rattle.std.proofs.lemmas.Grind.{flat_map-append}
 use Rattle.jiff_core.specs.declared.civil.datetime.DateTime.{DateTime}
-use Rattle.s80_chunk.specs.declared.item.Item.{Item}
 use Rattle.s80_chunk.specs.declared.item.Item.TheVariants as items
-use Rattle.s80_chunk.specs.Chunks.{mark, chunk, longest, spell, spell_byte, IsBlank, IsPlainText, IsReading, Reads, HoldsNone, section_after}
+use Rattle.s80_chunk.specs.Chunks.{mark, chunk, spell, spell_byte, IsPlainText, HoldsNone}
 use Rattle.s80_chunk.proofs.Again.{plain_again}
 use Rattle.s80_chunk.proofs.Lines.{blank_holds_none}
 use Rattle.s80_change.specs.declared.change.Change.{Change}
 use Rattle.s80_change.specs.Block.{IsLawful}
-use Rattle.s80_fileout.specs.FileText.{changes_text, header, IsFile, IsHeader}
+use Rattle.s80_fileout.specs.FileText.{changes_text, header, IsFile}
 use Rattle.s80_fileout.specs.Items.{header_text, items_from, IsReadAs, IsShort}
-use Rattle.s80_fileout.specs.Moment.{civil_text, two_digits, IsMoment}
+use Rattle.s80_fileout.specs.Moment.{civil_text, IsMoment}
 use Rattle.s80_fileout.proofs.FileRead.{changes_read, ends_at_top, one_more}
 use Rattle.s80_fileout.proofs.FiledTexts.{all_readable}
 

@@ -1,5 +1,5 @@
 -- The items as which a file of changes is read.
-use Rattle.std.specs.Prelude.{◌≡◌, ℕ, ◌≤◌, if◌then◌else◌, codes, length, List, [], ◌∷◌, ◌++◌, Option, Some, None}
+use Rattle.std.specs.Prelude.{ℕ, ◌≤◌, if◌then◌else◌, codes, length, List, [], ◌∷◌, ◌++◌, Option, Some, None}
 use Rattle.s80_chunk.specs.declared.item.Item.{Item}
 use Rattle.s80_chunk.specs.declared.item.Item.TheVariants as items
 use Rattle.s80_chunk.specs.Chunks.{longest, IsBlank, IsReading}
