@@ -1,0 +1,4 @@
+mod FormsFit
+mod HeaderAsked
+mod FiledIn
+mod FileFiledIn

@@ -1,0 +1,37 @@
+-- What filing in a file of changes comes to.
+use Rattle.std.specs.Prelude.{◌≡◌, ℕ, ◌≤◌, All, length, map, List, [], ◌∷◌, ◌++◌}
+use Rattle.s80_chunk.specs.declared.item.Item.{Item}
+use Rattle.s80_chunk.specs.Chunks.{IsReading}
+use Rattle.s80_change.specs.declared.change.Change.{Change}
+use Rattle.s80_change.specs.declared.change.Change.TheVariants.{DoIt}
+use Rattle.s80_change.specs.Block.{blocks, log_limit, IsLawful}
+use Rattle.s80_apply.specs.List.{state_of, AreAccepted}
+use Rattle.s80_model.specs.declared.item.SessionItem.{SessionItem}
+use Rattle.s80_model.specs.declared.item.SessionItem.TheVariants.{Chunk}
+use Rattle.s80_model.specs.Asked.{Ask}
+use Rattle.s80_model.specs.Replies.{Work, AllAsk, list_after_all}
+use Rattle.s80_fileout.specs.Items.{header_text, IsShort}
+
+abbrev pub IsNoDoIt : Change → Type 0
+IsNoDoIt (DoIt text) = ⊥
+IsNoDoIt _ = Unit {0}
+
+-- The list accepts these changes, one after the other, of which none is a doIt, and no text is too long for a chunk. With them it is no longer than a log may be.
+pub record CanFile (list changes : List Change) : Type 0 where
+  pub lawful : All IsLawful changes
+  pub short : All IsShort changes
+  pub no_doit : All IsNoDoIt changes
+  pub accepted : AreAccepted (state_of list) changes
+  pub within : length (blocks (list ++ changes)) ≤ log_limit
+
+-- whatever these items ask, they lead to this list
+abbrev pub LeadsTo : Work → List SessionItem → List Change → Type 0
+LeadsTo work items list = (asks : List Ask) → AllAsk work items asks → list_after_all work asks ≡ list
+
+-- and so do those as which the bytes are read
+abbrev pub BytesLeadTo : Work → List ℕ → List Change → Type 0
+BytesLeadTo work bytes list = (given : List Item) (rest : List ℕ) → IsReading bytes given rest → LeadsTo work (map Chunk given) list
+
+-- a list with the doIt of a file's first line
+abbrev pub headed : List Change → List ℕ → List Change
+headed list moment = list ++ DoIt (header_text moment) ∷ []
