@@ -1,5 +1,6 @@
 -- What items ask, one by one.
-use Rattle.std.proofs.Common.{◌≡◌, ◌⊎◌, inl, inr, ℕ, Bool, List, [], ◌∷◌, Result, Ok, Err, refl, sym, ap, subst, ◌∙◌}
+use Rattle.std.proofs.Common.{All, ◌≡◌, ◌≢◌, ◌⊎◌, inl, inr, ℕ, Bool, List, [], ◌∷◌, Option, Some, None, Result, Ok, Err, refl, sym, ap, subst, ◌∙◌}
+use Rattle.std.proofs.lemmas.List.Elements.{All-head, All-tail}
 use Rattle.s80_chunk.specs.declared.item.Item.TheVariants as items
 use Rattle.s80_tree.specs.Tree.{DoItParts}
 use Rattle.s80_syntax.specs.Faults.{IsDoItText}
@@ -17,6 +18,10 @@ use Rattle.s80_change.proofs.Heads.{one_head_of}
 use Rattle.s80_syntax.specs.declared.fault.ParseFault.TheVariants as faults
 use Rattle.s80_form.specs.declared.refusal.SyntaxKind.{SyntaxKind}
 use Rattle.s80_form.specs.declared.refusal.SyntaxKind.TheVariants as kinds
+use Rattle.s80_fileout.specs.Moment.{IsMoment}
+use Rattle.s80_model.specs.declared.item.Filed.{Filed}
+use Rattle.s80_model.specs.declared.item.Query.{Query as SessionQuery}
+use Rattle.s80_model.specs.declared.item.Query.TheVariants as queries
 use Rattle.s80_model.specs.declared.item.SessionItem.{SessionItem}
 use Rattle.s80_model.specs.declared.item.SessionItem.TheVariants.{Chunk, Unended, Query}
 use Rattle.s80_form.specs.declared.form.Form.{Form as FormOfDoIt}
@@ -26,9 +31,9 @@ use Rattle.s80_form.proofs.lemmas.OneForm.{form_of_text_same, has_same}
 use Rattle.s80_apply.specs.List.{add, state_of}
 use Rattle.s80_doit.specs.Answer.{EvaluatesTo}
 use Rattle.s80_doit.specs.DoIt.{Fits}
-use Rattle.s80_model.specs.Asked.{Ask, refuses, adds, evaluates, opens, refuses_head, adds_source, refuses_source, closes, tells, IsRefusedText, AsksPlain, IsRefusedHead, AsksHead, AsksMethod, IsKeptAs}
+use Rattle.s80_model.specs.Asked.{Ask, refuses, adds, evaluates, opens, refuses_head, adds_source, refuses_source, closes, tells, files, IsRefusedText, AsksPlain, IsRefusedHead, AsksHead, AsksMethod, IsKeptAs, AsksQuery, IsTimed}
 use Rattle.s80_model.specs.Replies.{AllAsk, AsksIn, IsEvaluated, IsSo, Work, work_after}
-use Rattle.s80_model.specs.Settings.{Settings}
+use Rattle.s80_model.specs.Settings.{IsNow, Settings}
 
 -- in the state of a list a text is told one thing
 abbrev pub OneTold : Type 0
@@ -127,24 +132,28 @@ one_plain one work text (adds_source source) other h so k also = absurd h
 one_plain one work text (refuses_source refusal) other h so k also = absurd h
 one_plain one work text closes other h so k also = absurd h
 one_plain one work text (tells query) other h so k also = absurd h
+one_plain one work text (files filed moment) other h so k also = absurd h
 one_plain one work text (refuses reason) (opens head) h so k also = absurd k
 one_plain one work text (refuses reason) (refuses_head refusal) h so k also = absurd k
 one_plain one work text (refuses reason) (adds_source source) h so k also = absurd k
 one_plain one work text (refuses reason) (refuses_source refusal) h so k also = absurd k
 one_plain one work text (refuses reason) closes h so k also = absurd k
 one_plain one work text (refuses reason) (tells query) h so k also = absurd k
+one_plain one work text (refuses reason) (files filed moment) h so k also = absurd k
 one_plain one work text (adds change) (opens head) h so k also = absurd k
 one_plain one work text (adds change) (refuses_head refusal) h so k also = absurd k
 one_plain one work text (adds change) (adds_source source) h so k also = absurd k
 one_plain one work text (adds change) (refuses_source refusal) h so k also = absurd k
 one_plain one work text (adds change) closes h so k also = absurd k
 one_plain one work text (adds change) (tells query) h so k also = absurd k
+one_plain one work text (adds change) (files filed moment) h so k also = absurd k
 one_plain one work text (evaluates own told stopped) (opens head) h so k also = absurd k
 one_plain one work text (evaluates own told stopped) (refuses_head refusal) h so k also = absurd k
 one_plain one work text (evaluates own told stopped) (adds_source source) h so k also = absurd k
 one_plain one work text (evaluates own told stopped) (refuses_source refusal) h so k also = absurd k
 one_plain one work text (evaluates own told stopped) closes h so k also = absurd k
 one_plain one work text (evaluates own told stopped) (tells query) h so k also = absurd k
+one_plain one work text (evaluates own told stopped) (files filed moment) h so k also = absurd k
 
 -- ---- heads
 
@@ -189,6 +198,7 @@ one_opening text (opens head) (adds_source source) h k = absurd k
 one_opening text (opens head) (refuses_source other) h k = absurd k
 one_opening text (opens head) closes h k = absurd k
 one_opening text (opens head) (tells query) h k = absurd k
+one_opening text (opens head) (files filed moment) h k = absurd k
 one_opening text (refuses_head refusal) (refuses other) h k = absurd k
 one_opening text (refuses_head refusal) (adds change) h k = absurd k
 one_opening text (refuses_head refusal) (evaluates own told stopped) h k = absurd k
@@ -196,6 +206,7 @@ one_opening text (refuses_head refusal) (adds_source source) h k = absurd k
 one_opening text (refuses_head refusal) (refuses_source other) h k = absurd k
 one_opening text (refuses_head refusal) closes h k = absurd k
 one_opening text (refuses_head refusal) (tells query) h k = absurd k
+one_opening text (refuses_head refusal) (files filed moment) h k = absurd k
 one_opening text (refuses refusal) other h k = absurd h
 one_opening text (adds change) other h k = absurd h
 one_opening text (evaluates own told stopped) other h k = absurd h
@@ -203,6 +214,7 @@ one_opening text (adds_source source) other h k = absurd h
 one_opening text (refuses_source refusal) other h k = absurd h
 one_opening text closes other h k = absurd h
 one_opening text (tells query) other h k = absurd h
+one_opening text (files filed moment) other h k = absurd h
 
 -- ---- methods
 
@@ -217,6 +229,7 @@ method_asks text (refuses_head refusal) h = absurd h
 method_asks text (refuses_source refusal) h = absurd h
 method_asks text closes h = absurd h
 method_asks text (tells query) h = absurd h
+method_asks text (files filed moment) h = absurd h
 
 one_source : (text : List ℕ) (one other : Ask) → AsksMethod text one → AsksMethod text other → one ≡ other
 one_source text one other h k =
@@ -224,27 +237,67 @@ one_source text one other h k =
     let b = method_asks text other k in
     a.1 ∙ ap (λ s. adds_source (record { text = text; selector = s })) (check_same text a.0 b.0 a.2 b.2) ∙ sym b.1
 
+-- ---- queries
+
+-- a second has one moment
+abbrev pub OneMoment : Type 0
+OneMoment = (seconds : ℕ) (one other : List ℕ) → IsMoment seconds one → IsMoment seconds other → other ≡ one
+
+one_now : OneMoment → (clock : Option ℕ) (moment other : List ℕ) → (clock ≢ None) → IsNow clock moment → IsNow clock other → other ≡ moment
+one_now one None moment other told h k = absurd (told refl)
+one_now one (Some seconds) moment other told h k = one seconds moment other h k
+
+one_file : OneMoment → (work : Work) (filed : Filed) (ask other : Ask) → (work.settings.moment ≢ None) → AsksQuery (queries.FileOut filed) ask → IsSo work ask → AsksQuery (queries.FileOut filed) other → IsSo work other → other ≡ ask
+one_file one work filed ask other timed (moment, is) so (again, also) now =
+    let same = one_now one work.settings.moment moment again timed (subst (IsSo work) is so) (subst (IsSo work) also now) in
+    also ∙ ap (files filed) same ∙ sym is
+
+one_query : OneMoment → (work : Work) (query : SessionQuery) (ask other : Ask) → IsTimed work.settings (Query query) → AsksQuery query ask → IsSo work ask → AsksQuery query other → IsSo work other → other ≡ ask
+one_query one work queries.Recover ask other timed h so k also = k ∙ sym h
+one_query one work queries.Classes ask other timed h so k also = k ∙ sym h
+one_query one work (queries.Browse name) ask other timed h so k also = k ∙ sym h
+one_query one work (queries.Source spec selector) ask other timed h so k also = k ∙ sym h
+one_query one work (queries.Versions spec selector) ask other timed h so k also = k ∙ sym h
+one_query one work queries.Changes ask other timed h so k also = k ∙ sym h
+one_query one work (queries.FileOut filed) ask other timed h so k also = one_file one work filed ask other timed h so k also
+one_query one work queries.Snapshot ask other timed h so k also = k ∙ sym h
+
 -- ---- items
 
 -- an item asks one thing
-pub one_ask : OneTold → (work : Work) (item : SessionItem) (ask other : Ask) → AsksIn work item ask → AsksIn work item other → other ≡ ask
-one_ask one work (Chunk (items.Plain text)) ask other h k = one_plain one work text ask other h.0 h.1 k.0 k.1
-one_ask one work (Chunk (items.Head text)) ask other h k = one_opening text other ask k.0 h.0
-one_ask one work (Chunk (items.Method text)) ask other h k = one_source text other ask k.0 h.0
-one_ask one work (Chunk items.SectionEnd) ask other h k = k.0 ∙ sym h.0
-one_ask one work (Chunk (items.TooLong role n)) ask other h k = k.0 ∙ sym h.0
-one_ask one work Unended ask other h k = k.0 ∙ sym h.0
-one_ask one work (Query query) ask other h k = k.0 ∙ sym h.0
+pub one_ask : OneTold → OneMoment → (work : Work) (item : SessionItem) (ask other : Ask) → IsTimed work.settings item → AsksIn work item ask → AsksIn work item other → other ≡ ask
+one_ask one moments work (Chunk (items.Plain text)) ask other timed h k = one_plain one work text ask other h.0 h.1 k.0 k.1
+one_ask one moments work (Chunk (items.Head text)) ask other timed h k = one_opening text other ask k.0 h.0
+one_ask one moments work (Chunk (items.Method text)) ask other timed h k = one_source text other ask k.0 h.0
+one_ask one moments work (Chunk items.SectionEnd) ask other timed h k = k.0 ∙ sym h.0
+one_ask one moments work (Chunk (items.TooLong role n)) ask other timed h k = k.0 ∙ sym h.0
+one_ask one moments work Unended ask other timed h k = k.0 ∙ sym h.0
+one_ask one moments work (Query query) ask other timed h k = one_query moments work query ask other timed h.0 h.1 k.0 k.1
 
--- and so do items one after another
-pub all_ask_once : OneTold → (work : Work) (items : List SessionItem) (asks others : List Ask) → AllAsk work items asks → AllAsk work items others → others ≡ asks
-all_ask_once one work [] [] [] h k = refl
-all_ask_once one work [] [] (ask ∷ others) h k = absurd k
-all_ask_once one work [] (ask ∷ asks) others h k = absurd h
-all_ask_once one work (item ∷ items) [] others h k = absurd h
-all_ask_once one work (item ∷ items) (ask ∷ asks) [] h k = absurd k
-all_ask_once one work (item ∷ items) (ask ∷ asks) (again ∷ others) h k =
-    let same = one_ask one work item ask again h.0 k.0 in
+-- what is asked changes no setting
+settings_stay : (work : Work) (ask : Ask) → (work_after work ask).settings ≡ work.settings
+settings_stay work (refuses refusal) = refl
+settings_stay work (adds change) = refl
+settings_stay work (evaluates text told stopped) = refl
+settings_stay work (opens head) = refl
+settings_stay work (refuses_head refusal) = refl
+settings_stay work (adds_source source) = refl
+settings_stay work (refuses_source refusal) = refl
+settings_stay work closes = refl
+settings_stay work (tells query) = refl
+settings_stay work (files filed moment) = refl
+
+-- so do items one after another
+pub all_ask_once : OneTold → OneMoment → (work : Work) (items : List SessionItem) (asks others : List Ask) → All (IsTimed work.settings) items → AllAsk work items asks → AllAsk work items others → others ≡ asks
+all_ask_once one moments work [] [] [] timed h k = refl
+all_ask_once one moments work [] [] (ask ∷ others) timed h k = absurd k
+all_ask_once one moments work [] (ask ∷ asks) others timed h k = absurd h
+all_ask_once one moments work (item ∷ items) [] others timed h k = absurd h
+all_ask_once one moments work (item ∷ items) (ask ∷ asks) [] timed h k = absurd k
+all_ask_once one moments work (item ∷ items) (ask ∷ asks) (again ∷ others) timed h k =
+    let same = one_ask one moments work item ask again (All-head (IsTimed work.settings) item items timed) h.0 k.0 in
     let P : Ask → Type 0 = λ a. AllAsk (work_after work a) items others in
-    let rest = all_ask_once one (work_after work ask) items asks others h.1 (subst P same k.1) in
+    let Q : Settings → Type 0 = λ s. All (IsTimed s) items in
+    let later = subst Q (sym (settings_stay work ask)) (All-tail (IsTimed work.settings) item items timed) in
+    let rest = all_ask_once one moments (work_after work ask) items asks others later h.1 (subst P same k.1) in
     λ i. same i ∷ rest i

@@ -1,5 +1,5 @@
 -- What an item asks, whatever the list and the section in which it stands.
-use Rattle.std.specs.Prelude.{◌≡◌, ◌⊎◌, ◌++◌, ◌∷◌, [], ℕ, Bool, List, Some, codes}
+use Rattle.std.specs.Prelude.{◌≡◌, ◌≢◌, ◌⊎◌, ◌++◌, ◌∷◌, [], ℕ, Bool, List, None, Some, codes}
 use Rattle.s80_chunk.specs.declared.item.Role.{Role}
 use Rattle.s80_chunk.specs.declared.item.Role.TheVariants as roles
 use Rattle.s80_chunk.specs.declared.item.Item.TheVariants as items
@@ -17,10 +17,12 @@ use Rattle.s80_change.specs.declared.head.SectionHead.{SectionHead}
 use Rattle.s80_change.specs.Check.{IsCheckOf, IsSyntaxRefusal, as_method, size_refusal}
 use Rattle.s80_change.specs.Head.{IsHeadOf}
 use Rattle.s80_doit.specs.DoIt.{Fits}
+use Rattle.s80_model.specs.declared.item.Filed.{Filed}
 use Rattle.s80_model.specs.declared.item.Query.{Query as SessionQuery}
 use Rattle.s80_model.specs.declared.item.Query.TheVariants as queries
 use Rattle.s80_model.specs.declared.item.SessionItem.{SessionItem}
 use Rattle.s80_model.specs.declared.item.SessionItem.TheVariants.{Chunk, Unended, Query}
+use Rattle.s80_model.specs.Settings.{Settings}
 
 pub data Ask : Type 0 where
   -- it is refused whatever the list
@@ -40,6 +42,8 @@ pub data Ask : Type 0 where
   closes : Ask
   -- something is told
   tells : SessionQuery → Ask
+  -- a file of changes is told, with this moment in its first line
+  files : Filed → List ℕ → Ask
 
 -- ---- plain texts
 
@@ -91,15 +95,16 @@ ask_of_too_long roles.Plain n = refuses (refusals.TooLarge fits.Chunk n)
 ask_of_too_long roles.Head n = refuses_head (refusals.TooLarge fits.Chunk n)
 ask_of_too_long roles.Method n = refuses_source (refusals.TooLarge fits.Chunk n)
 
--- what a query asks: a snapshot adds its note, and the others are told something
-abbrev pub ask_of_query : SessionQuery → Ask
-ask_of_query queries.Recover = tells queries.Recover
-ask_of_query queries.Classes = tells queries.Classes
-ask_of_query (queries.Browse name) = tells (queries.Browse name)
-ask_of_query (queries.Source spec selector) = tells (queries.Source spec selector)
-ask_of_query (queries.Versions spec selector) = tells (queries.Versions spec selector)
-ask_of_query queries.Changes = tells queries.Changes
-ask_of_query queries.Snapshot = adds (DoIt snapshot_note)
+-- what a query asks: a snapshot adds its note, a file has a moment, and the others are told something
+abbrev pub AsksQuery : SessionQuery → Ask → Type 0
+AsksQuery queries.Recover ask = ask ≡ tells queries.Recover
+AsksQuery queries.Classes ask = ask ≡ tells queries.Classes
+AsksQuery (queries.Browse name) ask = ask ≡ tells (queries.Browse name)
+AsksQuery (queries.Source spec selector) ask = ask ≡ tells (queries.Source spec selector)
+AsksQuery (queries.Versions spec selector) ask = ask ≡ tells (queries.Versions spec selector)
+AsksQuery queries.Changes ask = ask ≡ tells queries.Changes
+AsksQuery (queries.FileOut filed) ask = (moment : List ℕ) × (ask ≡ files filed moment)
+AsksQuery queries.Snapshot ask = ask ≡ adds (DoIt snapshot_note)
 
 abbrev pub Asks : SessionItem → Ask → Type 0
 Asks (Chunk (items.Plain text)) ask = AsksPlain text ask
@@ -108,4 +113,9 @@ Asks (Chunk (items.Method text)) ask = AsksMethod text ask
 Asks (Chunk items.SectionEnd) ask = ask ≡ closes
 Asks (Chunk (items.TooLong role n)) ask = ask ≡ ask_of_too_long role n
 Asks Unended ask = ask ≡ refuses refusals.Unended
-Asks (Query query) ask = ask ≡ ask_of_query query
+Asks (Query query) ask = AsksQuery query ask
+
+-- with these settings it asks one thing: for a file the clock is told
+abbrev pub IsTimed : Settings → SessionItem → Type 0
+IsTimed settings (Query (queries.FileOut filed)) = settings.moment ≢ None
+IsTimed settings item = Unit {0}

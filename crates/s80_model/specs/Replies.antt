@@ -14,11 +14,11 @@ use Rattle.s80_model.specs.declared.reply.Reply.TheVariants.{Silent, Accepted, R
 use Rattle.s80_model.specs.declared.section.Section.{Section}
 use Rattle.s80_model.specs.declared.section.Section.TheVariants as sections
 use Rattle.s80_model.specs.Section.{section_or}
-use Rattle.s80_model.specs.Settings.{Settings}
-use Rattle.s80_model.specs.Told.{told}
+use Rattle.s80_model.specs.Settings.{IsNow, Settings}
+use Rattle.s80_model.specs.Told.{file_reply, told}
 use Rattle.s80_model.specs.declared.item.SessionItem.{SessionItem}
 use Rattle.s80_doit.specs.Answer.{EvaluatesTo}
-use Rattle.s80_model.specs.Asked.{Ask, Asks, refuses, adds, evaluates, opens, refuses_head, adds_source, refuses_source, closes, tells}
+use Rattle.s80_model.specs.Asked.{Ask, Asks, refuses, adds, evaluates, opens, refuses_head, adds_source, refuses_source, closes, tells, files}
 
 -- the list of changes, the section in which the next item stands, and the settings
 pub record Work : Type 0 where
@@ -97,6 +97,7 @@ reply_to work (adds_source source) = reply_to_source work.changes work.section s
 reply_to work (refuses_source refusal) = reply_in_section work.section refusal
 reply_to work closes = Silent
 reply_to work (tells query) = told work.changes query
+reply_to work (files filed moment) = file_reply work.changes moment filed
 
 -- the work that goes on afterwards
 abbrev pub work_after : Work → Ask → Work
@@ -109,10 +110,12 @@ work_after work (adds_source source) = record work { changes = list_after_source
 work_after work (refuses_source refusal) = work
 work_after work closes = record work { section = sections.Top }
 work_after work (tells query) = work
+work_after work (files filed moment) = work
 
--- what is asked is so in this work: a doIt is told what it comes to
+-- what is asked is so in this work: a doIt is told what it comes to, and a file has the moment of the clock
 abbrev pub IsSo : Work → Ask → Type 0
 IsSo work (evaluates text told stopped) = IsEvaluated (add work.changes (changes.DoIt text)) text work.settings told stopped
+IsSo work (files filed moment) = IsNow work.settings.moment moment
 IsSo work _ = Unit {0}
 
 -- what an item asks in this work, and what items ask, one by one

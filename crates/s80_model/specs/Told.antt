@@ -11,9 +11,13 @@ use Rattle.s80_apply.specs.State.{State}
 use Rattle.s80_apply.specs.List.{state_of}
 use Rattle.s80_change.specs.declared.change.Change.{Change}
 use Rattle.s80_history.specs.Lists.{set_of, versions_of}
+use Rattle.s80_fileout.specs.Condensed.{filed, filed_on}
+use Rattle.s80_fileout.specs.FileText.{changes_text as file_text, header}
 use Rattle.s80_model.specs.Texts.{recovered_text, classes_text, browsed, changes_text, versions_text}
+use Rattle.s80_model.specs.declared.item.Filed.{Filed}
+use Rattle.s80_model.specs.declared.item.Filed.TheVariants.{All, Class as OneClass, Set}
 use Rattle.s80_model.specs.declared.item.Query.{Query}
-use Rattle.s80_model.specs.declared.item.Query.TheVariants.{Recover, Classes as AllClasses, Browse, Source, Versions, Changes, Snapshot}
+use Rattle.s80_model.specs.declared.item.Query.TheVariants.{Recover, Classes as AllClasses, Browse, Source, Versions, Changes, FileOut, Snapshot}
 use Rattle.s80_model.specs.declared.reply.Reply.{Reply}
 use Rattle.s80_model.specs.declared.reply.Reply.TheVariants.{Refused, Silent, Told}
 
@@ -73,9 +77,24 @@ abbrev pub versions_reply : List Change → List ℕ → List ℕ → Option (Na
 versions_reply changes spec selector None = Refused (BadName spec)
 versions_reply changes spec selector (Some named) = versions_of_class changes named.0 named.1 selector (map.get (state_of changes).classes named.0)
 
+-- ---- files of changes
+
+-- the text of a file of this moment
+abbrev pub file_told : List ℕ → List Change → Reply
+file_told moment changes = Told (header moment ++ file_text changes)
+
+abbrev pub file_of_class : State → List ℕ → Name → Option ClassRow → Reply
+file_of_class state moment name None = Refused (UnknownClass name)
+file_of_class state moment name (Some row) = file_told moment (filed_on name state)
+
+abbrev pub file_reply : List Change → List ℕ → Filed → Reply
+file_reply changes moment All = file_told moment (filed (state_of changes))
+file_reply changes moment (OneClass name) = if is_name name then file_of_class (state_of changes) moment name (map.get (state_of changes).classes name) else Refused (BadName name)
+file_reply changes moment Set = file_told moment (list_map (λ p. p.1) (set_of changes))
+
 -- ---- queries
 
--- what a query is told of a list; a snapshot asks for nothing
+-- what a query is told of a list; a snapshot and a file ask otherwise
 abbrev pub told : List Change → Query → Reply
 told changes Recover = Told (recovered_text (length changes) (state_of changes))
 told changes AllClasses = Told (classes_text (state_of changes).classes)
@@ -83,4 +102,5 @@ told changes (Browse name) = if is_name name then browse_reply name (browsed (st
 told changes (Source spec selector) = source_reply (state_of changes) spec selector (side_named spec)
 told changes (Versions spec selector) = versions_reply changes spec selector (side_named spec)
 told changes Changes = Told (changes_text (list_map (λ p. p.1) (set_of changes)))
+told changes (FileOut filed) = Silent
 told changes Snapshot = Silent

@@ -2,6 +2,17 @@
 use s80_base::Text;
 use s80_chunk::Item;
 
+/// What a file of changes has.
+#[derive(Debug, Drop)]
+pub enum Filed {
+    /// What makes all classes.
+    All,
+    /// What makes the class of this name.
+    Class(Text),
+    /// The change set.
+    Set,
+}
+
 /// A command beside an input of items: what may be asked of a folder.
 #[derive(Debug, Drop)]
 pub enum Query {
@@ -17,6 +28,8 @@ pub enum Query {
     Versions(Text, Text),
     /// The change set.
     Changes,
+    /// A file of changes, with the moment in its first line.
+    FileOut(Filed),
     /// Not a question: a snapshot is asked for, and its note is kept.
     Snapshot,
 }

@@ -12,7 +12,7 @@ mod told;
 
 pub use browse::browse_text;
 pub use changes::{changes_text, snapshot_note, versions_text};
-pub use item::{Query, SessionItem};
+pub use item::{Filed, Query, SessionItem};
 pub use laws::one_ask;
 pub use reply::{Answer, Reply};
 pub use section::{Section, head_answer, method_of, too_long_answer};
