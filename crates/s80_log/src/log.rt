@@ -342,7 +342,7 @@ impl Log {
         ensures committed { (kept all : List Change)
             → Carries (D.tells disk.old) (D.reads disk.old) (D.may_leave disk.old) self.now mark.old kept all
             → Takes self.now all mark.old next.now
-            → OnOk result (Holds (D.tells disk.new) (D.reads disk.new) (D.may_leave disk.new) self.now next.now all all) }
+            → OnOk result (Holds (D.tells disk.new) (D.reads disk.new) (D.may_leave disk.new) self.now mark.new all all) }
         ensures stands { (kept all : List Change)
             → Carries (D.tells disk.old) (D.reads disk.old) (D.may_leave disk.old) self.now mark.old kept all
             → Takes self.now all mark.old next.now
@@ -369,7 +369,7 @@ impl Log {
             → HasEither (D.tells disk.old) (D.reads disk.old) (D.may_leave disk.old) (D.beside disk.old).told mark.old next.now
             (D.beside disk.new).told c }
         ensures valid { CanCommit (D.tells disk.old) (D.reads disk.old) (D.may_leave disk.old) mark.old next.now
-            → OnOk result (valid_mark (D.reads disk.new Mark) ≡ Some next.now) }
+            → OnOk result (valid_mark (D.reads disk.new Mark) ≡ Some mark.new) }
         ensures durable { OnOk result (Only Mark (D.reads disk.new Mark) (D.may_leave disk.new)
             × Only (log_file self.now.number) (D.reads disk.new (log_file self.now.number)) (D.may_leave disk.new)) }
         ensures others { (other : FileId) → other ≢ Mark → D.reads disk.new other ≡ D.reads disk.old other }
