@@ -1,3 +1,4 @@
+pub mod lemmas
 mod Listed
 pub mod Elements
 pub mod Keyed
@@ -34,4 +35,6 @@ mod Depths
 mod Owned
 mod Categories
 mod Made
+mod FiledOn
+mod OneMoment
 mod Systems
