@@ -1,5 +1,5 @@
 -- A whole file of changes, filed in.
-use Rattle.std.proofs.Common.{◌≡◌, ◌≢◌, ℕ, ◌+◌, ◌<◌, ◌≤◌, codes, flat_map, map, List, [], ◌∷◌, ◌++◌, length, length-append, None, Result, Ok, refl, sym, ap, subst, ◌∙◌, arith}
+use Rattle.std.proofs.Common.{◌≡◌, ℕ, codes, map, List, [], ◌∷◌, ◌++◌, None, Result, Ok, refl, sym, ap, subst, ◌∙◌, arith}
 use Rattle.std.proofs.lemmas.Grind.{flat_map-append}
 use Rattle.jiff_core.specs.declared.civil.datetime.DateTime.{DateTime}
 use Rattle.s80_lex.specs.Spelling.{doubled, quoted}
@@ -9,7 +9,6 @@ use Rattle.s80_chunk.specs.Chunks.{IsReading}
 use Rattle.s80_form.specs.declared.refusal.Refusal.{Refusal}
 use Rattle.s80_change.specs.declared.change.Change.{Change}
 use Rattle.s80_change.specs.declared.change.Change.TheVariants.{DoIt}
-use Rattle.s80_change.specs.Block.{block, blocks, log_limit}
 use Rattle.s80_apply.specs.List.{add, state_after, state_from, state_of}
 use Rattle.s80_apply.specs.State.{State, kernel_state}
 use Rattle.s80_apply.proofs.lemmas.Lists.{state_more}
