@@ -76,12 +76,12 @@ long_by : (n : ℕ) (name : Name) (o : Option ClassRow) (up : ClassRow → List 
 long_by n name None up most = omega arith
 long_by n name (Some row) up most = let h = most row in omega (arith, h)
 
-no_longer : (n : ℕ) (classes : Classes) (p : Option Name) → length (upwards n classes p) ≤ n
+pub no_longer : (n : ℕ) (classes : Classes) (p : Option Name) → length (upwards n classes p) ≤ n
 no_longer zero classes p = omega arith
 no_longer (suc n) classes None = omega arith
 no_longer (suc n) classes (Some name) = long_by n name (map.get classes name) (λ row. upwards n classes row.superclass) (λ row. no_longer n classes row.superclass)
 
-abbrev IsThere : Classes → Name → Type 0
+abbrev pub IsThere : Classes → Name → Type 0
 IsThere classes name = map.contains_key classes name ≡ true
 
 row_there : (o : Option ClassRow) → is_some o ≡ true → (row : ClassRow) × (o ≡ Some row)
@@ -97,7 +97,7 @@ some_classes classes name there = go (map.len classes) refl
         absurd (cc)
     go (suc m) is = (m, is)
 
-deep : (classes : Classes) (name : Name) → IsThere classes name → 0 < length (lineage classes name)
+pub deep : (classes : Classes) (name : Name) → IsThere classes name → 0 < length (lineage classes name)
 deep classes name there =
     let some = some_classes classes name there in
     let row = row_there (map.get classes name) there in

@@ -12,17 +12,29 @@ use Rattle.s80_class.specs.Classes.{Name}
 use Rattle.s80_history.specs.Lists.{Placed, set_of, versions_of}
 use Rattle.s80_apply.specs.List.{AreAccepted, IsBuilt, state_of}
 use Rattle.s80_apply.specs.State.{MethodRow, kernel_state}
-use Rattle.s80_fileout.specs.Condensed.{canon, kept, of_method, of_versions}
-use Rattle.s80_fileout.proofs.Condensing.{leads_condensed}
+use Rattle.s80_fileout.specs.Condensed.{canon, filed, kept, of_method, of_versions}
+use Rattle.s80_fileout.proofs.Condensing.{leads_condensed, leads_made}
 use Rattle.s80_fileout.proofs.SetBegun.{set_is_empty}
 use Rattle.s80_fileout.proofs.OfMethod.{of_method_sets}
 use Rattle.s80_fileout.proofs.KeptVersions.{of_versions_sets}
 use Rattle.s80_fileout.proofs.KeptOnce.{versions_kept}
 use Rattle.s80_fileout.proofs.LawfulList.{list_lawful}
-use Rattle.s80_fileout.proofs.SoundParts.{canon_sound}
+use Rattle.s80_fileout.proofs.SoundParts.{canon_sound, filed_sound}
 use Rattle.s80_fileout.proofs.KeptSound.{kept_sound}
 
--- ---- the shortest list, of whatever list
+-- ---- what a file of all classes has, of whatever list
+
+pub filed_is_accepted : (changes : List Change) → AreAccepted kernel_state (filed (state_of changes))
+filed_is_accepted changes = (leads_made changes of_method (of_method_sets (state_of changes))).0
+
+pub filed_makes_the_state : (changes : List Change) → state_of (filed (state_of changes)) ≡ state_of changes
+filed_makes_the_state changes = (leads_made changes of_method (of_method_sets (state_of changes))).1
+
+pub filed_is_lawful : ((source selector : List ℕ) → IsCheckOf source (Ok selector) → IsSelectorWord selector) → All (λ row. IsCheckOf row.source (Ok row.selector)) kernel_methods
+    → (changes : List Change) → All IsLawful changes → All IsLawful (filed (state_of changes))
+filed_is_lawful sources fit changes lawful = list_lawful sources fit (filed (state_of changes)) (filed_is_accepted changes) (filed_sound changes lawful)
+
+-- ---- the shortest list
 
 pub canon_is_accepted : (changes : List Change) → AreAccepted kernel_state (canon (state_of changes))
 canon_is_accepted changes = (leads_condensed changes of_method (of_method_sets (state_of changes))).0

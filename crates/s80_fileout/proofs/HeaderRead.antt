@@ -9,9 +9,9 @@ use Rattle.s80_chunk.proofs.Again.{plain_again}
 use Rattle.s80_chunk.proofs.Lines.{blank_holds_none}
 use Rattle.s80_change.specs.declared.change.Change.{Change}
 use Rattle.s80_change.specs.Block.{IsLawful}
-use Rattle.s80_fileout.specs.FileText.{changes_text, header, IsFile}
+use Rattle.s80_fileout.specs.FileText.{changes_text, header, IsFileAt}
 use Rattle.s80_fileout.specs.Items.{header_text, items_from, IsReadAs, IsShort}
-use Rattle.s80_fileout.specs.Moment.{civil_text, IsMoment}
+use Rattle.s80_fileout.specs.Moment.{civil_text}
 use Rattle.s80_fileout.proofs.FileRead.{changes_read, ends_at_top, one_more}
 use Rattle.s80_fileout.proofs.FiledTexts.{all_readable}
 
@@ -60,7 +60,7 @@ module _ (dt : DateTime) where
       other_than_mark : 10 ≢ mark
       other_than_mark e = omega (arith, e)
 
-pub file_read : (changes : List Change) (seconds : ℕ) (text : List ℕ) → All IsLawful changes → All IsShort changes → IsFile changes seconds text → (moment : List ℕ) × IsMoment seconds moment × IsReadAs text moment changes
-file_read changes seconds text lawful short (first, (_, (dt, civil, moment_is), first_is), text_is) =
-    let whole : text ≡ header (civil_text dt) ++ changes_text changes = text_is ∙ ap (λ l. l ++ changes_text changes) (first_is ∙ ap header moment_is) in
-    (civil_text dt, (dt, civil, refl), subst (λ t. IsReadAs t (civil_text dt) changes) (sym whole) (header_read dt changes lawful short))
+pub file_read : (changes : List Change) (seconds : ℕ) (moment text : List ℕ) → All IsLawful changes → All IsShort changes → IsFileAt changes seconds moment text → IsReadAs text moment changes
+file_read changes seconds moment text lawful short file =
+    let read = subst (λ m. IsReadAs (header m ++ changes_text changes) m changes) (sym file.at.2) (header_read file.at.0 changes lawful short) in
+    subst (λ t. IsReadAs t moment changes) (sym file.whole) read

@@ -15,7 +15,7 @@ use Rattle.s80_class.specs.Classes.{Name, ClassRow}
 use Rattle.s80_history.specs.Lists.{Placed, puts, versions_of}
 use Rattle.s80_apply.specs.List.{state_of}
 use Rattle.s80_apply.specs.State.{MethodRow, State, kernel_state}
-use Rattle.s80_fileout.specs.Condensed.{class_vars_of, classified, comment_of, condensed_with, defined, for_classes, for_methods, is_own_at, kept, kernel_part, last_category, newest, of_kernel_class, of_own_class, of_versions, own_part, removals, up_to}
+use Rattle.s80_fileout.specs.Condensed.{class_vars_of, classified, comment_of, condensed_with, defined, for_classes, for_methods, is_own_at, kept, kernel_part, last_category, made_with, newest, of_kernel_class, of_own_class, of_versions, own_part, removals, up_to}
 use Rattle.s80_fileout.proofs.Elements.{IsIn, AreApart, flat_none}
 use Rattle.s80_fileout.proofs.Cells.{Cell, in_cell}
 use Rattle.s80_fileout.proofs.Held.{held_last}
@@ -34,7 +34,7 @@ filter_none : {X : Type 0} (p : X → Bool) (xs : List X) → ((x : X) → IsIn 
 filter_none p [] none = refl
 filter_none p (x ∷ xs) none = ap (λ b. cond b (x ∷ filter p xs) (filter p xs)) (none x (inl refl)) ∙ filter_none p xs (λ y at. none y (inr at))
 
-filter_flat : {X Y : Type 0} (p : Y → Bool) (f : X → List Y) (xs : List X) → filter p (flat_map f xs) ≡ flat_map (λ x. filter p (f x)) xs
+pub filter_flat : {X Y : Type 0} (p : Y → Bool) (f : X → List Y) (xs : List X) → filter p (flat_map f xs) ≡ flat_map (λ x. filter p (f x)) xs
 filter_flat p f [] = refl
 filter_flat p f (x ∷ xs) = filter-append p (f x) (flat_map f xs) ∙ ap (λ ys. filter p (f x) ++ ys) (filter_flat p f xs)
 
@@ -42,7 +42,7 @@ both_none : {X : Type 0} (p : X → Bool) (xs ys : List X) → filter p xs ≡ [
 both_none p xs ys first second = filter-append p xs ys ∙ (λ i. first i ++ second i)
 
 -- but one gives anything
-flat_only : {X Y K : Type 0} (f : X → List Y) (key : X → K) (x : X) (xs : List X) → AreApart key xs → IsIn x xs → ((y : X) → key y ≢ key x → f y ≡ []) → flat_map f xs ≡ f x
+pub flat_only : {X Y K : Type 0} (f : X → List Y) (key : X → K) (x : X) (xs : List X) → AreApart key xs → IsIn x xs → ((y : X) → key y ≢ key x → f y ≡ []) → flat_map f xs ≡ f x
 flat_only f key x [] apart at none = absurd at
 flat_only f key x (y ∷ xs) apart (inl same) none =
     (λ i. f (sym same i) ++ flat_none f xs (λ z there. none z (λ e. apart.0 z there (e ∙ ap key same))) i) ∙ append-nil (f x)
@@ -108,10 +108,11 @@ module _ (c : Cell) where
   -- so only the methods' part has some
   pub puts_of_methods : (method : Name → Side → List ℕ → MethodRow → List Change) (state : State) → filter puts_here (condensed_with method state) ≡ filter puts_here (for_methods method state)
   puts_of_methods method state =
-      filter-append puts_here (kernel_part state) (own_part state ++ (for_methods method state ++ Form NoChanges ∷ []))
-      ∙ (λ i. none_of_kernel_part state i ++ filter-append puts_here (own_part state) (for_methods method state ++ Form NoChanges ∷ []) i)
-      ∙ (λ i. none_of_own_part state i ++ filter-append puts_here (for_methods method state) (Form NoChanges ∷ []) i)
-      ∙ append-nil (filter puts_here (for_methods method state))
+      filter-append puts_here (made_with method state) (Form NoChanges ∷ [])
+      ∙ append-nil (filter puts_here (made_with method state))
+      ∙ filter-append puts_here (kernel_part state) (own_part state ++ for_methods method state)
+      ∙ (λ i. none_of_kernel_part state i ++ filter-append puts_here (own_part state) (for_methods method state) i)
+      ∙ (λ i. none_of_own_part state i ++ filter puts_here (for_methods method state))
 
 -- ---- the versions of a method
 

@@ -13,7 +13,7 @@ use Rattle.s80_fileout.proofs.Cells.{Cell}
 use Rattle.s80_fileout.proofs.ManyCells.{CellRow, IsCell, cell_of}
 use Rattle.s80_fileout.proofs.Brief.{brief_last}
 use Rattle.s80_fileout.proofs.LawfulList.{AreSound, IsSound, sound_both}
-use Rattle.s80_fileout.proofs.SoundParts.{category_brief, name_brief, sound_classified, sound_condensed}
+use Rattle.s80_fileout.proofs.SoundParts.{category_brief, name_brief, sound_classified, sound_condensed, sound_made}
 use Rattle.s80_fileout.proofs.Putting.{PutsCell, in_reversed, name_of, versions, versions_are}
 use Rattle.s80_fileout.proofs.KeptVersions.{in_taken, version_puts}
 use Rattle.s80_fileout.proofs.KeptOnce.{newest_are}
@@ -45,4 +45,4 @@ module _ (count : ℕ) (cs : List Change) (built : IsBuilt cs) (lawful : All IsL
       selector_brief (inr brief) differs = brief
 
   pub kept_sound : AreSound (condensed_with (of_versions count cs) (state_of cs))
-  kept_sound = sound_condensed (state_of cs) (brief_last cs lawful) (of_versions count cs) of_versions_sound
+  kept_sound = sound_condensed (of_versions count cs) (state_of cs) (sound_made (state_of cs) (brief_last cs lawful) (of_versions count cs) of_versions_sound)

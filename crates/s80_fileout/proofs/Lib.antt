@@ -34,4 +34,6 @@ mod Depths
 mod Owned
 mod Categories
 mod Made
+mod FiledOn
+mod OneMoment
 mod Systems

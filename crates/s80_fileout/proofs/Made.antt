@@ -1,21 +1,23 @@
 -- The parts of a condensed list as the pieces of what stands in order.
-use Rattle.std.proofs.Common.{◌≡◌, ◌∙◌, ◌++◌, ℕ, Bool, true, false, cond, not, refl, sym, ap, List, [], ◌∷◌, Option, Some, None, append_assoc}
+use Rattle.std.proofs.Common.{◌≡◌, ◌∙◌, ◌++◌, ℕ, Bool, true, false, cond, not, refl, sym, ap, List, [], ◌∷◌, Option, Some, None, append-nil, append_assoc}
 use Rattle.std.specs.Prelude.{if◌then◌else◌}
 use Rattle.std.specs.List.{filter, flat_map}
 use Rattle.std.specs.FinMap as finmap
+use Rattle.std.proofs.lemmas.List.Concat.{flat_map-append}
 use Rattle.std.proofs.lemmas.List.Folds.{flat_map-map}
 use Rattle.s80_base.specs.declared.names.Side.{Side}
 use Rattle.s80_base.specs.declared.names.Side.TheVariants.{Instance, Class}
 use Rattle.s80_kernel.specs.Methods.{KernelMethodRow, found_method}
 use Rattle.s80_kernel.specs.Rows.{is_kernel_class}
-use Rattle.s80_form.specs.declared.form.Form.TheVariants.{RemoveMethod}
+use Rattle.s80_form.specs.declared.form.Form.TheVariants.{NoChanges, RemoveMethod}
 use Rattle.s80_change.specs.declared.change.Change.{Change}
 use Rattle.s80_change.specs.declared.change.Change.TheVariants.{Form}
 use Rattle.s80_class.specs.Classes.{Name, Classes, ClassRow}
+use Rattle.s80_apply.specs.List.{state_of}
 use Rattle.s80_apply.specs.State.{MethodRow, State, kernel_state, on_class_side}
-use Rattle.s80_fileout.specs.Condensed.{as_change, by_category, classified, for_methods, is_own_at, kernel_category, kernel_part, of_kernel_class, of_method, of_own_class, over_kernels, own_part, removals, up_to}
+use Rattle.s80_fileout.specs.Condensed.{as_change, by_category, classified, for_methods, is_own_at, kept, kernel_category, kernel_part, of_kernel_class, of_method, of_own_class, of_versions, over_kernels, own_part, removals, up_to}
 use Rattle.s80_fileout.specs.declared.methods.ListedMethod.{ListedMethod}
-use Rattle.s80_fileout.specs.Order.{all_methods, by_row, has_source, kernel_class, listed, made_by, methods_on, own_class, own_names}
+use Rattle.s80_fileout.specs.Order.{all_methods, by_row, has_source, kernel_class, listed, made_by, methods_in, methods_on, of_listed, own_class, own_names}
 use Rattle.s80_fileout.proofs.Looked.{pieces_by_keys}
 use Rattle.s80_fileout.proofs.Pieces.{passing_pieces, pieces_of_passes, pieces_of_pieces}
 
@@ -54,10 +56,6 @@ removal_pieces state name side =
 
 -- ---- methods
 
--- those of a class
-abbrev pub methods_in : State → Name → List ListedMethod
-methods_in state name = flat_map (methods_on state name) (Instance ∷ Class ∷ [])
-
 -- what is made of each method that is listed is what is made of the methods
 module _ (made : ListedMethod → List Change) (changes : Name → Side → List ℕ → MethodRow → List Change) (alike : (name : Name) (side : Side) (e : List ℕ × MethodRow) → made (listed name side e) ≡ changes name side e.0 e.1) where
   abbrev changes_on : State → Name → Side → List Change
@@ -70,8 +68,8 @@ module _ (made : ListedMethod → List Change) (changes : Name → Side → List
 
   in_class : (state : State) (name : Name) → flat_map made (methods_in state name) ≡ flat_map (changes_on state name) (Instance ∷ Class ∷ [])
   in_class state name =
-      pieces_of_pieces made (methods_on state name) (Instance ∷ Class ∷ [])
-      ∙ ap (λ (g : Side → List Change). flat_map g (Instance ∷ Class ∷ [])) (λ i side. on_side state name side i)
+      flat_map-append made (methods_on state name Instance) (methods_on state name Class)
+      ∙ (λ i. on_side state name Instance i ++ (on_side state name Class ∙ sym (append-nil (changes_on state name Class))) i)
 
   pub listed_pieces : (state : State) → flat_map made (all_methods state) ≡ for_methods changes state
   listed_pieces state =
@@ -87,8 +85,23 @@ module _ (name : Name) (side : Side) where
   made_alike : (e : List ℕ × MethodRow) → made_by (listed name side e) ≡ of_method name side e.0 e.1
   made_alike e = made_over e.0 e.1 (found_method name (on_class_side side) e.0)
 
+-- of the methods of one class
+abbrev pub methods_made : State → Name → List Change
+methods_made state name = flat_map (λ side. flat_map (λ e. of_method name side e.0 e.1) (by_category (state.methods name side))) (Instance ∷ Class ∷ [])
+
+pub class_pieces : (state : State) (name : Name) → flat_map made_by (methods_in state name) ≡ methods_made state name
+class_pieces state name = in_class made_by of_method made_alike state name
+
 pub method_pieces : (state : State) → flat_map made_by (all_methods state) ≡ for_methods of_method state
 method_pieces state = listed_pieces made_by of_method made_alike state
+
+-- the list that keeps versions, in the order in which it is made
+pub kept_in_order : (count : ℕ) (changes : List Change)
+    → kept changes count ≡ kernel_part (state_of changes) ++ own_part (state_of changes) ++ flat_map (of_listed count changes) (all_methods (state_of changes)) ++ Form NoChanges ∷ []
+kept_in_order count changes =
+    let state : State = state_of changes in
+    ap (λ l. l ++ Form NoChanges ∷ []) (sym (append_assoc (kernel_part state) (own_part state) (for_methods (of_versions count changes) state)))
+    ∙ ap (λ l. kernel_part state ++ own_part state ++ l ++ Form NoChanges ∷ []) (sym (listed_pieces (of_listed count changes) (of_versions count changes) (λ name side e. refl) state))
 
 -- ---- one part behind the other
 

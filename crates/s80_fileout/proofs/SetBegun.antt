@@ -9,7 +9,7 @@ use Rattle.s80_form.specs.declared.form.Form.TheVariants.{NoChanges}
 use Rattle.s80_class.specs.Classes.{Name}
 use Rattle.s80_history.specs.Lists.{Placed, behind_last, is_no_changes, not_left_out, placed_from, set_of}
 use Rattle.s80_apply.specs.State.{MethodRow, State}
-use Rattle.s80_fileout.specs.Condensed.{condensed_with, for_methods, kernel_part, own_part}
+use Rattle.s80_fileout.specs.Condensed.{condensed_with, made_with}
 
 abbrev has_one : List Placed → Bool
 has_one ps = list_any (λ q. is_no_changes q.1) ps
@@ -38,6 +38,4 @@ ends_here : Ends (Form NoChanges ∷ [])
 ends_here at = (refl, refl)
 
 pub set_is_empty : (method : Name → Side → List ℕ → MethodRow → List Change) (state : State) → set_of (condensed_with method state) ≡ []
-set_is_empty method state =
-    ap not_left_out ((ends_behind (kernel_part state) (own_part state ++ (for_methods method state ++ Form NoChanges ∷ []))
-    (ends_behind (own_part state) (for_methods method state ++ Form NoChanges ∷ []) (ends_behind (for_methods method state) (Form NoChanges ∷ []) ends_here)) 0).1)
+set_is_empty method state = ap not_left_out (ends_behind (made_with method state) (Form NoChanges ∷ []) ends_here 0).1

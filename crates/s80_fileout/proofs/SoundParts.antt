@@ -18,7 +18,7 @@ use Rattle.s80_class.specs.Classes.{Name, ClassRow, lineage}
 use Rattle.s80_apply.specs.List.{state_of}
 use Rattle.s80_apply.specs.State.{MethodRow, State, kernel_method, kernel_state, on_class_side}
 use Rattle.s80_apply.proofs.Names.{classes_named}
-use Rattle.s80_fileout.specs.Condensed.{as_change, class_vars_of, classified, comment_of, condensed_with, defined, definition_of, for_classes, for_methods, is_own_at, kernel_category, kernel_part, of_kernel_class, of_method, of_own_class, over_kernels, own_part, removals, up_to}
+use Rattle.s80_fileout.specs.Condensed.{as_change, class_vars_of, classified, comment_of, condensed_with, defined, definition_of, for_classes, for_methods, is_own_at, kernel_category, kernel_part, made_with, of_kernel_class, of_method, of_own_class, over_kernels, own_part, removals, up_to}
 use Rattle.s80_fileout.proofs.Elements.{filtered_in, mapped_in}
 use Rattle.s80_fileout.proofs.Keyed.{entry_got, key_got, one_value}
 use Rattle.s80_fileout.proofs.Cells.{Cell, in_cell}
@@ -79,13 +79,14 @@ module _ (final : State) (brief : AreBriefIn final) where
 
   -- ---- where its methods are
 
-  pub sound_condensed : (method : Name → Side → List ℕ → MethodRow → List Change) → ((x : CellRow) → IsCell final x → AreSound (method x.0 x.1 x.2 x.3)) → AreSound (condensed_with method final)
-  sound_condensed method each =
-      sound_both (kernel_part final) (own_part final ++ (for_methods method final ++ Form NoChanges ∷ [])) sound_kernel_part
-      (sound_both (own_part final) (for_methods method final ++ Form NoChanges ∷ []) sound_own_part
-      (sound_both (for_methods method final) (Form NoChanges ∷ [])
-      (subst AreSound (for_methods_are method final) (sound_flat (λ (x : CellRow). method x.0 x.1 x.2 x.3) (all_cells final) (λ x at. each x (all_cells_in final x at))))
-      (sound_one (Form NoChanges) tt)))
+  pub sound_made : (method : Name → Side → List ℕ → MethodRow → List Change) → ((x : CellRow) → IsCell final x → AreSound (method x.0 x.1 x.2 x.3)) → AreSound (made_with method final)
+  sound_made method each =
+      sound_both (kernel_part final) (own_part final ++ for_methods method final) sound_kernel_part
+      (sound_both (own_part final) (for_methods method final) sound_own_part
+      (subst AreSound (for_methods_are method final) (sound_flat (λ (x : CellRow). method x.0 x.1 x.2 x.3) (all_cells final) (λ x at. each x (all_cells_in final x at)))))
+
+pub sound_condensed : (method : Name → Side → List ℕ → MethodRow → List Change) (final : State) → AreSound (made_with method final) → AreSound (condensed_with method final)
+sound_condensed method final made = sound_both (made_with method final) (Form NoChanges ∷ []) made (sound_one (Form NoChanges) tt)
 
 -- ---- methods
 
@@ -140,5 +141,8 @@ module _ (cs : List Change) (lawful : All IsLawful cs) where
       go None found = sound_change x cell (lawful_source (λ old is same. absurd (let bad : None ≡ Some old = sym (kernel_is None found) ∙ is in cc)) (brief.cells (cell_of x) x.3 cell.row).source)
       go (Some k) found = by_source k (kernel_is (Some k) found) (bytes_eq x.3.source k.source) refl
 
+  pub filed_sound : AreSound (made_with of_method final)
+  filed_sound = sound_made final brief of_method of_method_sound
+
   pub canon_sound : AreSound (condensed_with of_method final)
-  canon_sound = sound_condensed final brief of_method of_method_sound
+  canon_sound = sound_condensed of_method final filed_sound

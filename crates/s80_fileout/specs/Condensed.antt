@@ -1,6 +1,6 @@
 -- The shortest list that makes a state, and the one that keeps the newest versions of its methods (Goldberg, "Smalltalk-80: The Interactive
 -- Programming Environment", on condensing changes).
-use Rattle.std.specs.Prelude.{ℕ, zero, suc, ◌==◌, ◌&&◌, not, Bool, List, [], ◌∷◌, ◌++◌, length, map as list_map, filter, reverse, take, Option, Some, None, Ok, if◌then◌else◌, codes}
+use Rattle.std.specs.Prelude.{ℕ, zero, suc, ◌==◌, ◌&&◌, not, Bool, false, List, [], ◌∷◌, ◌++◌, length, map as list_map, filter, reverse, take, Option, Some, None, Ok, if◌then◌else◌, codes}
 use Rattle.std.specs.List.{flat_map}
 use Rattle.std.specs.FinMap as map
 use Rattle.std.specs.Str.{bytes_eq}
@@ -12,9 +12,9 @@ use Rattle.s80_dict.specs.Dict.{Methods}
 use Rattle.s80_kernel.specs.Methods.{KernelMethodRow, found_method}
 use Rattle.s80_kernel.specs.Rows.{is_kernel_class}
 use Rattle.s80_form.specs.declared.definition.Definition.{Definition}
-use Rattle.s80_form.specs.declared.form.Form.TheVariants.{Define, ClassVars, Comment, RemoveMethod, Classify, NoChanges}
+use Rattle.s80_form.specs.declared.form.Form.TheVariants.{Define, ClassVars, Comment, RemoveMethod, Classify, RemoveClass, NoChanges}
 use Rattle.s80_change.specs.declared.change.Change.{Change}
-use Rattle.s80_change.specs.declared.change.Change.TheVariants.{Form, Method}
+use Rattle.s80_change.specs.declared.change.Change.TheVariants.{Form, Method, DoIt}
 use Rattle.s80_class.specs.Classes.{Name, Classes, ClassRow, lineage}
 use Rattle.s80_history.specs.Lists.{MethodName, versions_of}
 use Rattle.s80_apply.specs.State.{MethodRow, State, kernel_state, on_class_side}
@@ -114,12 +114,39 @@ over_kernels name side selector row (Some k) = if bytes_eq row.source k.source t
 abbrev pub of_method : Name → Side → List ℕ → MethodRow → List Change
 of_method name side selector row = over_kernels name side selector row (found_method name (on_class_side side) selector)
 
--- ---- the two lists
+-- ---- files
 
-abbrev pub condensed_with : (Name → Side → List ℕ → MethodRow → List Change) → State → List Change
-condensed_with method state = kernel_part state ++ (own_part state ++ (for_methods method state ++ Form NoChanges ∷ []))
+-- what makes a state of the kernel's
+abbrev pub made_with : (Name → Side → List ℕ → MethodRow → List Change) → State → List Change
+made_with method state = kernel_part state ++ (own_part state ++ for_methods method state)
+
+-- what a file of all classes has
+abbrev pub filed : State → List Change
+filed state = made_with of_method state
+
+-- whether a change is on this class
+abbrev pub is_on : Name → Change → Bool
+is_on name (Form (Define definition)) = bytes_eq name definition.class_name
+is_on name (Form (ClassVars class names)) = bytes_eq name class
+is_on name (Form (Comment class text)) = bytes_eq name class
+is_on name (Form (RemoveMethod class side selector)) = bytes_eq name class
+is_on name (Form (Classify class side selector category)) = bytes_eq name class
+is_on name (Form (RemoveClass class)) = bytes_eq name class
+is_on name (Form NoChanges) = false
+is_on name (Method m) = bytes_eq name m.class_name
+is_on name (DoIt text) = false
+
+-- what a file of one class has
+abbrev pub filed_on : Name → State → List Change
+filed_on name state = filter (is_on name) (filed state)
+
+-- ---- condensed lists
 
 -- what makes a state of the kernel's, and begins the change set anew
+abbrev pub condensed_with : (Name → Side → List ℕ → MethodRow → List Change) → State → List Change
+condensed_with method state = made_with method state ++ Form NoChanges ∷ []
+
+-- the shortest list that does
 abbrev pub canon : State → List Change
 canon state = condensed_with of_method state
 

@@ -47,9 +47,11 @@ changes_text changes = changes_from None changes
 abbrev pub header : List ℕ → List ℕ
 header moment = codes "'From Smalltalk-80, filed out " ++ (moment ++ (39 ∷ mark ∷ 10 ∷ []))
 
-abbrev pub IsHeader : ℕ → List ℕ → Type 0
-IsHeader seconds text = (moment : List ℕ) × IsMoment seconds moment × (text ≡ header moment)
+-- a file of these changes, which were filed out at this moment, so many seconds after the beginning of 1970
+pub record IsFileAt (changes : List Change) (seconds : ℕ) (moment text : List ℕ) : Type 0 where
+  pub at : IsMoment seconds moment
+  pub whole : text ≡ header moment ++ changes_text changes
 
--- a file of changes that were filed out so many seconds after the beginning of 1970
+-- at whatever moment that is
 abbrev pub IsFile : List Change → ℕ → List ℕ → Type 0
-IsFile changes seconds text = (first : List ℕ) × IsHeader seconds first × (text ≡ first ++ changes_text changes)
+IsFile changes seconds text = (moment : List ℕ) × IsFileAt changes seconds moment text

@@ -1,5 +1,5 @@
 -- Classes and methods in the order in which a condensed list has them, and what makes each.
-use Rattle.std.specs.Prelude.{◌≡◌, ◌≤◌, ℕ, List, [], ◌∷◌, Bool, false, Option, Some, None, Ok, length, map as list_map, if◌then◌else◌}
+use Rattle.std.specs.Prelude.{◌≡◌, ◌≤◌, ℕ, List, [], ◌∷◌, ◌++◌, Bool, false, Option, Some, None, Ok, length, map as list_map, if◌then◌else◌}
 use Rattle.std.specs.List.{filter, flat_map}
 use Rattle.std.specs.Str.{bytes_eq}
 use Rattle.std.specs.FinMap as map
@@ -13,11 +13,12 @@ use Rattle.s80_change.specs.declared.change.Change.TheVariants.{Method}
 use Rattle.s80_class.specs.declared.entry.ClassEntry.{ClassEntry}
 use Rattle.s80_class.specs.Classes.{Name, Classes, ClassRow, lineage}
 use Rattle.s80_class.specs.Table.{Table, IsSuperclass, row_of}
+use Rattle.s80_history.specs.Lists.{MethodName}
 use Rattle.s80_apply.specs.Entries.{Entry}
 use Rattle.s80_apply.specs.State.{MethodRow, State, on_class_side}
 use Rattle.s80_fileout.specs.declared.order.OwnClass.{OwnClass}
 use Rattle.s80_fileout.specs.declared.methods.ListedMethod.{ListedMethod}
-use Rattle.s80_fileout.specs.Condensed.{by_category, classified, is_own_at, kernel_category, of_kernel_class, of_own_class, up_to}
+use Rattle.s80_fileout.specs.Condensed.{by_category, classified, is_own_at, kernel_category, last_category, newest, of_kernel_class, of_own_class, up_to}
 
 -- ---- classes
 
@@ -34,7 +35,11 @@ kernel_class state name = by_row (λ n row. if is_kernel_class n then of_kernel_
 abbrev pub own_class : Classes → Name → List Change
 own_class classes name = by_row of_own_class name (map.get classes name)
 
--- with its depth
+-- what makes one class
+abbrev pub class_made : State → Name → List Change
+class_made state name = if is_kernel_class name then kernel_class state name else own_class state.classes name
+
+-- a class with its depth
 abbrev pub ranked_class : Classes → Name → OwnClass
 ranked_class classes name = record { depth = length (lineage classes name); class_name = name }
 
@@ -62,12 +67,15 @@ listed name side e = record {
   method = record { class_name = name; side = side; category = e.1.category; source = record { text = e.1.source; selector = Ok e.0 } };
 }
 
--- the methods on one side of a class, and all methods, in their order
+-- the methods on one side of a class, those of a class, and all methods, in their order
 abbrev pub methods_on : State → Name → Side → List ListedMethod
 methods_on state name side = list_map (listed name side) (by_category (state.methods name side))
 
+abbrev pub methods_in : State → Name → List ListedMethod
+methods_in state name = methods_on state name Instance ++ methods_on state name Class
+
 abbrev pub all_methods : State → List ListedMethod
-all_methods state = flat_map (λ name. flat_map (methods_on state name) (Instance ∷ Class ∷ [])) (map.keys state.classes)
+all_methods state = flat_map (methods_in state) (map.keys state.classes)
 
 -- whether the kernel's method has this source
 abbrev pub has_source : List ℕ → Option KernelMethodRow → Bool
@@ -80,3 +88,12 @@ made_by m =
     if has_source m.method.source.text (found_method m.method.class_name (on_class_side m.method.side) m.selector)
     then classified m.method.class_name m.method.side m.selector kernel_category m.method.category
     else (Method m.method ∷ [])
+
+-- the name of a method that is listed
+abbrev pub name_listed : ListedMethod → MethodName
+name_listed m = record { class_name = m.method.class_name; side = m.method.side; selector = m.selector }
+
+-- the newest versions of a method that is listed, at most so many, and its category
+abbrev pub of_listed : ℕ → List Change → ListedMethod → List Change
+of_listed count changes m =
+    newest count changes (name_listed m) ++ classified m.method.class_name m.method.side m.selector (last_category changes (name_listed m)) m.method.category

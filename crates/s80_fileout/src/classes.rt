@@ -9,7 +9,7 @@ ghost use Rattle.s80_class.specs.Table.{IsSuperclass, row_of};
 ghost use Rattle.s80_apply.specs.State.{State, kernel_state};
 ghost use Rattle.s80_apply.specs.System.{IsSystemOf};
 ghost use Rattle.s80_fileout.specs.Condensed.{class_vars_of, comment_of, defined, definition_of, kernel_part, own_part, removals};
-ghost use Rattle.s80_fileout.specs.Order.{IsNamed, kernel_class, own_class, own_names};
+ghost use Rattle.s80_fileout.specs.Order.{IsNamed, class_made, kernel_class, own_class, own_names};
 
 use crate::methods::{method_of, selectors_of};
 use crate::order::own_classes;
@@ -22,15 +22,28 @@ use s80_kernel::is_kernel_class;
 use std::alloc::Global;
 
 /// Adds what makes the classes: those of the kernel in byte order of their names, and then those of one's own, each behind its superclass.
-pub(crate) fn add_classes(
-    alloc: Global,
-    system: &System,
-    changes: &mut Changes,
-) -> Result<(), OutOfMemory>
+pub fn add_classes(alloc: Global, system: &System, changes: &mut Changes) -> Result<(), OutOfMemory>
     ensures { (state : State) → IsSystemOf system.now state → OnOk result (changes.new ≡ changes.old ++ (kernel_part state ++ own_part state)) }
 {
     add_kernel_classes(alloc, system, changes)?;
     add_own_classes(alloc, system.classes(), changes)
+}
+
+/// Adds what makes one class, if it is there.
+pub(crate) fn add_class(
+    alloc: Global,
+    system: &System,
+    class_name: &Text,
+    changes: &mut Changes,
+) -> Result<(), OutOfMemory>
+    ensures { (state : State) → IsSystemOf system.now state → OnOk result (changes.new ≡ changes.old ++ class_made state class_name.now) }
+{
+    if is_kernel_class(class_name.bytes()) {
+        let kernel = boot(alloc)?;
+        add_kernel_class(alloc, &kernel, system, class_name, changes)
+    } else {
+        add_own_class(alloc, system.classes(), class_name, changes)
+    }
 }
 
 /// Adds what makes the classes of the kernel.

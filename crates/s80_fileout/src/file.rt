@@ -3,7 +3,8 @@ ghost use Rattle.std.specs.Prelude.{◌≡◌, ◌++◌, ◌∷◌, List, None, 
 ghost use Rattle.s80_change.specs.declared.change.Change.{Change as ChangeValue};
 ghost use Rattle.s80_change.specs.declared.change.Change.TheVariants as changes;
 ghost use Rattle.s80_change.specs.Block.{head_of};
-ghost use Rattle.s80_fileout.specs.FileText.{IsFile, IsHeader, changes_from, changes_text, closed, begun, is_same_head};
+ghost use Rattle.s80_fileout.specs.FileText.{IsFile, begun, changes_from, changes_text, closed, header, is_same_head};
+ghost use Rattle.s80_fileout.specs.Moment.{IsMoment};
 
 use crate::moment::add_moment;
 use s80_base::{OutOfMemory, Side, Text};
@@ -22,7 +23,7 @@ pub fn render(alloc: Global, changes: &Changes, seconds: u64) -> Result<Text, Ou
 
 /// The first line.
 fn header(alloc: Global, seconds: u64) -> Result<Text, OutOfMemory>
-    ensures { IfOk result (IsHeader seconds) }
+    ensures { IfOk result (λ text. (moment : _) × IsMoment seconds moment × (text ≡ header moment)) }
 {
     let mut text = Text::from_bytes(alloc, b"'From Smalltalk-80, filed out ")?;
     add_moment(&mut text, seconds)?;

@@ -1,15 +1,19 @@
 // Laws of condensed lists, and of files of changes.
-ghost use Rattle.std.specs.Prelude.{◌≡◌, ◌≤◌, ℕ, All, List, [], Some, map as list_map, take};
+ghost use Rattle.std.specs.Prelude.{◌≡◌, ◌≤◌, ◌++◌, ℕ, All, List, [], ◌∷◌, Some, map as list_map, take};
 ghost use Rattle.std.specs.FinMap as map;
+ghost use Rattle.std.specs.List.{flat_map};
+ghost use Rattle.s80_form.specs.declared.form.Form.TheVariants.{NoChanges};
 ghost use Rattle.s80_change.specs.declared.change.Change.{Change};
+ghost use Rattle.s80_change.specs.declared.change.Change.TheVariants.{Form};
 ghost use Rattle.s80_change.specs.Block.{IsLawful};
 ghost use Rattle.s80_history.specs.Lists.{MethodName, set_of, versions_of};
 ghost use Rattle.s80_apply.specs.List.{AreAccepted, IsBuilt, state_of};
 ghost use Rattle.s80_apply.specs.State.{MethodRow, kernel_state};
-ghost use Rattle.s80_fileout.specs.Condensed.{canon, kept};
-ghost use Rattle.s80_fileout.specs.FileText.{IsFile};
+ghost use Rattle.s80_fileout.specs.Condensed.{canon, filed, kept, kernel_part, own_part};
+ghost use Rattle.s80_fileout.specs.FileText.{IsFile, IsFileAt};
 ghost use Rattle.s80_fileout.specs.Items.{IsReadAs, IsShort};
 ghost use Rattle.s80_fileout.specs.Moment.{IsMoment};
+ghost use Rattle.s80_fileout.specs.Order.{all_methods, of_listed};
 
 use s80_apply::kernel_sources_fit;
 use s80_change::sources_have_selectors;
@@ -40,9 +44,31 @@ pub fn the_list_with_versions_folds_back()
     kernel_sources_fit();
 }
 
+/// That list is what makes the classes, then for each method in order what it keeps of it, and the beginning of the change set.
+pub fn the_list_with_versions_is_made_in_order()
+    ensures { (count : ℕ) (changes : List Change) → kept changes count
+        ≡ kernel_part (state_of changes) ++ own_part (state_of changes) ++ flat_map (of_listed count changes) (all_methods (state_of changes)) ++ Form NoChanges ∷ [] }
+{}
+
+/// What a file of all classes has is accepted too, change by change, and makes the state of the list. It is lawful where the list was.
+pub fn a_file_of_all_classes_folds_back()
+    ensures accepted { (changes : List Change) → AreAccepted kernel_state (filed (state_of changes)) }
+    ensures state { (changes : List Change) → state_of (filed (state_of changes)) ≡ state_of changes }
+    ensures lawful { (changes : List Change) → All IsLawful changes → All IsLawful (filed (state_of changes)) }
+{
+    sources_have_selectors();
+    kernel_sources_fit();
+}
+
 /// A file of lawful changes, none of whose texts is too long for a chunk, is read as its first line and then as these changes, the methods in
 /// the sections that they share, and nothing else is read.
 pub fn a_file_is_read_again()
-    ensures { (changes : List Change) (seconds : ℕ) (text : List ℕ) → All IsLawful changes → All IsShort changes → IsFile changes seconds text
-        → (moment : List ℕ) × IsMoment seconds moment × IsReadAs text moment changes }
+    ensures { (changes : List Change) (seconds : ℕ) (moment text : List ℕ) → All IsLawful changes → All IsShort changes
+        → IsFileAt changes seconds moment text → IsReadAs text moment changes }
+{}
+
+/// A second has one moment, so that the changes that are filed out in it have one file.
+pub fn there_is_one_moment()
+    ensures moment { (seconds : ℕ) (one other : List ℕ) → IsMoment seconds one → IsMoment seconds other → other ≡ one }
+    ensures file { (changes : List Change) (seconds : ℕ) (one other : List ℕ) → IsFile changes seconds one → IsFile changes seconds other → other ≡ one }
 {}

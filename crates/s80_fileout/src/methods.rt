@@ -1,6 +1,7 @@
 // The methods of a system in their order, and what makes each.
 ghost use Rattle.std.specs.Prelude.{◌≡◌, ◌≤◌, ◌+◌, ◌++◌, length, map as list_map, option_map, slice_range, IfOk, OnOk};
 ghost use Rattle.std.specs.FinMap as map;
+ghost use Rattle.std.specs.List.{flat_map};
 ghost use Rattle.std.specs.Option.{IfSome};
 ghost use Rattle.std.specs.Str.{bytes_eq};
 ghost use Rattle.s80_kernel.specs.Text.{kernel_text};
@@ -10,8 +11,8 @@ ghost use Rattle.s80_change.specs.declared.change.Change.TheVariants as changes_
 ghost use Rattle.s80_apply.specs.Entries.{state_row};
 ghost use Rattle.s80_apply.specs.State.{State, on_class_side};
 ghost use Rattle.s80_apply.specs.System.{IsSystemOf};
-ghost use Rattle.s80_fileout.specs.Condensed.{classified, for_methods, kernel_category, of_method};
-ghost use Rattle.s80_fileout.specs.Order.{IsSound, all_methods, has_source, listed, made_by, methods_on};
+ghost use Rattle.s80_fileout.specs.Condensed.{classified, for_methods, of_method};
+ghost use Rattle.s80_fileout.specs.Order.{IsSound, all_methods, has_source, listed, made_by, methods_in, methods_on};
 
 use s80_apply::System;
 use s80_base::{Names, OutOfMemory, Side, Text};
@@ -30,9 +31,9 @@ const KERNEL: &[u8] = b"kernel";
 
 /// A method of a system with its selector.
 #[derive(Debug, Drop)]
-pub(crate) struct ListedMethod {
-    pub(crate) selector: Text,
-    pub(crate) method: Method,
+pub struct ListedMethod {
+    pub selector: Text,
+    pub method: Method,
 }
 
 /// Adds what makes the methods.
@@ -43,34 +44,56 @@ pub(crate) fn add_methods(
 ) -> Result<(), OutOfMemory>
     ensures { (state : State) → IsSystemOf system.now state → OnOk result (changes.new ≡ changes.old ++ for_methods of_method state) }
 {
-    for listed in all_methods(alloc, system)? {
-        add_method(alloc, listed, changes)?;
+    let methods = all_methods(alloc, system)?;
+    add_each(methods, changes)
+}
+
+/// Adds what makes the methods of one class.
+pub(crate) fn add_methods_in(
+    alloc: Global,
+    system: &System,
+    class_name: &Text,
+    changes: &mut Changes,
+) -> Result<(), OutOfMemory>
+    ensures { (state : State) → IsSystemOf system.now state
+        → OnOk result (changes.new ≡ changes.old ++ flat_map made_by (methods_in state class_name.now)) }
+{
+    let methods = methods_in(alloc, system, class_name)?;
+    add_each(methods, changes)
+}
+
+/// Adds what makes each of these methods.
+fn add_each(methods: Vec<ListedMethod>, changes: &mut Changes) -> Result<(), OutOfMemory>
+    ensures { OnOk result (changes.new ≡ changes.old ++ flat_map made_by methods.items) }
+{
+    for listed in methods {
+        add_method(listed, changes)?;
     }
     Ok(())
 }
 
 /// Adds what makes a method: where the kernel has its source at its place, no more than its category.
-fn add_method(alloc: Global, listed: ListedMethod, changes: &mut Changes) -> Result<(), OutOfMemory>
+fn add_method(listed: ListedMethod, changes: &mut Changes) -> Result<(), OutOfMemory>
     ensures { OnOk result (changes.new ≡ changes.old ++ made_by listed) }
 {
     if has_kernel_source(&listed.method, &listed.selector) {
-        add_classifying(alloc, listed, changes)
+        add_classifying(listed, KERNEL, changes)
     } else {
         changes.push(Change::Method(listed.method))
     }
 }
 
-/// Adds the category of a method of the kernel's, if it has another.
-fn add_classifying(
-    alloc: Global,
+/// Adds the category of a method, where what stands before leaves it under another.
+pub fn add_classifying(
     listed: ListedMethod,
+    before: &[u8],
     changes: &mut Changes,
 ) -> Result<(), OutOfMemory>
     ensures { OnOk result (changes.new ≡ changes.old
-        ++ classified listed.method.class_name listed.method.side listed.selector kernel_category listed.method.category) }
+        ++ classified listed.method.class_name listed.method.side listed.selector before.now listed.method.category) }
 {
     let method = listed.method;
-    if method.category.bytes() == KERNEL {
+    if method.category.bytes() == before {
         return Ok(());
     }
     changes.push(Change::Form(Form::Classify {
@@ -117,33 +140,30 @@ fn is_class_side(side: Side) -> bool
 
 /// The methods of all classes in byte order of their names, those of instances first; on each side by their categories,
 /// and within these by their selectors.
-pub(crate) fn all_methods(alloc: Global, system: &System) -> Result<Vec<ListedMethod>, OutOfMemory>
+pub fn all_methods(alloc: Global, system: &System) -> Result<Vec<ListedMethod>, OutOfMemory>
     ensures { (state : State) → IsSystemOf system.now state → IfOk result (λ methods. methods.items ≡ all_methods state) }
 {
     let names = system.classes().names_sorted(alloc)?;
     let mut methods = Vec::new(alloc);
     for i in 0..names.count() {
-        let class_name = names.at(i);
-        add_side(alloc, system, class_name, Side::Instance, &mut methods)?;
-        add_side(alloc, system, class_name, Side::Class, &mut methods)?;
+        let mut more = methods_in(alloc, system, names.at(i))?;
+        methods.append(&mut more)?;
     }
     Ok(methods)
 }
 
-/// Adds the methods on one side of a class.
-fn add_side(
+/// The methods of one class, those of instances first.
+fn methods_in(
     alloc: Global,
     system: &System,
     class_name: &Text,
-    side: Side,
-    methods: &mut Vec<ListedMethod>,
-) -> Result<(), OutOfMemory>
-    ensures { (state : State) → IsSystemOf system.now state
-        → OnOk result (methods.new.items ≡ methods.old.items ++ methods_on state class_name.now side) }
+) -> Result<Vec<ListedMethod>, OutOfMemory>
+    ensures { (state : State) → IsSystemOf system.now state → IfOk result (λ methods. methods.items ≡ methods_in state class_name.now) }
 {
-    let mut more = methods_by_category(alloc, system, class_name, side)?;
+    let mut methods = methods_by_category(alloc, system, class_name, Side::Instance)?;
+    let mut more = methods_by_category(alloc, system, class_name, Side::Class)?;
     methods.append(&mut more)?;
-    Ok(())
+    Ok(methods)
 }
 
 /// The methods on one side of a class by their categories, and within these by their selectors.

@@ -4,7 +4,6 @@ use Rattle.std.specs.Str.{bytes_eq}
 use Rattle.std.proofs.lemmas.Result.{on_ok_weaker}
 use Rattle.s80_form.specs.declared.form.Form.TheVariants.{Classify}
 use Rattle.s80_change.specs.declared.change.Change.TheVariants.{Form}
-use Rattle.s80_fileout.specs.Condensed.{kernel_category}
 use Rattle.s80_fileout.proofs.Looked.{texts_turned}
 use Rattle.s80_fileout.proofs.methods.add_classifying.Goals as goal
 
@@ -12,7 +11,8 @@ pub returns : goal.returns
 returns c =
     let listed = c.args.listed in
     let method = listed.method in
-    let differs : bytes_eq kernel_category method.category ≡ false = texts_turned kernel_category method.category ∙ ap (λ t. bytes_eq t kernel_category) (sym c.bytes.ensures) ∙ sym c.eq.ensures ∙ c.if-eq.false in
+    let before = c.args.before.now in
+    let differs : bytes_eq before method.category ≡ false = texts_turned before method.category ∙ ap (λ t. bytes_eq t before) (sym c.bytes.ensures) ∙ sym c.eq.ensures ∙ c.if-eq.false in
     on_ok_weaker c.push.result
     (λ more. more ∙ ap (λ b. c.args.changes.now ++ (if b then [] else (Form (Classify method.class_name method.side listed.selector method.category) ∷ []))) (sym differs))
     c.push.ensures.ok

@@ -1,15 +1,12 @@
-use Rattle.std.proofs.Common.{◌≡◌, ◌∙◌, ◌++◌, [], ap, append-nil, sym}
+use Rattle.std.proofs.Common.{◌∙◌, ◌++◌, ap}
 use Rattle.std.specs.List.{flat_map}
-use Rattle.std.specs.Vec.Iter.{into_iter_items}
+use Rattle.std.proofs.lemmas.Result.{on_ok_weaker}
 use Rattle.s80_fileout.specs.Order.{made_by}
 use Rattle.s80_fileout.proofs.Made.{method_pieces}
-use Rattle.s80_fileout.proofs.Pieces.{nothing_left}
 use Rattle.s80_fileout.proofs.methods.add_methods.Goals as goal
 
 pub returns : goal.returns
 returns c = λ state is.
-    let at = c.loop-listed in
-    let none = c.in-None.ensures.steps in
-    let empty : into_iter_items at.listed-iterator ≡ [] = nothing_left _ (sym at.invariant.left ∙ none.0) in
-    let all = sym (append-nil at.yielded) ∙ ap (λ rest. at.yielded ++ rest) (sym empty) ∙ at.invariant.items ∙ c.into_iter-listed-iterator.ensures.into_iter_gives.0 ∙ c.in_ok-listed-items.ensures state is in
-    at.invariant.made ∙ ap (λ ms. c.args.changes.now ++ flat_map made_by ms) all ∙ ap (λ l. c.args.changes.now ++ l) (method_pieces state)
+    on_ok_weaker c.add_each.result
+    (λ more. more ∙ ap (λ ms. c.args.changes.now ++ flat_map made_by ms) (c.in_ok-methods.ensures state is) ∙ ap (λ l. c.args.changes.now ++ l) (method_pieces state))
+    c.add_each.ensures

@@ -2,9 +2,9 @@ use Rattle.s80_filing.proofs.FileFiledIn.{bytes_filed_in, state_behind}
 use Rattle.s80_filing.proofs.laws.a_file_is_filed_in.Goals as goal
 
 pub returns-clause-list : goal.returns-clause-list
-returns-clause-list c = λ work changes seconds text top file lawful short.
-    let read = c.a_file_is_read_again.ensures changes seconds text lawful short file in
-    (read.0, read.1, λ can. bytes_filed_in c.one_ask.ensures.one c.one_reading.ensures work changes seconds text read.0 top read.1 read.2 can)
+returns-clause-list c = λ work changes seconds moment text top file can.
+    let read = c.a_file_is_read_again.ensures changes seconds moment text can.lawful can.short file in
+    bytes_filed_in c.one_ask.ensures.one c.one_reading.ensures work changes seconds text moment top file.at read can
 
 pub returns-clause-state : goal.returns-clause-state
 returns-clause-state c = state_behind

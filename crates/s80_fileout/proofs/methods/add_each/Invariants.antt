@@ -1,9 +1,9 @@
--- What makes the methods so far, of those that are listed.
+-- What makes the methods so far.
 use Rattle.std.proofs.Common.{◌≡◌, ◌++◌, length}
 use Rattle.std.specs.List.{flat_map}
 use Rattle.std.specs.Vec.Iter.{into_iter_items, into_iter_len}
 use Rattle.s80_fileout.specs.Order.{made_by}
-use Rattle.s80_fileout.proofs.methods.add_methods.Given as goal
+use Rattle.s80_fileout.proofs.methods.add_each.Given as goal
 
 abbrev pub invariant-loop-listed : goal.invariant-loop-listed
 invariant-loop-listed l = record {
