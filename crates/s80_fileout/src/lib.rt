@@ -17,3 +17,4 @@ pub use laws::{
     the_list_with_versions_is_made_in_order, the_shortest_list_folds_back, there_is_one_moment,
 };
 pub use methods::{ListedMethod, add_classifying, all_methods};
+pub use moment::each_second_has_a_moment;

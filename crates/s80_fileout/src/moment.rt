@@ -1,5 +1,5 @@
 // The moment at which changes were filed out, in UTC.
-ghost use Rattle.std.specs.Prelude.{◌≡◌, ◌<◌, ◌++◌, OnOk};
+ghost use Rattle.std.specs.Prelude.{◌≡◌, ◌<◌, ◌++◌, ℕ, List, OnOk};
 ghost use Rattle.s80_fileout.specs.Moment.{IsCivil, IsMoment, civil_text, clock_text, date_text, two_digits};
 
 use jiff::Timestamp;
@@ -15,6 +15,13 @@ pub(crate) fn add_moment(text: &mut Text, seconds: u64) -> Result<(), OutOfMemor
     ensures { OnOk result ((moment : _) × IsMoment seconds moment × (text.new ≡ text.old ++ moment)) }
 {
     add_civil(text, civil(seconds))
+}
+
+/// Each second has a moment.
+pub fn each_second_has_a_moment(seconds: u64)
+    ensures { (moment : List ℕ) × IsMoment seconds moment }
+{
+    civil(seconds);
 }
 
 /// The civil time so many seconds after the beginning of 1970.

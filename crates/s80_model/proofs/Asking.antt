@@ -40,7 +40,7 @@ abbrev pub OneTold : Type 0
 OneTold = (changes : List Change) (text : List ℕ) (budget : ℕ) (told other : List ℕ) (stopped also : Bool) → EvaluatesTo (state_of changes) text budget told stopped → EvaluatesTo (state_of changes) text budget other also → (other ≡ told) × (also ≡ stopped)
 
 -- no fault of a text is want of memory
-not_memory : (kind : SyntaxKind) (place : ℕ) → fault_of kind place ≡ faults.Memory → ⊥
+pub not_memory : (kind : SyntaxKind) (place : ℕ) → fault_of kind place ≡ faults.Memory → ⊥
 not_memory kinds.UnendedToken place e = cc e
 not_memory kinds.BadByte place e = cc e
 not_memory kinds.BadNumber place e = cc e
@@ -49,7 +49,7 @@ not_memory kinds.NotAssignable place e = cc e
 not_memory kinds.Nested place e = cc e
 
 -- a text with a tree has no fault
-no_refusal : (text : List ℕ) (tree : DoItParts) (refusal : Refusal) → IsDoItOf text tree → IsSyntaxRefusal IsDoItText text refusal → ⊥
+pub no_refusal : (text : List ℕ) (tree : DoItParts) (refusal : Refusal) → IsDoItOf text tree → IsSyntaxRefusal IsDoItText text refusal → ⊥
 no_refusal text tree (refusals.Syntax kind place) is h = not_memory kind place (doit_only_memory text tree (fault_of kind place) is h)
 no_refusal text tree refusals.Unended is h = h
 no_refusal text tree (refusals.TooLarge _ _) is h = h

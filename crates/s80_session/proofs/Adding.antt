@@ -1,5 +1,5 @@
 -- A change that a keeper prepares and keeps, and the model's list with it.
-use Rattle.std.proofs.Common.{◌≡◌, inl, inr, ⊎_elim, ℕ, ◌+◌, ◌≤◌, List, [], ◌∷◌, ◌++◌, length, refl, sym, ap, subst, ◌∙◌, Result, Ok, Err, Option, Some, None, arith}
+use Rattle.std.proofs.Common.{◌≡◌, ◌+◌, ◌≤◌, List, [], ◌∷◌, ◌++◌, length, refl, sym, ap, subst, ◌∙◌, Result, Ok, Err, Option, Some, None, arith}
 use Rattle.std.proofs.lemmas.Bool.{le-leb}
 use Rattle.s80_base.specs.declared.outside.Failed.{Failed}
 use Rattle.s80_change.specs.declared.change.Change.{Change}
@@ -44,6 +44,7 @@ module _ (may_leave : Image → Type 0) (o : Shown) (before now : Session) (work
     section = ap section_of rest ∙ at.section;
     brief = at.brief;
     budget = ap budget_of rest ∙ at.budget;
+    moment = at.moment;
     taken = at.taken;
     told = at.told;
     held = ap held_of rest ∙ at.held;
@@ -78,6 +79,7 @@ stands_on was may_leave o now before session work basis front all keeps rest sho
   section = ap section_of rest ∙ at.section;
   brief = at.brief;
   budget = ap budget_of rest ∙ at.budget;
+  moment = at.moment ∙ sym (ap (λ (s : Shown). s.seconds) shown);
   taken = ap (λ (s : Shown). s.taken) shown ∙ at.taken;
   told = ap (λ (s : Shown). s.told) shown ∙ at.told;
   held = ap held_of rest ∙ at.held;

@@ -2,6 +2,7 @@
 use Rattle.std.proofs.Common.{◌≡◌, sym, subst, Result, Ok, Err, arith}
 use Rattle.std.specs.Prelude.{IfErr}
 use Rattle.s80_disk.specs.Shown.{Faults}
+use Rattle.s80_model.specs.declared.item.Filed.TheVariants as contents
 use Rattle.s80_model.specs.declared.item.Query.TheVariants as queries
 use Rattle.s80_model.specs.declared.item.SessionItem.{SessionItem}
 use Rattle.s80_model.specs.declared.item.SessionItem.TheVariants.{Chunk, Unended, Query}
@@ -51,6 +52,9 @@ done_on {T} {U} item a m b value other same h =
     by_item (Query (queries.Source spec selector)) h = record { later = h.later; reason = h.reason }
     by_item (Query (queries.Versions spec selector)) h = record { later = h.later; reason = h.reason }
     by_item (Query queries.Changes) h = record { later = h.later; reason = h.reason }
+    by_item (Query (queries.FileOut contents.All)) h = record { later = h.later; reason = h.reason }
+    by_item (Query (queries.FileOut (contents.Class name))) h = record { later = h.later; reason = h.reason }
+    by_item (Query (queries.FileOut contents.Set)) h = record { later = h.later; reason = h.reason }
     by_item (Query queries.Snapshot) h = record { later = h.later; reason = h.reason }
 
 source_broke : (T U : Type 0) (a b : Faults) (end : SessionEnd) → SourceCounts {T = T} a b (Err end) → SourceCounts {T = U} a b (Err end)
@@ -76,6 +80,9 @@ broke_on T U item a m b end same h =
     by_item (Query (queries.Source spec selector)) h = source_broke T U m b end h
     by_item (Query (queries.Versions spec selector)) h = source_broke T U m b end h
     by_item (Query queries.Changes) h = source_broke T U m b end h
+    by_item (Query (queries.FileOut contents.All)) h = record { later = h.later; reason = h.reason }
+    by_item (Query (queries.FileOut (contents.Class name))) h = record { later = h.later; reason = h.reason }
+    by_item (Query (queries.FileOut contents.Set)) h = source_broke T U m b end h
     by_item (Query queries.Snapshot) h = record { later = h.later; reason = h.reason }
 
 pub err_counts : (T U : Type 0) (a b : Faults) (end : SessionEnd) → Counts {T = T} a b (Err end) → Counts {T = U} a b (Err end)
@@ -122,6 +129,9 @@ counts_memory T (Query (queries.Browse name)) a b h = h.reason
 counts_memory T (Query (queries.Source spec selector)) a b h = h.reason
 counts_memory T (Query (queries.Versions spec selector)) a b h = h.reason
 counts_memory T (Query queries.Changes) a b h = h.reason
+counts_memory T (Query (queries.FileOut contents.All)) a b h = h.reason
+counts_memory T (Query (queries.FileOut (contents.Class name))) a b h = h.reason
+counts_memory T (Query (queries.FileOut contents.Set)) a b h = h.reason
 counts_memory T (Query queries.Snapshot) a b h = h.reason
 
 pub memory_only : (T U P : Type 0) (end : SessionEnd) → OnOkOrMemory {T = U} (Err end) P → OnOkOrMemory {T = T} (Err end) P

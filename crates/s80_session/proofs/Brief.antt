@@ -10,7 +10,7 @@ use Rattle.s80_model.specs.declared.item.Query.{Query as SessionQuery}
 use Rattle.s80_model.specs.declared.item.Query.TheVariants as queries
 use Rattle.s80_model.specs.declared.item.SessionItem.{SessionItem}
 use Rattle.s80_model.specs.declared.item.SessionItem.TheVariants.{Chunk, Unended, Query}
-use Rattle.s80_model.specs.Asked.{Ask, Asks, refuses, adds, evaluates, opens, refuses_head, adds_source, refuses_source, closes, tells, ask_of_query, ask_of_too_long}
+use Rattle.s80_model.specs.Asked.{Ask, Asks, refuses, adds, evaluates, opens, refuses_head, adds_source, refuses_source, closes, tells, files, ask_of_too_long, AsksQuery}
 use Rattle.s80_model.specs.Replies.{Work, refusal_of_head, section_of, work_after}
 use Rattle.s80_model.specs.Section.{IsBriefSection}
 
@@ -19,13 +19,14 @@ no_opening roles.Plain n head e = cc
 no_opening roles.Head n head e = cc
 no_opening roles.Method n head e = cc
 
-no_question : (query : SessionQuery) (head : SectionHead) → opens head ≡ ask_of_query query → ⊥
+no_question : (query : SessionQuery) (head : SectionHead) → AsksQuery query (opens head) → ⊥
 no_question queries.Recover head e = cc
 no_question queries.Classes head e = cc
 no_question (queries.Browse name) head e = cc
 no_question (queries.Source spec selector) head e = cc
 no_question (queries.Versions spec selector) head e = cc
 no_question queries.Changes head e = cc
+no_question (queries.FileOut filed) head (moment, e) = cc
 no_question queries.Snapshot head e = cc
 
 -- a head that a text is has the name and the category of its tree
@@ -52,3 +53,4 @@ brief_after work item (evaluates text told stopped) asks brief = brief
 brief_after work item (adds_source source) asks brief = brief
 brief_after work item (refuses_source refusal) asks brief = brief
 brief_after work item (tells query) asks brief = brief
+brief_after work item (files filed moment) asks brief = brief

@@ -93,6 +93,7 @@ module _ (may_leave : Image → Type 0) (now : Shown) (mid session : Session) (w
     section = ap section_of rest ∙ h.1.section;
     brief = h.1.brief;
     budget = ap budget_of rest ∙ h.1.budget;
+    moment = h.1.moment;
     taken = h.1.taken;
     told = h.1.told;
     held = held ∙ h.1.held;

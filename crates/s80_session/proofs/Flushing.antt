@@ -1,7 +1,6 @@
 -- A flush: what is pending is committed, and then what is held is put.
 use Rattle.std.proofs.Common.{◌≡◌, ◌⊎◌, inl, inr, ⊎_elim, ℕ, ◌<◌, List, [], ◌++◌, length, take, refl, sym, ap, subst, ◌∙◌, Result, Ok, Err, Some, None, arith}
 use Rattle.std.specs.Prelude.{IfErr, ◌↔◌, ◌≢◌}
-use Rattle.std.proofs.lemmas.List.{append-nil}
 use Rattle.s80_base.specs.Causes.{Rose}
 use Rattle.s80_base.specs.declared.outside.Failed.{Failed}
 use Rattle.s80_change.specs.declared.change.Change.{Change}
@@ -22,11 +21,11 @@ use Rattle.s80_model.specs.Replies.{Work}
 use Rattle.s80_session.specs.declared.end.SessionEnd.{SessionEnd}
 use Rattle.s80_session.specs.declared.end.SessionEnd.TheVariants as ends
 use Rattle.s80_session.specs.declared.session.Session.{Session}
-use Rattle.s80_session.specs.Ending.{HasReason, IsWriteEnd, NoFewer}
+use Rattle.s80_session.specs.Ending.{HasReason, IsWriteEnd}
 use Rattle.s80_session.specs.Ends.{refusal_at_fault}
 use Rattle.s80_session.specs.Run.{HasKept}
 use Rattle.s80_session.specs.Session.{HasMarked, keeper_of, held_of, section_of, budget_of}
-use Rattle.s80_session.specs.Working.{Ground, IsAmid, IsAt, IsLost, IsPut, HeldPut, Committed, Flushed, EndsForMemory, at_rest, CommitLeaves, FlushLeaves}
+use Rattle.s80_session.specs.Working.{Ground, IsAmid, IsAt, IsPut, HeldPut, Committed, Flushed, EndsForMemory, CommitLeaves, FlushLeaves}
 use Rattle.s80_session.proofs.Adding.{not_both}
 use Rattle.s80_session.proofs.lemmas.Elsewhere.{no_mark}
 use Rattle.s80_session.proofs.lemmas.Grounds.{commit_flushes}
@@ -110,6 +109,7 @@ put_at was may_leave mid now before session work basis put less rest none shown 
   section = ap section_of rest ∙ at.section;
   brief = at.brief;
   budget = ap budget_of rest ∙ at.budget;
+  moment = at.moment ∙ sym (ap (λ (s : Shown). s.seconds) shown);
   taken = is_put.0;
   told = is_put.1;
   held = none;

@@ -1,5 +1,5 @@
 -- The work on an item, with a flush where memory is wanting, and a step: an item at rest, and a flush behind it.
-use Rattle.std.proofs.Common.{◌≡◌, ◌⊎◌, inl, inr, ⊎_elim, ℕ, Bool, true, false, ◌<◌, List, [], ◌++◌, length, take, refl, sym, ap, subst, ◌∙◌, Result, Ok, Err, Option, Some, None, arith, length-append}
+use Rattle.std.proofs.Common.{◌≡◌, ◌⊎◌, inl, inr, ⊎_elim, ℕ, Bool, true, false, List, [], ◌++◌, length, refl, sym, ap, subst, ◌∙◌, Result, Ok, Err, Option, Some, None, arith}
 use Rattle.std.specs.Prelude.{IfErr, ◌||◌}
 use Rattle.std.specs.Io.KnownBytes.{Appends}
 use Rattle.std.proofs.lemmas.List.{append-nil}
@@ -9,7 +9,6 @@ use Rattle.s80_disk.specs.Shown.{Shown}
 use Rattle.s80_disk.specs.Moments.{LeavesOnly}
 use Rattle.s80_disk.proofs.lemmas.Run.{joined, weaker}
 use Rattle.s80_model.specs.declared.item.SessionItem.{SessionItem}
-use Rattle.s80_model.specs.declared.reply.Reply.{Reply}
 use Rattle.s80_model.specs.declared.reply.Reply.TheVariants.{Silent}
 use Rattle.s80_machine.specs.Came.{RanValue}
 use Rattle.s80_model.specs.Asked.{Ask, evaluates}
@@ -20,8 +19,8 @@ use Rattle.s80_session.specs.declared.session.Session.{Session}
 use Rattle.s80_session.specs.Ending.{IsFlushEnd, MeetsNoDamage}
 use Rattle.s80_session.specs.LastRun.{RunBehind}
 use Rattle.s80_session.specs.Run.{HasKept}
-use Rattle.s80_session.specs.Session.{Was, held_of, last_run_of, troubled_of, was_of, HasHeld, HasMet, TakesHeld, TroubleAfter}
-use Rattle.s80_session.specs.Working.{Ground, IsAmid, IsAt, GoesOn, IsLost, IsPast, IsUnevaluated, EndsForMemory, Flushed, Holds, ItemWorked, Stepped, Unreplied, Worked, at_rest, flushed, holding, FlushLeaves, StepLeaves, WorkLeaves}
+use Rattle.s80_session.specs.Session.{Was, held_of, last_run_of, troubled_of, HasHeld, TakesHeld, TroubleAfter}
+use Rattle.s80_session.specs.Working.{Ground, IsAmid, IsAt, IsLost, IsPast, EndsForMemory, Flushed, ItemWorked, Stepped, Unreplied, Worked, at_rest, flushed, holding, FlushLeaves, StepLeaves, WorkLeaves}
 use Rattle.s80_session.proofs.Stepping.{lost_among}
 use Rattle.s80_session.proofs.lemmas.Grounds.{flush_again, more_told, longer}
 

@@ -1,5 +1,5 @@
 -- An item that was worked: its reply is held, and its section entered.
-use Rattle.std.proofs.Common.{◌≡◌, ◌⊎◌, inl, inr, ⊎_elim, ℕ, ◌<◌, ◌≤◌, List, [], ◌++◌, length, refl, sym, ap, subst, ◌∙◌, Result, Ok, Err, Option, Some, Bool, true, false, arith}
+use Rattle.std.proofs.Common.{◌≡◌, ◌⊎◌, inl, inr, ⊎_elim, ℕ, ◌≤◌, List, [], ◌++◌, refl, sym, ap, subst, ◌∙◌, Result, Ok, Err, Option, Some, Bool, arith}
 use Rattle.std.specs.Prelude.{None, ◌||◌}
 use Rattle.s80_change.specs.declared.change.Change.{Change}
 use Rattle.s80_change.specs.declared.change.Change.TheVariants.{DoIt}
@@ -12,6 +12,7 @@ use Rattle.s80_apply.specs.List.{add}
 use Rattle.s80_chunk.specs.declared.item.Item.TheVariants as items
 use Rattle.s80_chunk.specs.declared.item.Role.{Role}
 use Rattle.s80_chunk.specs.declared.item.Role.TheVariants as roles
+use Rattle.s80_model.specs.declared.item.Filed.TheVariants as contents
 use Rattle.s80_model.specs.declared.item.Query.TheVariants as queries
 use Rattle.s80_model.specs.declared.item.SessionItem.{SessionItem}
 use Rattle.s80_model.specs.declared.item.SessionItem.TheVariants.{Chunk, Unended, Query}
@@ -21,7 +22,7 @@ use Rattle.s80_model.specs.declared.reply.Reply.TheVariants.{Silent, Accepted, R
 use Rattle.s80_model.specs.declared.section.Section.{Section}
 use Rattle.s80_model.specs.declared.section.Section.TheVariants as sections
 use Rattle.s80_machine.specs.Came.{RanValue}
-use Rattle.s80_model.specs.Asked.{Ask, refuses, adds, evaluates, opens, refuses_head, adds_source, refuses_source, closes, tells, ask_of_too_long}
+use Rattle.s80_model.specs.Asked.{Ask, refuses, adds, evaluates, opens, refuses_head, adds_source, refuses_source, closes, tells, files, ask_of_too_long}
 use Rattle.s80_model.specs.Replies.{IsAnswer, Work, AsksIn, list_or, list_after_source, method_in, reply_to, reply_in_section, reply_to_adding, reply_to_evaluating, reply_to_source, reply_text, is_trouble, work_after}
 use Rattle.s80_model.specs.Section.{section_or}
 use Rattle.s80_session.specs.declared.end.SessionEnd.{SessionEnd}
@@ -32,7 +33,7 @@ use Rattle.s80_session.specs.Ends.{reply_to_keeping}
 use Rattle.s80_session.specs.LastRun.{RunBehind}
 use Rattle.s80_session.specs.Replies.{HasRoom, HasRoomFor, LacksRoom}
 use Rattle.s80_session.specs.Session.{Was, budget_of, held_of, keeper_of, last_run_of, section_of, troubled_of, HasHeld, HasRun, IsEvaluation, RunAfterReply}
-use Rattle.s80_session.specs.Working.{Ground, IsAmid, GoesOn, Answers, Holds, ItemWorked, Unreplied, flushed, holding, staying}
+use Rattle.s80_session.specs.Working.{Ground, IsAmid, GoesOn, Answers, ItemWorked, flushed, holding, staying}
 use Rattle.s80_session.proofs.Breaking.{no_fewer}
 use Rattle.s80_session.proofs.Brief.{brief_after}
 use Rattle.s80_session.proofs.Marking.{run_kept}
@@ -47,6 +48,7 @@ amid_alike may_leave now mid session work basis keeper section budget held h = r
   section = section ∙ h.section;
   brief = h.brief;
   budget = budget ∙ h.budget;
+  moment = h.moment;
   taken = h.taken;
   told = h.told;
   held = held ∙ h.held;
@@ -62,6 +64,7 @@ module _ (may_leave : Image → Type 0) (now : Shown) (mid session : Session) (w
     section = section ∙ ap (section_or answer.section) h.section ∙ is.1;
     brief = brief_after work item ask asks.0 h.brief;
     budget = budget ∙ h.budget;
+    moment = h.moment;
     taken = h.taken;
     told = h.told;
     held = held ∙ (λ i. h.held i ++ reply_text (is.0 i));
@@ -125,6 +128,7 @@ refused_stays work (adds_source source) refusal e = ap (λ l. record work { chan
 refused_stays work (refuses_source other) refusal e = refl
 refused_stays work closes refusal e = refl
 refused_stays work (tells query) refusal e = refl
+refused_stays work (files filed moment) refusal e = refl
 
 -- so does what is told
 told_stays : (work : Work) (ask : Ask) (text : List ℕ) → reply_to work ask ≡ Told text → staying work ask ≡ work
@@ -137,6 +141,7 @@ told_stays work (adds_source source) text e = ap (λ l. record work { changes = 
 told_stays work (refuses_source other) text e = refl
 told_stays work closes text e = refl
 told_stays work (tells query) text e = refl
+told_stays work (files filed moment) text e = refl
 
 -- a reply for which there is room, and which isn't held, is a refusal, or what is told
 unheld_stays : (work : Work) (ask : Ask) (reply : Reply) (room : ℕ) → reply ≡ reply_to work ask → HasRoom reply room → LacksRoom reply room → staying work ask ≡ work
@@ -199,6 +204,9 @@ counts_then (Query (queries.Browse name)) a m b value r behind h = (behind h.rea
 counts_then (Query (queries.Source spec selector)) a m b value r behind h = (behind h.reason).1
 counts_then (Query (queries.Versions spec selector)) a m b value r behind h = (behind h.reason).1
 counts_then (Query queries.Changes) a m b value r behind h = (behind h.reason).1
+counts_then (Query (queries.FileOut contents.All)) a m b value r behind h = (behind h.reason).0
+counts_then (Query (queries.FileOut (contents.Class name))) a m b value r behind h = (behind h.reason).0
+counts_then (Query (queries.FileOut contents.Set)) a m b value r behind h = (behind h.reason).1
 counts_then (Query queries.Snapshot) a m b value r behind h = (behind h.reason).0
 
 -- no damage is met
@@ -221,6 +229,9 @@ any_counts (Query (queries.Browse name)) a b r h = h
 any_counts (Query (queries.Source spec selector)) a b r h = source_counts a b r h
 any_counts (Query (queries.Versions spec selector)) a b r h = source_counts a b r h
 any_counts (Query queries.Changes) a b r h = source_counts a b r h
+any_counts (Query (queries.FileOut contents.All)) a b r h = h
+any_counts (Query (queries.FileOut (contents.Class name))) a b r h = h
+any_counts (Query (queries.FileOut contents.Set)) a b r h = source_counts a b r h
 any_counts (Query queries.Snapshot) a b r h = h
 
 -- what follows what met no fault

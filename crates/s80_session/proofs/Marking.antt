@@ -1,5 +1,5 @@
 -- The run of the doIt that was evaluated last, behind an item and behind many, whatever the outside tells.
-use Rattle.std.proofs.Common.{◌≡◌, ◌⊎◌, inl, inr, ℕ, List, [], Bool, refl, sym, ap, subst, ◌∙◌, Result, Ok, Err, Option, None, Some}
+use Rattle.std.proofs.Common.{◌≡◌, ◌⊎◌, inl, inr, ℕ, List, refl, sym, ap, subst, ◌∙◌, Result, Ok, Err, Option}
 use Rattle.std.specs.Prelude.{IfErr}
 use Rattle.s80_form.specs.Form.{IsNoFormText}
 use Rattle.s80_chunk.specs.declared.item.Item.TheVariants as items
@@ -10,7 +10,6 @@ use Rattle.s80_model.specs.declared.item.SessionItem.{SessionItem}
 use Rattle.s80_model.specs.declared.item.SessionItem.TheVariants.{Chunk, Unended, Query}
 use Rattle.s80_model.specs.declared.reply.Answer.{Answer}
 use Rattle.s80_model.specs.declared.reply.Reply.{Reply}
-use Rattle.s80_model.specs.declared.reply.Reply.TheVariants.{Evaluated}
 use Rattle.s80_session.specs.declared.end.SessionEnd.{SessionEnd}
 use Rattle.s80_session.specs.declared.end.SessionEnd.TheVariants as ends
 use Rattle.s80_session.specs.declared.session.Session.{Session}

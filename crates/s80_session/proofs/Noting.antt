@@ -4,7 +4,6 @@ use Rattle.std.proofs.Common.{◌≡◌, ◌⊎◌, inl, inr, ⊎_elim, ◌+◌,
 use Rattle.std.proofs.lemmas.List.{append-nil}
 use Rattle.s80_chunk.specs.Chunks.{IsPlainText}
 use Rattle.s80_change.specs.Block.{IsLawful}
-use Rattle.s80_change.specs.declared.change.Change.{Change}
 use Rattle.s80_change.specs.declared.change.Change.TheVariants.{DoIt}
 use Rattle.s80_change.proofs.lemmas.TextOf.{no_form_text}
 use Rattle.s80_form.specs.declared.form.Form.{Form}

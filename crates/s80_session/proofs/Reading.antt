@@ -118,6 +118,7 @@ at_read was may_leave o now before session work put keeper rest less is at =
       section = ap section_of rest ∙ at.section;
       brief = at.brief;
       budget = ap budget_of rest ∙ at.budget;
+      moment = at.moment;
       taken = at.taken;
       told = at.told;
       held = ap held_of rest ∙ at.held;

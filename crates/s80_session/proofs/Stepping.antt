@@ -1,6 +1,6 @@
 -- What the work on an item is answered, and what it leaves.
 use Rattle.std.proofs.Common.{◌≡◌, ◌⊎◌, inl, inr, ⊎_elim, ℕ, List, [], ◌++◌, refl, sym, ap, subst, ◌∙◌, Result, Ok, Err, Option, Some, arith}
-use Rattle.std.specs.Prelude.{None}
+use Rattle.std.specs.Prelude.{None, IfSome}
 use Rattle.std.proofs.lemmas.List.{append-nil}
 use Rattle.s80_chunk.specs.declared.item.Role.{Role}
 use Rattle.s80_chunk.specs.declared.item.Role.TheVariants as roles
@@ -16,6 +16,8 @@ use Rattle.s80_keeper.specs.declared.start.StartFault.TheVariants as faults
 use Rattle.s80_keeper.specs.Start.{Started}
 use Rattle.s80_change.specs.declared.head.SectionHead.{SectionHead}
 use Rattle.s80_apply.specs.List.{add}
+use Rattle.s80_fileout.specs.Moment.{IsMoment}
+use Rattle.s80_model.specs.declared.item.Filed.{Filed}
 use Rattle.s80_model.specs.declared.item.Query.{Query as SessionQuery}
 use Rattle.s80_model.specs.declared.item.Query.TheVariants as queries
 use Rattle.s80_model.specs.declared.item.SessionItem.{SessionItem}
@@ -26,18 +28,18 @@ use Rattle.s80_model.specs.declared.reply.Reply.TheVariants.{Silent, Refused}
 use Rattle.s80_model.specs.declared.section.Section.{Section}
 use Rattle.s80_model.specs.declared.section.Section.TheVariants as sections
 use Rattle.s80_machine.specs.Came.{RanValue}
-use Rattle.s80_model.specs.Asked.{Ask, refuses, adds, evaluates, opens, refuses_head, adds_source, refuses_source, closes, tells, ask_of_query, ask_of_too_long, snapshot_note, Asks, AsksPlain, AsksHead, AsksMethod}
+use Rattle.s80_model.specs.Asked.{Ask, refuses, adds, evaluates, opens, refuses_head, adds_source, refuses_source, closes, tells, files, ask_of_too_long, snapshot_note, Asks, AsksPlain, AsksHead, AsksMethod, AsksQuery}
 use Rattle.s80_model.specs.Replies.{IsAnswer, Work, AsksIn, IsSo, list_after_source, method_in, reply_to, reply_to_adding, reply_to_source, work_after}
-use Rattle.s80_model.specs.Settings.{Settings}
+use Rattle.s80_model.specs.Settings.{IsNow, Settings}
 use Rattle.s80_model.specs.Section.{section_or, IsBriefSection}
 use Rattle.s80_model.specs.Told.{told}
 use Rattle.s80_session.specs.declared.end.SessionEnd.{SessionEnd}
 use Rattle.s80_session.specs.declared.end.SessionEnd.TheVariants as ends
 use Rattle.s80_session.specs.declared.session.Session.{Session}
 use Rattle.s80_session.specs.Ends.{end_of_start, reply_to_keeping}
-use Rattle.s80_session.specs.Files.{IsQuestion}
 use Rattle.s80_session.specs.LastRun.{RunBehind}
-use Rattle.s80_session.specs.Session.{Was, last_run_of, section_of}
+use Rattle.s80_session.specs.Replies.{TellsFile}
+use Rattle.s80_session.specs.Session.{Was, last_run_of}
 use Rattle.s80_session.specs.Working.{Ground, IsAmid, IsAt, GoesOn, IsLost, IsPast, Kept, Noted, QueryWorked, Replied, Answers, Flushed, Unreplied, Unworked, Starts, adding, at_rest, flushed, staying}
 
 -- ---- texts that are kept
@@ -113,6 +115,7 @@ plain_stays work text (adds_source source) h = absurd h
 plain_stays work text (refuses_source refusal) h = absurd h
 plain_stays work text closes h = absurd h
 plain_stays work text (tells query) h = absurd h
+plain_stays work text (files filed moment) h = absurd h
 
 method_stays : (work : Work) (text : List ℕ) (ask : Ask) → AsksMethod text ask → (work_after work ask).section ≡ work.section
 method_stays work text (adds_source source) h = refl
@@ -124,10 +127,11 @@ method_stays work text (refuses_head refusal) h = absurd h
 method_stays work text (refuses_source refusal) h = absurd h
 method_stays work text closes h = absurd h
 method_stays work text (tells query) h = absurd h
+method_stays work text (files filed moment) h = absurd h
 
 -- the section stays
 staying_at : (may_leave : Image → Type 0) (now : Shown) (session : Session) (work : Work) (basis : Ground) (ask : Ask) → (work_after work ask).section ≡ work.section → IsAmid may_leave now session (work_after work ask) basis → IsAmid may_leave now session (staying work ask) basis
-staying_at may_leave now session work basis ask stays h = record { keeps = h.keeps; section = h.section ∙ stays; brief = subst IsBriefSection stays h.brief; budget = h.budget; taken = h.taken; told = h.told; held = h.held }
+staying_at may_leave now session work basis ask stays h = record { keeps = h.keeps; section = h.section ∙ stays; brief = subst IsBriefSection stays h.brief; budget = h.budget; moment = h.moment; taken = h.taken; told = h.told; held = h.held }
 
 -- a reply to an item that leaves the section is its answer
 stays_there : (may_leave : Image → Type 0) (now : Shown) (session : Session) (was : Was) (work : Work) (basis : Ground) (item : SessionItem) (ask : Ask) (answer : Answer) → AsksIn work item ask → (work_after work ask).section ≡ work.section → answer.reply ≡ reply_to work ask → section_or answer.section work.section ≡ work.section → RunBehind work ask was.last_run (last_run_of session) → GoesOn may_leave now session (work_after work ask) basis → Answers (Ok answer) may_leave now session was work basis item
@@ -146,19 +150,19 @@ pub worked_method : (may_leave : Image → Type 0) (now : Shown) (session : Sess
 worked_method may_leave now session was work basis text reply answer is h =
     stays_there may_leave now session was work basis (Chunk (items.Method text)) h.0 answer h.1 (method_stays work text h.0 h.1.0) (ap (λ (a : Answer). a.reply) is ∙ h.2) (ap (λ (a : Answer). section_or a.section work.section) is) h.3 h.4
 
-query_stays : (work : Work) (query : SessionQuery) → (work_after work (ask_of_query query)).section ≡ work.section
-query_stays work queries.Recover = refl
-query_stays work queries.Classes = refl
-query_stays work (queries.Browse name) = refl
-query_stays work (queries.Source spec selector) = refl
-query_stays work (queries.Versions spec selector) = refl
-query_stays work queries.Changes = refl
-query_stays work queries.Snapshot = refl
+query_stays : (work : Work) (query : SessionQuery) (ask : Ask) → AsksQuery query ask → (work_after work ask).section ≡ work.section
+query_stays work queries.Recover ask is = ap (λ (a : Ask). (work_after work a).section) is
+query_stays work queries.Classes ask is = ap (λ (a : Ask). (work_after work a).section) is
+query_stays work (queries.Browse name) ask is = ap (λ (a : Ask). (work_after work a).section) is
+query_stays work (queries.Source spec selector) ask is = ap (λ (a : Ask). (work_after work a).section) is
+query_stays work (queries.Versions spec selector) ask is = ap (λ (a : Ask). (work_after work a).section) is
+query_stays work queries.Changes ask is = ap (λ (a : Ask). (work_after work a).section) is
+query_stays work (queries.FileOut filed) ask is = ap (λ (a : Ask). (work_after work a).section) is.1
+query_stays work queries.Snapshot ask is = ap (λ (a : Ask). (work_after work a).section) is
 
 pub worked_query : (may_leave : Image → Type 0) (now : Shown) (session : Session) (was : Was) (work : Work) (basis : Ground) (query : SessionQuery) (reply : Reply) (answer : Answer) → IsStaying reply answer → QueryWorked (Ok reply) may_leave now session was work (basis.put ++ basis.held) (Query query) → Answers (Ok answer) may_leave now session was work basis (Query query)
 worked_query may_leave now session was work basis query reply answer is h =
-    let P : Ask → Type 0 = λ a. (work_after work a).section ≡ work.section in
-    stays_there may_leave now session was work basis (Query query) h.0 answer h.1 (subst P (sym h.1.0) (query_stays work query)) (ap (λ (a : Answer). a.reply) is ∙ h.2) (ap (λ (a : Answer). section_or a.section work.section) is) h.3 (inr h.4)
+    stays_there may_leave now session was work basis (Query query) h.0 answer h.1 (query_stays work query h.0 h.1.0) (ap (λ (a : Answer). a.reply) is ∙ h.2) (ap (λ (a : Answer). section_or a.section work.section) is) h.3 (inr h.4)
 
 -- where a query isn't answered
 pub queried_err : (end : SessionEnd) (may_leave : Image → Type 0) (now : Shown) (session : Session) (was : Was) (work : Work) (basis : Ground) (item : SessionItem) → QueryWorked (Err end) may_leave now session was work (basis.put ++ basis.held) item → Unreplied end may_leave now session work basis item
@@ -188,6 +192,7 @@ head_lists work text (adds_source source) h = absurd h
 head_lists work text (refuses_source refusal) h = absurd h
 head_lists work text closes h = absurd h
 head_lists work text (tells query) h = absurd h
+head_lists work text (files filed moment) h = absurd h
 
 head_so : (work : Work) (text : List ℕ) (ask : Ask) → AsksHead text ask → IsSo work ask
 head_so work text (opens head) h = tt
@@ -199,6 +204,7 @@ head_so work text (adds_source source) h = absurd h
 head_so work text (refuses_source refusal) h = absurd h
 head_so work text closes h = absurd h
 head_so work text (tells query) h = absurd h
+head_so work text (files filed moment) h = absurd h
 
 -- and runs nothing
 head_runs : (work : Work) (text : List ℕ) (ask : Ask) (before now : Option RanValue) → AsksHead text ask → now ≡ before → RunBehind work ask before now
@@ -211,6 +217,7 @@ head_runs work text (adds_source source) before now h same = absurd h
 head_runs work text (refuses_source refusal) before now h same = absurd h
 head_runs work text closes before now h same = absurd h
 head_runs work text (tells query) before now h same = absurd h
+head_runs work text (files filed moment) before now h same = absurd h
 
 pub worked_head : (may_leave : Image → Type 0) (now : Shown) (session : Session) (was : Was) (work : Work) (basis : Ground) (text : List ℕ) (answer : Answer) → last_run_of session ≡ was.last_run → (ask : Ask) × AsksHead text ask × IsAnswer work ask answer → IsAmid may_leave now session work basis → Answers (Ok answer) may_leave now session was work basis (Chunk (items.Head text))
 worked_head may_leave now session was work basis text answer same is h =
@@ -235,20 +242,29 @@ pub worked_too_long : (may_leave : Image → Type 0) (now : Shown) (session : Se
 worked_too_long may_leave now session was work basis role n answer same is h =
     worked_so may_leave now session was work basis (Chunk (items.TooLong role n)) (ask_of_too_long role n) answer (refl, too_long_so work role n) is (too_long_runs work role n was.last_run (last_run_of session) same) (too_long_lists work role n) h
 
-asks_to_be_told : (query : SessionQuery) → IsQuestion query → tells query ≡ ask_of_query query
-asks_to_be_told queries.Recover h = refl
-asks_to_be_told queries.Classes h = refl
-asks_to_be_told (queries.Browse name) h = refl
-asks_to_be_told (queries.Source spec selector) h = refl
-asks_to_be_told (queries.Versions spec selector) h = refl
-asks_to_be_told queries.Changes h = refl
-asks_to_be_told queries.Snapshot h = absurd h
-
 -- what a query is told
-pub replied_told : (may_leave : Image → Type 0) (now : Shown) (session : Session) (was : Was) (work : Work) (put : List ℕ) (query asked : SessionQuery) (reply : Reply) → last_run_of session ≡ was.last_run → query ≡ asked → IsQuestion asked → reply ≡ told work.changes asked → IsAt may_leave now session work put → QueryWorked (Ok reply) may_leave now session was work put (Query query)
-replied_told may_leave now session was work put query asked reply same is question told_is h =
+pub replied_told : (may_leave : Image → Type 0) (now : Shown) (session : Session) (was : Was) (work : Work) (put : List ℕ) (query asked : SessionQuery) (reply : Reply) → last_run_of session ≡ was.last_run → query ≡ asked → AsksQuery asked (tells asked) → reply ≡ told work.changes asked → IsAt may_leave now session work put → QueryWorked (Ok reply) may_leave now session was work put (Query query)
+replied_told may_leave now session was work put query asked reply same is asks told_is h =
     let P : SessionQuery → Type 0 = λ q. QueryWorked (Ok reply) may_leave now session was work put (Query q) in
-    subst P (sym is) (tells asked, (asks_to_be_told asked question, tt), told_is, same, h)
+    subst P (sym is) (tells asked, (asks, tt), told_is, same, h)
+
+-- the second is the one that is told
+pub told_second : (o now : Shown) (seconds : ℕ) → now ≡ o → IfSome o.seconds (λ told. seconds ≡ told) → IfSome now.seconds (λ told. seconds ≡ told)
+told_second o now seconds same = let P : Shown → Type 0 = λ s. IfSome s.seconds (λ told. seconds ≡ told) in subst P (sym same)
+
+-- its moment is one of the clock in the settings
+is_now : (clock settings : Option ℕ) (seconds : ℕ) (moment : List ℕ) → settings ≡ clock → IfSome clock (λ told. seconds ≡ told) → IsMoment seconds moment → IsNow settings moment
+is_now clock settings seconds moment same told is = let P : Option ℕ → Type 0 = λ o. IsNow o moment in subst P (sym same) (by_clock clock told)
+  where
+    by_clock : (clock : Option ℕ) → IfSome clock (λ told. seconds ≡ told) → IsNow clock moment
+    by_clock None told = (seconds, is)
+    by_clock (Some second) told = let P : ℕ → Type 0 = λ n. IsMoment n moment in subst P told is
+
+-- a file that is told
+pub replied_file : (may_leave : Image → Type 0) (now : Shown) (session : Session) (was : Was) (work : Work) (put : List ℕ) (filed asked : Filed) (seconds : ℕ) (reply : Reply) → last_run_of session ≡ was.last_run → filed ≡ asked → IfSome now.seconds (λ told. seconds ≡ told) → TellsFile work.changes seconds asked reply → IsAt may_leave now session work put → QueryWorked (Ok reply) may_leave now session was work put (Query (queries.FileOut filed))
+replied_file may_leave now session was work put filed asked seconds reply same asks told (moment, is, reply_is) h =
+    let P : Filed → Type 0 = λ f. QueryWorked (Ok reply) may_leave now session was work put (Query (queries.FileOut f)) in
+    subst P (sym asks) (files asked moment, ((moment, refl), is_now now.seconds work.settings.moment seconds moment h.moment told is), reply_is, same, h)
 
 -- the note of a snapshot at rest
 at_end : (may_leave : Image → Type 0) (now : Shown) (session : Session) (work : Work) (put : List ℕ) → IsAt may_leave now session work (put ++ []) → IsAt may_leave now session work put

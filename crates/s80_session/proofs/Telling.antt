@@ -1,14 +1,22 @@
--- What is told of the source of a method, and of its versions.
-use Rattle.std.proofs.Common.{◌≡◌, ℕ, List, Bool, sym, ap, ◌∙◌, Option, Some, map as list_map}
+-- What is told of the source of a method, of its versions, and in files of changes.
+use Rattle.std.proofs.Common.{◌≡◌, ℕ, List, Bool, true, false, if◌then◌else◌, sym, ap, ◌∙◌, Option, Some, None, map as list_map}
 use Rattle.std.specs.FinMap as map
 use Rattle.s80_base.specs.declared.names.Side.{Side}
 use Rattle.s80_change.specs.declared.change.Change.{Change}
 use Rattle.s80_class.specs.Classes.{Name, ClassRow}
 use Rattle.s80_apply.specs.List.{state_of}
+use Rattle.s80_fileout.specs.Condensed.{filed_on}
+use Rattle.s80_fileout.specs.FileText.{IsFile}
+use Rattle.s80_fileout.specs.Moment.{IsMoment}
+use Rattle.s80_form.specs.declared.refusal.Refusal.TheVariants.{BadName, UnknownClass}
+use Rattle.s80_form.specs.Name.{is_name}
 use Rattle.s80_history.specs.Lists.{versions_of}
+use Rattle.s80_model.specs.declared.item.Filed.TheVariants.{Class as OneClass}
 use Rattle.s80_model.specs.declared.item.Query.TheVariants.{Source, Versions}
 use Rattle.s80_model.specs.declared.reply.Reply.{Reply}
-use Rattle.s80_model.specs.Told.{side_named, source_in, source_of_class, source_reply, source_told, versions_of_class, versions_reply, versions_told, told}
+use Rattle.s80_model.specs.declared.reply.Reply.TheVariants.{Refused, Told}
+use Rattle.s80_session.specs.Replies.{TellsFile}
+use Rattle.s80_model.specs.Told.{file_of_class, file_reply, file_told, side_named, source_in, source_of_class, source_reply, source_told, versions_of_class, versions_reply, versions_told, told}
 
 module _ (changes : List Change) (spec selector : List ℕ) (named : Option (Name × Side)) (pair : Name × Side) (is : named ≡ side_named spec) (some : named ≡ Some pair) (row : ClassRow) (there : map.get (state_of changes).classes pair.0 ≡ Some row) (reply : Reply) where
   -- the word names a class that is there, and this is the source that the state has
@@ -23,3 +31,32 @@ module _ (changes : List Change) (spec selector : List ℕ) (named : Option (Nam
   versions_are_told is_there versions known found is_told =
       let by_name : told changes (Versions spec selector) ≡ versions_of_class changes pair.0 pair.1 selector (map.get (state_of changes).classes pair.0) = ap (versions_reply changes spec selector) (sym is ∙ some) in
       is_told ∙ (λ i. versions_told pair.0 pair.1 selector (known i) (found i)) ∙ sym (by_name ∙ ap (versions_of_class changes pair.0 pair.1 selector) there)
+
+-- ---- files
+
+-- the text of a file, by the changes that it has
+pub file_is_told : (listed wanted : List Change) (seconds : ℕ) (text : List ℕ) → listed ≡ wanted → IsFile listed seconds text → (moment : List ℕ) × IsMoment seconds moment × (Told text ≡ file_told moment wanted)
+file_is_told listed wanted seconds text is (moment, file) = (moment, file.at, ap Told file.whole ∙ ap (file_told moment) is)
+
+module _ (changes : List Change) (name : Name) (seconds : ℕ) where
+  -- what is told by whether the word is a name
+  by_name : List ℕ → Bool → Reply
+  by_name moment named = if named then file_of_class (state_of changes) moment name (map.get (state_of changes).classes name) else Refused (BadName name)
+
+  -- it is none
+  pub misnamed_told : is_name name ≡ false → (moment : List ℕ) × IsMoment seconds moment → TellsFile changes seconds (OneClass name) (Refused (BadName name))
+  misnamed_told named (moment, is) = (moment, is, sym (ap (by_name moment) named))
+
+  -- it is one, and its class is this
+  named_told : is_name name ≡ true → (row : Option ClassRow) → map.get (state_of changes).classes name ≡ row → (moment : List ℕ) → file_of_class (state_of changes) moment name row ≡ file_reply changes moment (OneClass name)
+  named_told named row there moment = sym (ap (by_name moment) named ∙ ap (file_of_class (state_of changes) moment name) there)
+
+  -- there is no class
+  pub unknown_told : is_name name ≡ true → map.get (state_of changes).classes name ≡ None → (moment : List ℕ) × IsMoment seconds moment → TellsFile changes seconds (OneClass name) (Refused (UnknownClass name))
+  unknown_told named none (moment, is) = (moment, is, named_told named None none moment)
+
+  -- there is one
+  pub class_told : is_name name ≡ true → (row : ClassRow) → map.get (state_of changes).classes name ≡ Some row → (listed : List Change) (text : List ℕ) → listed ≡ filed_on name (state_of changes) → IsFile listed seconds text → TellsFile changes seconds (OneClass name) (Told text)
+  class_told named row there listed text is file =
+      let told = file_is_told listed (filed_on name (state_of changes)) seconds text is file in
+      (told.0, told.1, told.2 ∙ named_told named (Some row) there told.0)

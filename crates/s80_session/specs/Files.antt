@@ -16,6 +16,7 @@ IsQuestion (queries.Browse name) = Unit {0}
 IsQuestion (queries.Source spec selector) = Unit {0}
 IsQuestion (queries.Versions spec selector) = Unit {0}
 IsQuestion queries.Changes = Unit {0}
+IsQuestion (queries.FileOut filed) = Unit {0}
 IsQuestion queries.Snapshot = ⊥
 
 -- the item is such a query

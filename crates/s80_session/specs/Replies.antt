@@ -1,10 +1,14 @@
 -- Replies that are held, and the room for them.
-use Rattle.std.specs.Prelude.{ℕ, ◌<◌, ◌≤◌, List, length, ⊤}
+use Rattle.std.specs.Prelude.{◌≡◌, ℕ, ◌<◌, ◌≤◌, List, length, ⊤}
 use Rattle.s80_chunk.specs.declared.item.Item.TheVariants as items
+use Rattle.s80_change.specs.declared.change.Change.{Change}
+use Rattle.s80_fileout.specs.Moment.{IsMoment}
+use Rattle.s80_model.specs.declared.item.Filed.{Filed}
 use Rattle.s80_model.specs.declared.item.SessionItem.{SessionItem}
 use Rattle.s80_model.specs.declared.item.SessionItem.TheVariants.{Chunk}
 use Rattle.s80_model.specs.declared.reply.Reply.{Reply}
 use Rattle.s80_model.specs.declared.reply.Reply.TheVariants.{Silent, Accepted, Refused, Evaluated, Told}
+use Rattle.s80_model.specs.Told.{file_reply}
 
 -- their bytes, and for how many more there is room
 pub record HeldReplies : Type 0 where
@@ -31,3 +35,7 @@ LacksRoom Accepted room = room < 3
 LacksRoom (Refused refusal) room = ⊤
 LacksRoom (Evaluated lines stopped) room = room < length lines
 LacksRoom (Told text) room = ⊤
+
+-- what is told where a file of this list is asked for in this second
+abbrev pub TellsFile : List Change → ℕ → Filed → Reply → Type 0
+TellsFile changes seconds filed reply = (moment : List ℕ) × IsMoment seconds moment × (reply ≡ file_reply changes moment filed)

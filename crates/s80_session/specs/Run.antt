@@ -103,7 +103,7 @@ pub record BrokeOff (may_leave : Image → Type 0) (now : Shown) (work : Work) (
   pub answered : Answered may_leave now work before asks
 
 -- What was worked is one group behind replies of which at least so many bytes were put: without the last ask, less than a group of replies to
--- those that weren't answered, and less than a group of blocks that weren't kept, of which at most one change was before its reply.
+-- what wasn't answered, and less than a group of blocks behind that and at most one change more, which was kept first.
 pub record IsOneGroup (work : Work) (asks : List Ask) (put : ℕ) : Type 0 where
   pub answered : List Ask
   pub more : List Ask

@@ -45,13 +45,14 @@ pub record Ground : Type 0 where
   pub put : List ℕ
   pub held : List ℕ
 
--- the session is at work behind this list, of which a front is kept on its disk, in this section, whose head is brief; and these bytes were put,
--- and those are held
+-- the session is at work behind this list, of which a front is kept on its disk, in this section, whose head is brief; these bytes were put, and
+-- those are held; and the settings have its budget, and the moment that the clock tells
 pub record IsAmid (may_leave : Image → Type 0) (o : Shown) (session : Session) (work : Work) (basis : Ground) : Type 0 where
   pub keeps : Keeps o.tells o.files may_leave (keeper_of session) basis.kept work.changes
   pub section : section_of session ≡ work.section
   pub brief : IsBriefSection work.section
   pub budget : budget_of session ≡ work.settings.budget
+  pub moment : work.settings.moment ≡ o.seconds
   pub taken : o.taken ≡ Some basis.put
   pub told : o.told ≡ length basis.put
   pub held : held_of session ≡ basis.held

@@ -2,6 +2,7 @@
 #![tactic(auto)]
 
 mod end;
+mod files;
 mod input;
 mod outside;
 mod plain;
@@ -13,5 +14,5 @@ mod told;
 
 pub use end::SessionEnd;
 pub use outside::put_all;
-pub use s80_model::{Query, SessionItem};
+pub use s80_model::{Filed, Query, SessionItem};
 pub use session::Session;

@@ -1,5 +1,5 @@
 // The calls on the outside that a run makes, each with all that it leaves.
-ghost use Rattle.std.specs.Prelude.{◌≡◌, ◌≢◌, ◌⊎◌, ◌↔◌, ◌≤◌, ◌<◌, ◌+◌, ◌∷◌, [], ◌++◌, ℕ, List, length, map as list_map, option_map, Some, None, Ok, Err, IsTrue, IfOk, OnErr, OnOk, ⊤};
+ghost use Rattle.std.specs.Prelude.{◌≡◌, ◌≢◌, ◌⊎◌, ◌↔◌, ◌≤◌, ◌<◌, ◌+◌, ◌∷◌, [], ◌++◌, ℕ, List, length, map as list_map, option_map, Some, None, Ok, Err, IsTrue, IfOk, IfSome, OnErr, OnOk, ⊤};
 ghost use Rattle.std.specs.FinMap as map;
 ghost use Rattle.std.specs.Io.{ReadsAtMost};
 ghost use Rattle.std.specs.Io.KnownBytes.{ReadConsumes};
@@ -28,7 +28,7 @@ ghost use Rattle.s80_session.specs.Run.{HasKept, ShownFor};
 
 use s80_base::{Failed, Side, Text};
 use s80_change::Changes;
-use s80_disk::{Outside, put_output, take_input};
+use s80_disk::{Outside, put_output, take_input, time_now};
 use s80_keeper::{KeepFault, Keeper, Prepared, StartFault};
 use std::alloc::Global;
 
@@ -189,6 +189,18 @@ pub(crate) fn read_versions<O: Outside>(
     ensures faults_stay { UnlessKeepDisk result ((O.faults outside.new).disk ≡ (O.faults outside.old).disk) }
 {
     keeper.versions_of(alloc, outside, class_name, side, selector)
+}
+
+/// The seconds of the clock. It changes no file, and a crash leaves what it might have left before.
+pub(crate) fn read_clock<O: Outside>(outside: &mut O) -> u64
+    ensures told { IfSome (O.shown outside.old).seconds (λ told. result ≡ told) }
+    ensures images { (c : FileId → List ℕ) → O.may_leave outside.new c → O.may_leave outside.old c }
+    ensures any_moment { LeavesOnly O.moment O.left_since outside.old outside.new
+        (IsAsBefore (O.may_leave outside.old) (O.shown outside.old).told 0) }
+    ensures shown { O.shown outside.new ≡ O.shown outside.old }
+    ensures faults { O.faults outside.new ≡ O.faults outside.old }
+{
+    time_now(outside)
 }
 
 /// The next bytes of the input. 0 for a buffer that isn't empty means its end.

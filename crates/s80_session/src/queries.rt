@@ -73,6 +73,7 @@ impl Session {
                 self.tell_versions(alloc, spec, selector, outside)
             }
             Query::Changes => self.tell_changes(alloc, outside),
+            Query::FileOut(filed) => self.file_out(alloc, filed, outside),
             Query::Snapshot => self.keep_note(alloc, outside),
         }
     }

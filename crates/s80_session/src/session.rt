@@ -73,6 +73,7 @@ impl Session {
     ) -> Result<Session, SessionEnd>
         ensures answer { IsTrue (O.shown outside.old).tells → IsSessionStart (O.shown outside.old).files result }
         ensures started { (settings : Settings) (changes : List Change) (put : List ℕ) → settings.budget ≡ budget
+            → settings.moment ≡ (O.shown outside.old).seconds
             → ReadsFor (O.shown outside.old).tells (O.shown outside.old).files (O.may_leave outside.old) changes
             → (O.shown outside.old).taken ≡ Some put → (O.shown outside.old).told ≡ length put
             → Starts result (O.may_leave outside.new) (O.shown outside.new) settings changes put }

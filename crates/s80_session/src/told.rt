@@ -7,13 +7,15 @@ ghost use Rattle.s80_class.specs.Table.{IsNumberOf};
 ghost use Rattle.s80_apply.specs.List.{state_of};
 ghost use Rattle.s80_apply.specs.State.{State};
 ghost use Rattle.s80_apply.specs.System.{IsSystemOf};
+ghost use Rattle.s80_model.specs.declared.item.Filed.TheVariants.{All, Class};
 ghost use Rattle.s80_model.specs.declared.item.Query.TheVariants.{Recover, Classes, Browse};
 ghost use Rattle.s80_model.specs.Told.{told, versions_told};
-ghost use Rattle.s80_session.specs.Replies.{HasRoom};
+ghost use Rattle.s80_session.specs.Replies.{HasRoom, TellsFile};
 
 use s80_apply::System;
 use s80_base::{OutOfMemory, Side, Text};
 use s80_change::Changes;
+use s80_fileout::{each_second_has_a_moment, filed, filed_on, render};
 use s80_form::{Refusal, is_name};
 use s80_model::{Reply, browse_text, classes_text, recovered_text, versions_text};
 use std::alloc::Global;
@@ -77,4 +79,34 @@ pub(crate) fn tell_versions(
         return Ok(Reply::Refused(Refusal::NoSelector(name, side, selector)));
     }
     Ok(Reply::Told(versions_text(alloc, versions)?))
+}
+
+/// A file of what makes all classes, with the moment of this second in its first line.
+pub(crate) fn tell_filed(alloc: Global, system: &System, seconds: u64) -> Result<Reply, OutOfMemory>
+    ensures answer { (changes : List Change) → IsSystemOf system.now (state_of changes) → IfOk result (TellsFile changes seconds All) }
+    ensures room { (room : ℕ) → IfOk result (λ reply. HasRoom reply room) }
+{
+    let changes = filed(alloc, system)?;
+    Ok(Reply::Told(render(alloc, &changes, seconds)?))
+}
+
+/// The same of what makes the class of this name.
+pub(crate) fn tell_filed_on(
+    alloc: Global,
+    system: &System,
+    name: Text,
+    seconds: u64,
+) -> Result<Reply, OutOfMemory>
+    ensures answer { (changes : List Change) → IsSystemOf system.now (state_of changes) → IfOk result (TellsFile changes seconds (Class name)) }
+    ensures room { (room : ℕ) → IfOk result (λ reply. HasRoom reply room) }
+{
+    each_second_has_a_moment(seconds);
+    if !is_name(name.bytes()) {
+        return Ok(Reply::Refused(Refusal::BadName(name)));
+    }
+    if system.find(&name).is_none() {
+        return Ok(Reply::Refused(Refusal::UnknownClass(name)));
+    }
+    let changes = filed_on(alloc, system, &name)?;
+    Ok(Reply::Told(render(alloc, &changes, seconds)?))
 }

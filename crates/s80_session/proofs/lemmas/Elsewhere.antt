@@ -1,5 +1,5 @@
 -- What a crash leaves of the files that an item doesn't change.
-use Rattle.std.proofs.Common.{◌≡◌, ◌≤◌, ℕ, Bool, true, false, if◌then◌else◌, refl, sym, ◌∙◌}
+use Rattle.std.proofs.Common.{◌≤◌, ℕ, Bool, true, false, if◌then◌else◌, refl, sym, ◌∙◌}
 use Rattle.std.specs.Prelude.{◌≢◌, ◌==◌}
 use Rattle.s80_disk.specs.declared.disk.FileId.{FileId}
 use Rattle.s80_disk.specs.declared.disk.FileId.TheVariants.{Mark, Log0, Log1}

@@ -1,5 +1,5 @@
 -- What a crash leaves while a session works, by the basis on which it stands.
-use Rattle.std.proofs.Common.{◌≡◌, inl, inr, ℕ, ◌+◌, ◌≤◌, List, [], ◌++◌, length, subst, arith, length-append}
+use Rattle.std.proofs.Common.{◌≡◌, inl, inr, ℕ, ◌+◌, ◌≤◌, List, ◌++◌, length, subst, arith, length-append}
 use Rattle.std.proofs.lemmas.List.{append-nil}
 use Rattle.s80_change.specs.declared.change.Change.{Change}
 use Rattle.s80_disk.specs.Image.{Image}
@@ -7,13 +7,12 @@ use Rattle.s80_disk.specs.Shown.{Shown}
 use Rattle.s80_disk.specs.Moments.{LeavesOnly}
 use Rattle.s80_disk.proofs.lemmas.Run.{started, joined, weaker}
 use Rattle.s80_model.specs.declared.item.SessionItem.{SessionItem}
-use Rattle.s80_model.specs.Asked.{Ask}
-use Rattle.s80_model.specs.Replies.{Work, AsksIn, work_after}
+use Rattle.s80_model.specs.Replies.{Work, work_after}
 use Rattle.s80_session.specs.declared.session.Session.{Session}
 use Rattle.s80_session.specs.Putting.{IsAsBefore}
 use Rattle.s80_session.specs.Run.{HasKept}
 use Rattle.s80_session.specs.Session.{keeper_of}
-use Rattle.s80_session.specs.Working.{Ground, IsAmid, at_rest, flushed, CommitLeaves, FlushLeaves, WorkLeaves}
+use Rattle.s80_session.specs.Working.{Ground, IsAmid, flushed, CommitLeaves, FlushLeaves, WorkLeaves}
 use Rattle.s80_session.proofs.lemmas.Keeping.{keeps_leaves}
 
 -- no byte is put, or some of these

@@ -1,21 +1,17 @@
 -- What a crash leaves at each moment of a run.
-use Rattle.std.proofs.Common.{◌≡◌, inl, inr, ℕ, List, [], ◌∷◌, ◌++◌, length, refl, sym, ap, subst, ◌∙◌, Bool, true, arith, append_assoc, length-append}
+use Rattle.std.proofs.Common.{◌≡◌, inl, ℕ, List, [], length, refl, sym, subst, arith}
 use Rattle.std.proofs.lemmas.List.{append-nil}
-use Rattle.s80_chunk.specs.declared.item.Item.{Item}
 use Rattle.s80_chunk.specs.Chunks.Reads.{stop}
 use Rattle.s80_disk.specs.Image.{Image}
 use Rattle.s80_disk.specs.Shown.{Shown}
 use Rattle.s80_session.specs.declared.session.Session.{Session}
 use Rattle.s80_disk.specs.Moments.{LeavesOnly}
-use Rattle.s80_disk.proofs.lemmas.Run.{started, joined, weaker}
-use Rattle.s80_model.specs.declared.item.SessionItem.{SessionItem}
-use Rattle.s80_model.specs.declared.item.SessionItem.TheVariants.{Chunk, Unended}
-use Rattle.s80_model.specs.Asked.{Ask}
-use Rattle.s80_model.specs.Replies.{Work, AsksIn, AllAsk, reply_to, reply_text, work_after, work_after_all, list_after_all, replies}
+use Rattle.s80_disk.proofs.lemmas.Run.{started, weaker}
+use Rattle.s80_model.specs.Replies.{Work}
 use Rattle.s80_session.specs.Putting.{IsAsBefore}
-use Rattle.s80_session.specs.Run.{HasKept, chunks, FirstItemsOf, FirstAsksOf, Keeps}
+use Rattle.s80_session.specs.Run.{HasKept, Keeps}
 use Rattle.s80_session.specs.Session.{keeper_of}
-use Rattle.s80_session.specs.Working.{IsAt, BeginsWith, BeginsAsking, WorkLeaves, StepLeaves, AnswersLeave}
+use Rattle.s80_session.specs.Working.{IsAt}
 use Rattle.s80_session.proofs.lemmas.Keeping.{keeps_leaves}
 
 -- the same where no byte is put

@@ -57,7 +57,7 @@ module _ (g : _) (c : After-read_set g) (work : Work) (put : List ℕ) (at : IsA
   is_told found reply is reply_is =
       let P : Result (List Change) KeepFault → Type 0 = λ r. IsThis wanted r in
       let text = reply_is ∙ ap (λ l. Told (changes_text l)) (subst P is this) in
-      replied_told (g.O.Disk.may_leave c.read_set.new.outside) (g.O.Outside.shown c.read_set.new.outside) (record c.args.self.now { keeper = c.read_set.new.keeper }) (was_of c.args.self.now) work put Changes Changes reply refl refl tt text (still found is)
+      replied_told (g.O.Disk.may_leave c.read_set.new.outside) (g.O.Outside.shown c.read_set.new.outside) (record c.args.self.now { keeper = c.read_set.new.keeper }) (was_of c.args.self.now) work put Changes Changes reply refl refl refl text (still found is)
 
 pub returns-in_err-changes_text-in-Ok-clause-any_moment : goal.returns-in_err-changes_text-in-Ok-clause-any_moment
 returns-in_err-changes_text-in-Ok-clause-any_moment g c = run g (goal.at.returns-in_err-changes_text-in-Ok-clause-any_moment g c).After-read_set

@@ -60,7 +60,7 @@ module _ (g : _) (c : After-read_source g) (work : Work) (put : List ℕ) (at : 
       let P : Result (Option (List ℕ)) KeepFault → Type 0 = λ r. IsThis (source_in (state_of work.changes) c.in-Some.name c.in-Some.side c.args.selector) r in
       let row = c.in-Some-find.ensures.there in
       let text = source_is_told work.changes c.args.spec c.args.selector c.in_ok-name.field-0 (c.in-Some.name, c.in-Some.side) c.in_ok-name.ensures c.in-Some.is row.0 (sym (ap (λ (s : SystemState). map.get s.table.classes c.in-Some.name) c.system.ensures ∙ ap (λ (m : Classes). map.get m c.in-Some.name) at.keeps.system.classes) ∙ row.1) reply found (subst P is this) reply_is in
-      replied_told (g.O.Disk.may_leave c.read_source.new.outside) (g.O.Outside.shown c.read_source.new.outside) (record c.args.self.now { keeper = c.read_source.new.keeper }) (was_of c.args.self.now) work put (Source c.args.spec c.args.selector) (Source c.args.spec c.args.selector) reply refl refl tt text (still found is)
+      replied_told (g.O.Disk.may_leave c.read_source.new.outside) (g.O.Outside.shown c.read_source.new.outside) (record c.args.self.now { keeper = c.read_source.new.keeper }) (was_of c.args.self.now) work put (Source c.args.spec c.args.selector) (Source c.args.spec c.args.selector) reply refl refl refl text (still found is)
 
 pub returns-in_err-name-clause-any_moment : goal.returns-in_err-name-clause-any_moment
 returns-in_err-name-clause-any_moment g c = λ work put at.

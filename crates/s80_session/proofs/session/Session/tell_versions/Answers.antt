@@ -66,7 +66,7 @@ module _ (g : _) (c : After-read_versions g) (work : Work) (put : List ℕ) (at 
       let row = c.in-Some-find.ensures.there in
       let there = c.has_method-is_there.ensures (state_of work.changes) c.in-Some.name (subst Q (sym c.system-system.ensures) at.keeps.system) c.in-Some-find.ensures.named in
       let text = versions_are_told work.changes c.args.spec c.args.selector c.in_ok-name.field-0 (c.in-Some.name, c.in-Some.side) c.in_ok-name.ensures c.in-Some.is row.0 (sym (ap (λ (s : SystemState). map.get s.table.classes c.in-Some.name) c.system-system.ensures ∙ ap (λ (m : Classes). map.get m c.in-Some.name) at.keeps.system.classes) ∙ row.1) reply c.has_method-is_there.result found there (subst P is this) reply_is in
-      replied_told (g.O.Disk.may_leave c.read_versions.new.outside) (g.O.Outside.shown c.read_versions.new.outside) (record c.args.self.now { keeper = c.read_versions.new.keeper }) (was_of c.args.self.now) work put (Versions c.args.spec c.args.selector) (Versions c.args.spec c.args.selector) reply refl refl tt text (still found is)
+      replied_told (g.O.Disk.may_leave c.read_versions.new.outside) (g.O.Outside.shown c.read_versions.new.outside) (record c.args.self.now { keeper = c.read_versions.new.keeper }) (was_of c.args.self.now) work put (Versions c.args.spec c.args.selector) (Versions c.args.spec c.args.selector) reply refl refl refl text (still found is)
 
 pub returns-in_err-name-clause-any_moment : goal.returns-in_err-name-clause-any_moment
 returns-in_err-name-clause-any_moment g c = λ work put at.

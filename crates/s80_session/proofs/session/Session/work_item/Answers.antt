@@ -7,7 +7,6 @@ use Rattle.s80_model.specs.declared.reply.Answer.{Answer}
 use Rattle.s80_model.specs.Replies.{Work}
 use Rattle.s80_model.specs.Section.{section_or}
 use Rattle.s80_session.specs.declared.end.SessionEnd.TheVariants as ends
-use Rattle.s80_session.specs.declared.session.Session.{Session}
 use Rattle.s80_session.specs.Run.{HasKept}
 use Rattle.s80_session.specs.Session.{budget_of, held_of, keeper_of, last_run_of, room_of, section_of, troubled_of, was_of, IsResting}
 use Rattle.s80_session.specs.Working.{Ground, IsAmid}

@@ -1,4 +1,4 @@
-use Rattle.std.proofs.Common.{⊎_elim, ap, refl, sym, subst, ◌∙◌}
+use Rattle.std.proofs.Common.{⊎_elim, refl, sym, subst, ◌∙◌}
 use Rattle.s80_disk.specs.Moments.{LeavesOnly}
 use Rattle.s80_disk.proofs.lemmas.Showing.{told_beside}
 use Rattle.s80_log.specs.Log.{log_file}
@@ -30,7 +30,7 @@ pub returns-in_ok-tell_recovered-in-Recover-clause-replied : goal.returns-in_ok-
 returns-in_ok-tell_recovered-in-Recover-clause-replied g c = λ work put at.
     let P : SystemState → Type 0 = λ s. IsSystemOf s (state_of work.changes) in
     let system = subst P (sym c.system-system.ensures) at.keeps.system in
-    replied_told (g.O.Disk.may_leave c.args.outside.now) (g.O.Outside.shown c.args.outside.now) _ (was_of c.args.self.now) work put c.args.query Recover _ refl c.in-Recover.is tt (c.in_ok-tell_recovered-in-Recover.ensures.answer work.changes system (c.count.ensures ∙ at.keeps.count)) at
+    replied_told (g.O.Disk.may_leave c.args.outside.now) (g.O.Outside.shown c.args.outside.now) _ (was_of c.args.self.now) work put c.args.query Recover _ refl c.in-Recover.is refl (c.in_ok-tell_recovered-in-Recover.ensures.answer work.changes system (c.count.ensures ∙ at.keeps.count)) at
 
 pub returns-in_ok-tell_recovered-in-Recover-clause-any_moment : goal.returns-in_ok-tell_recovered-in-Recover-clause-any_moment
 returns-in_ok-tell_recovered-in-Recover-clause-any_moment g c = λ work put at.
@@ -40,7 +40,7 @@ pub returns-in_ok-tell_classes-in-Classes-clause-replied : goal.returns-in_ok-te
 returns-in_ok-tell_classes-in-Classes-clause-replied g c = λ work put at.
     let P : SystemState → Type 0 = λ s. IsSystemOf s (state_of work.changes) in
     let system = subst P (sym c.system-system.ensures) at.keeps.system in
-    replied_told (g.O.Disk.may_leave c.args.outside.now) (g.O.Outside.shown c.args.outside.now) _ (was_of c.args.self.now) work put c.args.query Classes _ refl c.in-Classes.is tt (c.in_ok-tell_classes-in-Classes.ensures.answer work.changes system) at
+    replied_told (g.O.Disk.may_leave c.args.outside.now) (g.O.Outside.shown c.args.outside.now) _ (was_of c.args.self.now) work put c.args.query Classes _ refl c.in-Classes.is refl (c.in_ok-tell_classes-in-Classes.ensures.answer work.changes system) at
 
 pub returns-in_ok-tell_classes-in-Classes-clause-any_moment : goal.returns-in_ok-tell_classes-in-Classes-clause-any_moment
 returns-in_ok-tell_classes-in-Classes-clause-any_moment g c = λ work put at.
@@ -50,7 +50,7 @@ pub returns-in_ok-tell_browsed-in-Browse-clause-replied : goal.returns-in_ok-tel
 returns-in_ok-tell_browsed-in-Browse-clause-replied g c = λ work put at.
     let P : SystemState → Type 0 = λ s. IsSystemOf s (state_of work.changes) in
     let system = subst P (sym c.system-system.ensures) at.keeps.system in
-    replied_told (g.O.Disk.may_leave c.args.outside.now) (g.O.Outside.shown c.args.outside.now) _ (was_of c.args.self.now) work put c.args.query (Browse c.in-Browse.name) _ refl c.in-Browse.is tt (c.in_ok-tell_browsed-in-Browse.ensures.answer work.changes system) at
+    replied_told (g.O.Disk.may_leave c.args.outside.now) (g.O.Outside.shown c.args.outside.now) _ (was_of c.args.self.now) work put c.args.query (Browse c.in-Browse.name) _ refl c.in-Browse.is refl (c.in_ok-tell_browsed-in-Browse.ensures.answer work.changes system) at
 
 pub returns-in_ok-tell_browsed-in-Browse-clause-any_moment : goal.returns-in_ok-tell_browsed-in-Browse-clause-any_moment
 returns-in_ok-tell_browsed-in-Browse-clause-any_moment g c = λ work put at.
