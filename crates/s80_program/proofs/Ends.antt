@@ -21,7 +21,7 @@ use Rattle.s80_session.specs.declared.session.Session.{Session}
 use Rattle.s80_session.proofs.lemmas.Keeping.{keeps_stands}
 use Rattle.s80_program.specs.declared.status.Status.TheVariants as status
 use Rattle.s80_program.specs.Ending.{IsDiskEnd, StatusHasReason, status_after}
-use Rattle.s80_program.specs.Leaves.{IsAnswered, ItemLeaves, RunLeaves, TellsDamage, list_after}
+use Rattle.s80_program.specs.Leaves.{IsAnswered, ItemLeaves, RunLeaves, TellsDamage}
 
 -- a run that came to its end
 done_so : (may_leave : Image → Type 0) (now : Shown) (troubled : Bool) (ran : Option RanValue) (work : Work) (input before : List ℕ) → Finished may_leave now work input before troubled None ran → RunLeaves (status_after (Ok troubled)) may_leave now work input before
@@ -46,7 +46,7 @@ run_ended T ends.TooLong may_leave now was is_now work input before h = h
 
 answered_ask : (may_leave : Image → Type 0) (now : Shown) (session : Session) (work : Work) (ask : Ask) (before : List ℕ) → IsAt may_leave now session (work_after work ask) (before ++ reply_text (reply_to work ask)) → IsAnswered may_leave now work ask before
 answered_ask may_leave now session work ask before h = record {
-  stands = keeps_stands now.tells now.files may_leave (keeper_of session) (list_after work ask) h.keeps;
+  stands = keeps_stands now.tells now.files may_leave (keeper_of session) (work_after work ask).changes h.keeps;
   taken = h.taken ∙ ap (λ (l : List ℕ). Some (before ++ l)) (sym (append-nil (reply_text (reply_to work ask))));
 }
 
@@ -62,9 +62,9 @@ item_done may_leave now session was work item before h calm = ask_done may_leave
 pub item_ended : (T : Type 0) (end : SessionEnd) (may_leave : Image → Type 0) (now : Shown) (session : Session) (was : Was) (work : Work) (item : SessionItem) (before : List ℕ) → Stepped {T = T} (Err end) may_leave now session was work before item → ItemLeaves (status_after (Err end)) may_leave now work item before
 item_ended T ends.Memory may_leave now session was work item before (inl h) = inl (record { stands = keeps_stands now.tells now.files may_leave (keeper_of session) work.changes h.keeps; taken = h.taken ∙ ap Some (sym (append-nil before)) })
 item_ended T ends.Memory may_leave now session was work item before (inr (text, told, stopped, asked, h)) =
-    inr (text, told, stopped, asked, keeps_stands now.tells now.files may_leave (keeper_of session) (list_after work (evaluates text told stopped)) h.keeps, h.taken)
+    inr (text, told, stopped, asked, keeps_stands now.tells now.files may_leave (keeper_of session) (work_after work (evaluates text told stopped)).changes h.keeps, h.taken)
 item_ended T (ends.Disk failed) may_leave now session was work item before h = h
-item_ended T (ends.Write failed) may_leave now session was work item before (ask, asked, count, h) = (ask, asked, count, keeps_stands now.tells now.files may_leave (keeper_of session) (list_after work ask) h.keeps, h.taken)
+item_ended T (ends.Write failed) may_leave now session was work item before (ask, asked, count, h) = (ask, asked, count, keeps_stands now.tells now.files may_leave (keeper_of session) (work_after work ask).changes h.keeps, h.taken)
 item_ended T (ends.Read failed) may_leave now session was work item before h = absurd h
 item_ended T (ends.Damaged damage) may_leave now session was work item before h = absurd h
 item_ended T ends.TooLong may_leave now session was work item before h = absurd h

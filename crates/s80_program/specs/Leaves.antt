@@ -37,10 +37,6 @@ RunLeaves status.Damaged may_leave now work input before = ⊥
 RunLeaves status.OutOfMemory may_leave now work input before = BrokeOff may_leave now work input before ⊎ Unevaluated may_leave now work input before
 RunLeaves status.InputTooLong may_leave now work input before = TooLong may_leave now work input before
 
--- the list after what was asked
-abbrev pub list_after : Work → Ask → List Change
-list_after work ask = (work_after work ask).changes
-
 -- what one item asks was worked, and answered
 abbrev pub IsAnswered : (Image → Type 0) → Shown → Work → Ask → List ℕ → Type 0
 IsAnswered may_leave now work ask before = Answered may_leave now work before (ask ∷ [])
@@ -48,7 +44,7 @@ IsAnswered may_leave now work ask before = Answered may_leave now work before (a
 -- the doIt that an item asks to evaluate was kept, and memory was wanting to evaluate it
 abbrev pub IsUnevaluated : (Image → Type 0) → Shown → Work → SessionItem → List ℕ → Type 0
 IsUnevaluated may_leave now work item before =
-    (text : List ℕ) × (told : List ℕ) × (stopped : Bool) × AsksIn work item (evaluates text told stopped) × ShownFor may_leave now (list_after work (evaluates text told stopped))
+    (text : List ℕ) × (told : List ℕ) × (stopped : Bool) × AsksIn work item (evaluates text told stopped) × ShownFor may_leave now (work_after work (evaluates text told stopped)).changes
     × (now.taken ≡ Some before)
 
 -- what is left where one item is worked, by the status
@@ -60,7 +56,7 @@ ItemLeaves status.DoneWithRefusals may_leave now work item before =
 ItemLeaves status.Usage may_leave now work item before = ⊥
 ItemLeaves status.ReadFault may_leave now work item before = ⊥
 ItemLeaves status.WriteFault may_leave now work item before =
-    (ask : Ask) × AsksIn work item ask × (count : ℕ) × ShownFor may_leave now (list_after work ask)
+    (ask : Ask) × AsksIn work item ask × (count : ℕ) × ShownFor may_leave now (work_after work ask).changes
     × (now.taken ≡ Some (before ++ take count (reply_text (reply_to work ask))))
 ItemLeaves status.DiskFault may_leave now work item before = IsLost may_leave now before (IsPast work item)
 ItemLeaves status.Damaged may_leave now work item before = ⊥
