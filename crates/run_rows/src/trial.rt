@@ -1,7 +1,9 @@
 // A folder in memory on which rows work one after the other.
 ghost use Rattle.s80_session.specs.Session.{IsResting};
 
-use crate::disks::{Input, Ran, SECONDS, contents, empty, file_named, found, long, planned, run, words};
+use crate::disks::{
+    Input, Ran, SECONDS, contents, empty, file_named, found, long, planned, run, words,
+};
 use crate::stops::stops;
 use crate::sweeps::{crashes_of, faults, killed, sweep, sweep_again};
 use crate::{keepers, system};
