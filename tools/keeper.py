@@ -3,6 +3,7 @@ of changes behind it. It shares nothing with the program.
 
 It doesn't compile: whether a text fits a machine it can't tell, nor what a doIt comes to. So an item may be answered in several ways. Each
 is a text, or a pattern that the reply must have, and the work that follows it."""
+import itertools
 import re
 import struct
 from typing import NamedTuple
@@ -30,6 +31,7 @@ SMALLTALK_FORMS = {
     (b"snapshot",): ("snapshot", []),
 }
 NOTE = b'"----SNAPSHOT----"'
+SIDES = ("instance", "class")
 # A text of so few bytes fits every machine.
 SURELY_FITS = 32
 MEASURES = {b"literals": 60, b"temporaries": 31, b"stack": 32, b"weight": 1_000}
@@ -381,6 +383,64 @@ def versions(changes, name, side, selector):
     return [change.put for change in changes if change.word == "method" and change.place() == (name, side, selector)]
 
 
+# ---- files of changes
+
+# The first line of such a file, by its moment, for which a word stands in what the model tells.
+FIRST_LINE = b"'From Smalltalk-80, filed out %s'!\n"
+TIMED = re.compile(FIRST_LINE % rb"\d{4}-\d\d-\d\dT\d\d:\d\d:\d\dZ")
+UNTIMED = FIRST_LINE % b"MOMENT"
+
+
+def without_moment(told):
+    """What a program told, with that word in place of the moment at which it filed out."""
+    found = TIMED.match(told)
+    return UNTIMED + told[found.end() :] if found else told
+
+
+def head_over(change):
+    return Head(change.name, change.side, change.put[0]) if change.word == "method" else None
+
+
+def file_of(changes):
+    """The text of a file of changes: neighbouring methods of one class, side and category share a section."""
+    parts = [UNTIMED]
+    for head, group in itertools.groupby(changes, head_over):
+        if head:
+            parts += [b"!", spell(head.text()), b"\n", b"\n\n".join(spell(change.put[1]) for change in group), b" !\n"]
+        else:
+            parts += [change.block() for change in group]
+    return b"".join(parts)
+
+
+def filed(kernel, state):
+    """The changes that make a state of the kernel's: those of the kernel's classes, of the others, and of the methods."""
+    changes = []
+    for name in sorted(kernel.classes):
+        changes += commented(state, name)
+        for side in SIDES:
+            changes += [Change("remove", name, side, selector) for selector in sorted(kernel.side(name, side).keys() - state.side(name, side).keys())]
+    for name in sorted(state.classes.keys() - kernel.classes.keys(), key=lambda name: (len(list(state.line(name))), name)):
+        row = state.classes[name]
+        changes += [Change("define", name, put=row), *commented(state, name)]
+        changes += [Change("class-variables", name, put=row.side_variables)] if row.side_variables else []
+    for name, side in itertools.product(sorted(state.classes), SIDES):
+        for selector, put in sorted(state.side(name, side).items(), key=lambda method: (method[1][0], method[0])):
+            changes += put_over(kernel.side(name, side).get(selector), Change("method", name, side, selector, put))
+    return changes
+
+
+def commented(state, name):
+    comment = state.classes[name].comment
+    return [Change("comment", name, put=comment)] if comment else []
+
+
+def put_over(row, method):
+    """What puts a method in the place of the kernel's, if that has one."""
+    if not row or row[1] != method.put[1]:
+        return [method]
+    return [] if row == method.put else [Change("classify", *method.place(), method.put[0])]
+
+
 # ---- the keeper at work
 
 
@@ -468,7 +528,8 @@ class Keeper:
     def told(self, work, command, *words):
         """The reply to a query, and whether it is refused."""
         tell = {"recover": self.recovered, "classes": self.classes, "browse": self.browsed, "source": self.source,
-                "versions": self.versions, "changes": self.changes}
+                "versions": self.versions, "changes": self.changes, "file-out": self.file, "file-out-class": self.file_of_class,
+                "file-out-set": self.file_of_set}
         reply = tell[command](work, *words)
         return (b"refused " + reply[1] + b"\n", True) if isinstance(reply, tuple) else (reply, False)
 
@@ -497,6 +558,19 @@ class Keeper:
 
     def changes(self, work):
         return b"".join(change.line() for change in change_set(work.changes))
+
+    def file(self, work):
+        return file_of(filed(self.kernel, work.state))
+
+    def file_of_class(self, work, name):
+        if not is_name(name):
+            return None, b"9 bad name " + name
+        if name not in work.state.classes:
+            return None, b"4 unknown class " + name
+        return file_of(change for change in filed(self.kernel, work.state) if change.name == name)
+
+    def file_of_set(self, work):
+        return file_of(change_set(work.changes))
 
     def source(self, work, named, selector):
         return self.of_method(work, named, selector, lambda row, versions: row and row[1] + b"\n")

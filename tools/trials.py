@@ -9,7 +9,7 @@ import tempfile
 from pathlib import Path
 from typing import NamedTuple
 
-from keeper import Damage, Item, Keeper, items_of, kernel_of, marked_part, spec
+from keeper import Damage, Item, Keeper, items_of, kernel_of, marked_part, spec, without_moment
 from language import SEPARATORS
 
 TOP = Path(__file__).resolve().parent.parent
@@ -154,13 +154,12 @@ def standing(program, keeper, folder, works):
 
 
 def queries(work, kernel):
-    """A query of all classes and one of the change set, one of each class that isn't as the kernel's, one of each method in whose place the
-    kernel has another, and one of the versions of each that was put more than once or isn't there."""
-    yield Command(("classes",))
-    yield Command(("changes",))
+    """A query of all classes and one of the change set, and a file of each; one of each class that isn't as the kernel's, and its file; one of
+    each method in whose place the kernel has another, and one of the versions of each that was put more than once or isn't there."""
+    yield from (Command((word,)) for word in ("classes", "changes", "file-out", "file-out-set"))
     for name, row in sorted(work.state.classes.items()):
         if row != kernel.classes.get(name):
-            yield Command(("browse", name))
+            yield from (Command((word, name)) for word in ("browse", "file-out-class"))
     yield from (Command(("versions", spec(name, side), selector)) for name, side, selector in versions_to_ask(work))
     for (name, side), methods in sorted(work.state.methods.items()):
         for selector, row in sorted(methods.items()):
@@ -179,10 +178,15 @@ def is_option(word):
     return len(word) > 1 and word.startswith(b"-")
 
 
+def untimed(outcome):
+    """An outcome as the model tells it, which has no clock."""
+    return outcome._replace(out=without_moment(outcome.out))
+
+
 def differing_query(program, keeper, folder, work):
     """A query that isn't answered as the work has it, and its outcome; or None."""
     for query in queries(work, keeper.kernel):
-        found, wanted = program.run(folder, *query.words), Course(keeper, work, query).outcome
+        found, wanted = untimed(program.run(folder, *query.words)), Course(keeper, work, query).outcome
         if found != wanted:
             return f"{query.words}: {found}, where {wanted} is right"
     return None

@@ -13,6 +13,9 @@ const CALLS: usize = 4096;
 /// How many bytes a run may write.
 const MOST_WRITTEN: usize = 1 << 18;
 
+/// What the clock of every run tells, in seconds since 1970.
+pub(crate) const SECONDS: u64 = 1_000_000_000;
+
 /// A folder of empty files with this room each, whose calls fail by this plan.
 pub(crate) fn empty(alloc: Global, room: usize, plan: FaultPlan) -> Result<MemDisk, OutOfMemory> {
     let disk = MemDisk::make(alloc, room, CALLS, plan)?;
@@ -110,7 +113,7 @@ pub(crate) fn run<S: Source + Drop>(
     words: &[Text],
 ) -> Result<Ran> {
     let sink = MemSink::make(alloc, MOST_WRITTEN, failing_puts)?;
-    let mut outside = MemOutside::make(disk, source, sink, FixedClock { seconds: 0 });
+    let mut outside = MemOutside::make(disk, source, sink, FixedClock { seconds: SECONDS });
     let status = st80(alloc, words, &mut outside);
     let (disk, _source, sink) = outside.parts();
     Ok(Ran {

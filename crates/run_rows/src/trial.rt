@@ -1,7 +1,9 @@
 // A folder in memory on which rows work one after the other.
 ghost use Rattle.s80_session.specs.Session.{IsResting};
 
-use crate::disks::{Input, Ran, contents, empty, file_named, found, long, planned, run, words};
+use crate::disks::{
+    Input, Ran, SECONDS, contents, empty, file_named, found, long, planned, run, words,
+};
 use crate::stops::stops;
 use crate::sweeps::{crashes_of, faults, killed, sweep, sweep_again};
 use crate::{keepers, system};
@@ -157,6 +159,9 @@ impl Trial {
             | "source"
             | "versions"
             | "changes"
+            | "file-out"
+            | "file-out-class"
+            | "file-out-set"
             | "snapshot"
             | "recover" => {
                 let asked = format!(in alloc;
@@ -272,7 +277,7 @@ impl Trial {
         let disk = planned(alloc, &self.disk, self.room, self.plan)?;
         let source = MemSource::make(alloc, input.bytes(), self.piece.max(1), &self.takes)?;
         let sink = MemSink::make(alloc, ROOM, &self.puts)?;
-        let mut outside = MemOutside::make(disk, source, sink, FixedClock { seconds: 0 });
+        let mut outside = MemOutside::make(disk, source, sink, FixedClock { seconds: SECONDS });
         let ran = begin(alloc, &mut outside, budget)?;
         let (disk, _source, sink) = outside.parts();
         let mut out = Text::empty(alloc);

@@ -2,7 +2,6 @@
 use Rattle.std.proofs.Common.{◌≡◌, ◌≢◌, inl, inr, ℕ, List, ◌++◌, sym, ap, subst, ◌∙◌, Result, Ok, Err, Option, None, Some, Bool, true, false}
 use Rattle.std.proofs.lemmas.List.{append-nil}
 use Rattle.std.specs.Prelude.{◌||◌}
-use Rattle.s80_change.specs.declared.change.Change.{Change}
 use Rattle.s80_disk.specs.Image.{Image}
 use Rattle.s80_disk.specs.Shown.{Shown, Faults}
 use Rattle.s80_session.specs.declared.end.SessionEnd.{SessionEnd}
@@ -12,8 +11,9 @@ use Rattle.s80_model.specs.declared.item.SessionItem.{SessionItem}
 use Rattle.s80_model.specs.declared.item.SessionItem.TheVariants.{Chunk, Unended, Query}
 use Rattle.s80_model.specs.Asked.{Ask, evaluates}
 use Rattle.s80_session.specs.Ending.{HasReason, EndsForReason, EndsForReasonOrDamage, StartsForReason, Counts, CountsFor, MeetsNoDamage, SourceCounts}
+use Rattle.s80_model.specs.declared.item.Filed.TheVariants as filed
 use Rattle.s80_model.specs.declared.item.Query.TheVariants as queries
-use Rattle.s80_model.specs.Replies.{work_after, reply_text, is_trouble}
+use Rattle.s80_model.specs.Replies.{AsksIn, Work, is_trouble, reply_text, reply_to, work_after}
 use Rattle.s80_session.specs.Session.{Was, keeper_of, troubled_of}
 use Rattle.s80_session.specs.Run.{Ends, Finished}
 use Rattle.s80_session.specs.Working.{IsAt, Stepped}
@@ -21,53 +21,53 @@ use Rattle.s80_session.specs.declared.session.Session.{Session}
 use Rattle.s80_session.proofs.lemmas.Keeping.{keeps_stands}
 use Rattle.s80_program.specs.declared.status.Status.TheVariants as status
 use Rattle.s80_program.specs.Ending.{IsDiskEnd, StatusHasReason, status_after}
-use Rattle.s80_program.specs.Leaves.{AsksFirst, IsAnswered, ItemLeaves, RunLeaves, TellsDamage, beginning, first_reply, list_after}
+use Rattle.s80_program.specs.Leaves.{IsAnswered, ItemLeaves, RunLeaves, TellsDamage}
 
 -- a run that came to its end
-done_so : (may_leave : Image → Type 0) (now : Shown) (troubled : Bool) (ran : Option RanValue) (changes : List Change) (input before : List ℕ) → Finished may_leave now (beginning changes) input before troubled None ran → RunLeaves (status_after (Ok troubled)) may_leave now changes input before
-done_so may_leave now true ran changes input before h = (ran, h)
-done_so may_leave now false ran changes input before h = (ran, h)
+done_so : (may_leave : Image → Type 0) (now : Shown) (troubled : Bool) (ran : Option RanValue) (work : Work) (input before : List ℕ) → Finished may_leave now work input before troubled None ran → RunLeaves (status_after (Ok troubled)) may_leave now work input before
+done_so may_leave now true ran work input before h = (ran, h)
+done_so may_leave now false ran work input before h = (ran, h)
 
-pub run_done : {T : Type 0} (done : T) (may_leave : Image → Type 0) (now : Shown) (was is_now : Was) (changes : List Change) (input before : List ℕ) → was.troubled ≡ false → was.last_run ≡ None → Ends (Ok done) may_leave now was is_now (beginning changes) input before → RunLeaves (status_after (Ok is_now.troubled)) may_leave now changes input before
-run_done done may_leave now was is_now changes input before calm no_run h =
-    let P : Bool → Type 0 = λ b. Finished may_leave now (beginning changes) input before b was.last_run is_now.last_run in
-    let Q : Option RanValue → Type 0 = λ o. Finished may_leave now (beginning changes) input before is_now.troubled o is_now.last_run in
+pub run_done : {T : Type 0} (done : T) (may_leave : Image → Type 0) (now : Shown) (was is_now : Was) (work : Work) (input before : List ℕ) → was.troubled ≡ false → was.last_run ≡ None → Ends (Ok done) may_leave now was is_now work input before → RunLeaves (status_after (Ok is_now.troubled)) may_leave now work input before
+run_done done may_leave now was is_now work input before calm no_run h =
+    let P : Bool → Type 0 = λ b. Finished may_leave now work input before b was.last_run is_now.last_run in
+    let Q : Option RanValue → Type 0 = λ o. Finished may_leave now work input before is_now.troubled o is_now.last_run in
     let same : is_now.troubled ≡ h.0 = h.1 ∙ ap (λ b. b || h.0) calm in
-    done_so may_leave now is_now.troubled is_now.last_run changes input before (subst Q no_run (subst P (sym same) h.2))
+    done_so may_leave now is_now.troubled is_now.last_run work input before (subst Q no_run (subst P (sym same) h.2))
 
 -- a run that broke off
-pub run_ended : (T : Type 0) (end : SessionEnd) (may_leave : Image → Type 0) (now : Shown) (was is_now : Was) (changes : List Change) (input before : List ℕ) → Ends {T = T} (Err end) may_leave now was is_now (beginning changes) input before → RunLeaves (status_after (Err end)) may_leave now changes input before
-run_ended T ends.Memory may_leave now was is_now changes input before h = h
-run_ended T (ends.Read failed) may_leave now was is_now changes input before h = h
-run_ended T (ends.Write failed) may_leave now was is_now changes input before h = h
-run_ended T (ends.Disk failed) may_leave now was is_now changes input before h = h
-run_ended T (ends.Damaged damage) may_leave now was is_now changes input before h = absurd h
-run_ended T ends.TooLong may_leave now was is_now changes input before h = h
+pub run_ended : (T : Type 0) (end : SessionEnd) (may_leave : Image → Type 0) (now : Shown) (was is_now : Was) (work : Work) (input before : List ℕ) → Ends {T = T} (Err end) may_leave now was is_now work input before → RunLeaves (status_after (Err end)) may_leave now work input before
+run_ended T ends.Memory may_leave now was is_now work input before h = h
+run_ended T (ends.Read failed) may_leave now was is_now work input before h = h
+run_ended T (ends.Write failed) may_leave now was is_now work input before h = h
+run_ended T (ends.Disk failed) may_leave now was is_now work input before h = h
+run_ended T (ends.Damaged damage) may_leave now was is_now work input before h = absurd h
+run_ended T ends.TooLong may_leave now was is_now work input before h = h
 
-answered_ask : (may_leave : Image → Type 0) (now : Shown) (session : Session) (changes : List Change) (ask : Ask) (before : List ℕ) → IsAt may_leave now session (work_after (beginning changes) ask) (before ++ reply_text (first_reply changes ask)) → IsAnswered may_leave now changes ask before
-answered_ask may_leave now session changes ask before h = record {
-  stands = keeps_stands now.tells now.files may_leave (keeper_of session) (list_after changes ask) h.keeps;
-  taken = h.taken ∙ ap (λ (l : List ℕ). Some (before ++ l)) (sym (append-nil (reply_text (first_reply changes ask))));
+answered_ask : (may_leave : Image → Type 0) (now : Shown) (session : Session) (work : Work) (ask : Ask) (before : List ℕ) → IsAt may_leave now session (work_after work ask) (before ++ reply_text (reply_to work ask)) → IsAnswered may_leave now work ask before
+answered_ask may_leave now session work ask before h = record {
+  stands = keeps_stands now.tells now.files may_leave (keeper_of session) (work_after work ask).changes h.keeps;
+  taken = h.taken ∙ ap (λ (l : List ℕ). Some (before ++ l)) (sym (append-nil (reply_text (reply_to work ask))));
 }
 
 -- what an item asked was worked and answered
-ask_done : (may_leave : Image → Type 0) (now : Shown) (session : Session) (was troubled : Bool) (changes : List Change) (item : SessionItem) (ask : Ask) (before : List ℕ) → AsksFirst changes item ask → troubled ≡ (was || is_trouble (first_reply changes ask)) → IsAt may_leave now session (work_after (beginning changes) ask) (before ++ reply_text (first_reply changes ask)) → was ≡ false → ItemLeaves (status_after (Ok troubled)) may_leave now changes item before
-ask_done may_leave now session was true changes item ask before asked is h calm = (ask, asked, answered_ask may_leave now session changes ask before h, let P : Bool → Type 0 = λ b. true ≡ (b || is_trouble (first_reply changes ask)) in sym (subst P calm is))
-ask_done may_leave now session was false changes item ask before asked is h calm = (ask, asked, answered_ask may_leave now session changes ask before h, let P : Bool → Type 0 = λ b. false ≡ (b || is_trouble (first_reply changes ask)) in sym (subst P calm is))
+ask_done : (may_leave : Image → Type 0) (now : Shown) (session : Session) (was troubled : Bool) (work : Work) (item : SessionItem) (ask : Ask) (before : List ℕ) → AsksIn work item ask → troubled ≡ (was || is_trouble (reply_to work ask)) → IsAt may_leave now session (work_after work ask) (before ++ reply_text (reply_to work ask)) → was ≡ false → ItemLeaves (status_after (Ok troubled)) may_leave now work item before
+ask_done may_leave now session was true work item ask before asked is h calm = (ask, asked, answered_ask may_leave now session work ask before h, let P : Bool → Type 0 = λ b. true ≡ (b || is_trouble (reply_to work ask)) in sym (subst P calm is))
+ask_done may_leave now session was false work item ask before asked is h calm = (ask, asked, answered_ask may_leave now session work ask before h, let P : Bool → Type 0 = λ b. false ≡ (b || is_trouble (reply_to work ask)) in sym (subst P calm is))
 
-pub item_done : (may_leave : Image → Type 0) (now : Shown) (session : Session) (was : Was) (changes : List Change) (item : SessionItem) (before : List ℕ) → Stepped {T = Unit {0}} (Ok tt) may_leave now session was (beginning changes) before item → was.troubled ≡ false → ItemLeaves (status_after (Ok (troubled_of session))) may_leave now changes item before
-item_done may_leave now session was changes item before h calm = ask_done may_leave now session was.troubled (troubled_of session) changes item h.0 before h.1 h.2 h.4 calm
+pub item_done : (may_leave : Image → Type 0) (now : Shown) (session : Session) (was : Was) (work : Work) (item : SessionItem) (before : List ℕ) → Stepped {T = Unit {0}} (Ok tt) may_leave now session was work before item → was.troubled ≡ false → ItemLeaves (status_after (Ok (troubled_of session))) may_leave now work item before
+item_done may_leave now session was work item before h calm = ask_done may_leave now session was.troubled (troubled_of session) work item h.0 before h.1 h.2 h.4 calm
 
 -- an item that broke off
-pub item_ended : (T : Type 0) (end : SessionEnd) (may_leave : Image → Type 0) (now : Shown) (session : Session) (was : Was) (changes : List Change) (item : SessionItem) (before : List ℕ) → Stepped {T = T} (Err end) may_leave now session was (beginning changes) before item → ItemLeaves (status_after (Err end)) may_leave now changes item before
-item_ended T ends.Memory may_leave now session was changes item before (inl h) = inl (record { stands = keeps_stands now.tells now.files may_leave (keeper_of session) changes h.keeps; taken = h.taken ∙ ap Some (sym (append-nil before)) })
-item_ended T ends.Memory may_leave now session was changes item before (inr (text, told, stopped, asked, h)) =
-    inr (text, told, stopped, asked, keeps_stands now.tells now.files may_leave (keeper_of session) (list_after changes (evaluates text told stopped)) h.keeps, h.taken)
-item_ended T (ends.Disk failed) may_leave now session was changes item before h = h
-item_ended T (ends.Write failed) may_leave now session was changes item before (ask, asked, count, h) = (ask, asked, count, keeps_stands now.tells now.files may_leave (keeper_of session) (list_after changes ask) h.keeps, h.taken)
-item_ended T (ends.Read failed) may_leave now session was changes item before h = absurd h
-item_ended T (ends.Damaged damage) may_leave now session was changes item before h = absurd h
-item_ended T ends.TooLong may_leave now session was changes item before h = absurd h
+pub item_ended : (T : Type 0) (end : SessionEnd) (may_leave : Image → Type 0) (now : Shown) (session : Session) (was : Was) (work : Work) (item : SessionItem) (before : List ℕ) → Stepped {T = T} (Err end) may_leave now session was work before item → ItemLeaves (status_after (Err end)) may_leave now work item before
+item_ended T ends.Memory may_leave now session was work item before (inl h) = inl (record { stands = keeps_stands now.tells now.files may_leave (keeper_of session) work.changes h.keeps; taken = h.taken ∙ ap Some (sym (append-nil before)) })
+item_ended T ends.Memory may_leave now session was work item before (inr (text, told, stopped, asked, h)) =
+    inr (text, told, stopped, asked, keeps_stands now.tells now.files may_leave (keeper_of session) (work_after work (evaluates text told stopped)).changes h.keeps, h.taken)
+item_ended T (ends.Disk failed) may_leave now session was work item before h = h
+item_ended T (ends.Write failed) may_leave now session was work item before (ask, asked, count, h) = (ask, asked, count, keeps_stands now.tells now.files may_leave (keeper_of session) (work_after work ask).changes h.keeps, h.taken)
+item_ended T (ends.Read failed) may_leave now session was work item before h = absurd h
+item_ended T (ends.Damaged damage) may_leave now session was work item before h = absurd h
+item_ended T ends.TooLong may_leave now session was work item before h = absurd h
 
 -- ---- reasons
 
@@ -109,6 +109,9 @@ item_counts T (Query queries.Classes) r before now h = run_counts T r before now
 item_counts T (Query (queries.Browse name)) r before now h = run_counts T r before now h
 item_counts T (Query (queries.Versions spec selector)) r before now h = h
 item_counts T (Query queries.Changes) r before now h = h
+item_counts T (Query (queries.FileOut filed.All)) r before now h = run_counts T r before now h
+item_counts T (Query (queries.FileOut (filed.Class name))) r before now h = run_counts T r before now h
+item_counts T (Query (queries.FileOut filed.Set)) r before now h = h
 item_counts T (Query queries.Snapshot) r before now h = run_counts T r before now h
 item_counts T (Chunk item) r before now h = run_counts T r before now h
 item_counts T Unended r before now h = run_counts T r before now h

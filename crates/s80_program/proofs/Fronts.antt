@@ -1,18 +1,20 @@
 -- The first items of an input are the front of all its items, and so are their replies.
-use Rattle.std.proofs.Common.{◌≡◌, ◌⊎◌, inl, inr, ℕ, ◌≤◌, List, [], ◌∷◌, ◌++◌, length, take, drop, refl, sym, ap, subst, ◌∙◌, Option, Some, None, Bool, true, false, append_assoc, arith, length-append, take-append-drop}
+use Rattle.std.proofs.Common.{All, ◌≡◌, ◌⊎◌, inl, inr, ℕ, ◌≤◌, List, [], ◌∷◌, ◌++◌, length, take, drop, refl, sym, ap, subst, ◌∙◌, Option, Some, None, Bool, true, false, append_assoc, arith, length-append, take-append-drop}
 use Rattle.std.proofs.lemmas.List.{append-nil}
+use Rattle.std.proofs.lemmas.List.Elements.{All-cons, All-nil, All-push, All-same}
+use Rattle.std.specs.Prelude.{IfSome}
 use Rattle.s80_chunk.specs.declared.item.Item.{Item}
 use Rattle.s80_chunk.specs.declared.item.Role.TheVariants.{Plain}
 use Rattle.s80_chunk.specs.Chunks.{Reads, IsBlank, item_of}
 use Rattle.s80_chunk.proofs.lemmas.Reading.{one_reading}
 use Rattle.s80_chunk.proofs.Stopping.{reads_prefix}
-use Rattle.s80_change.specs.declared.change.Change.{Change}
 use Rattle.s80_disk.specs.Image.{Image}
 use Rattle.s80_machine.specs.Came.{RanValue}
 use Rattle.s80_model.specs.declared.item.SessionItem.{SessionItem}
 use Rattle.s80_model.specs.declared.item.SessionItem.TheVariants.{Chunk, Unended, Query}
-use Rattle.s80_model.specs.Asked.{Ask, evaluates}
-use Rattle.s80_model.specs.Replies.{AllAsk, Work, reply_to, reply_text, work_after, work_after_all, replies}
+use Rattle.s80_model.specs.Asked.{Ask, IsTimed, evaluates}
+use Rattle.s80_model.specs.Replies.{AllAsk, AsksIn, Work, reply_to, reply_text, work_after, work_after_all, replies}
+use Rattle.s80_model.specs.Settings.{Settings}
 use Rattle.s80_disk.specs.Shown.{Shown, Faults}
 use Rattle.s80_session.specs.Run.{chunks, ItemsOf, FirstItemsOf, AsksOf, BrokeOff, FirstAsksOf, WholeAsksOf, Finished, LostDisk, Unanswered, Unevaluated, input_limit}
 use Rattle.s80_session.proofs.Taking.{first_of}
@@ -20,8 +22,8 @@ use Rattle.s80_program.specs.declared.status.Status.{Status}
 use Rattle.s80_program.specs.declared.status.Status.TheVariants as status
 use Rattle.s80_program.specs.Command.{Command, Run, Do, Tell, behind_separators}
 use Rattle.s80_program.specs.Ending.{NoFault, StatusHasReason, IsWhole}
-use Rattle.s80_program.specs.Leaves.{AllAsksFor, AsksFirst, IsAnswered, IsWithin, ItemLeaves, Leaves, LeavesFor, PutsFront, RunLeaves, beginning}
-use Rattle.s80_program.proofs.Again.{OneAsk, goes_on_asking}
+use Rattle.s80_program.specs.Leaves.{AllAsksFor, IsAnswered, IsWithin, ItemLeaves, Leaves, LeavesFor, PutsFront, RunLeaves}
+use Rattle.s80_program.proofs.Again.{OneList, goes_on_asking}
 
 chunks_append : (given more : List Item) → chunks (given ++ more) ≡ chunks given ++ chunks more
 chunks_append [] more = refl
@@ -64,141 +66,157 @@ whole_first work got left input asks (items, (given, rest, reads, none, is), ask
     let P : List SessionItem → Type 0 = λ l. FirstItemsOf input l in
     (items, subst P (sym is) (first_of false got left input given (rest, reads) input_is (λ e. cc)), asked)
 
+-- ---- what an input asks
+
+-- an input files nothing out
+chunks_timed : (settings : Settings) (given : List Item) → All (IsTimed settings) (chunks given)
+chunks_timed settings [] = All-nil (IsTimed settings)
+chunks_timed settings (item ∷ given) = All-cons (IsTimed settings) (Chunk item) (chunks given) tt (chunks_timed settings given)
+
+items_timed : (settings : Settings) (input : List ℕ) (items : List SessionItem) → ItemsOf input items → All (IsTimed settings) items
+items_timed settings input items (given, rest, reading, inl (blank, is)) = All-same (IsTimed settings) items (chunks given) is (chunks_timed settings given)
+items_timed settings input items (given, rest, reading, inr (not, is)) =
+    All-same (IsTimed settings) items (chunks given ++ Unended ∷ []) is (All-push (IsTimed settings) (chunks given) Unended (chunks_timed settings given) tt)
+
+first_timed : (settings : Settings) (input : List ℕ) (items : List SessionItem) → FirstItemsOf input items → All (IsTimed settings) items
+first_timed settings input items (inl (given, rest, reads, is)) = All-same (IsTimed settings) items (chunks given) is (chunks_timed settings given)
+first_timed settings input items (inr list) = items_timed settings input items list
+
 -- what the first items ask is the front of what all of them ask
-first_asks : OneAsk → (work : Work) (input : List ℕ) (asks all : List Ask) → FirstAsksOf work input asks → AsksOf work input all → (more : List Ask) × (all ≡ asks ++ more)
+first_asks : OneList → (work : Work) (input : List ℕ) (asks all : List Ask) → FirstAsksOf work input asks → AsksOf work input all → (more : List Ask) × (all ≡ asks ++ more)
 first_asks one work input asks all (items, first, asked) (list, whole, all_asked) =
     let begins = first_items input items list first whole in
     let P : List SessionItem → Type 0 = λ l. AllAsk work l all in
-    goes_on_asking one work items begins.0 asks all asked (subst P begins.1 all_asked)
+    goes_on_asking one work items begins.0 asks all (first_timed work.settings input items first) asked (subst P begins.1 all_asked)
 
-front_put : (now : Shown) (changes : List Change) (before : List ℕ) (asks more : List Ask) → now.taken ≡ Some (before ++ replies (beginning changes) asks) → PutsFront now.taken changes before (asks ++ more)
-front_put now changes before asks more taken = (replies (beginning changes) asks, replies (work_after_all (beginning changes) asks) more, taken, replies_append (beginning changes) asks more)
+front_put : (now : Shown) (work : Work) (before : List ℕ) (asks more : List Ask) → now.taken ≡ Some (before ++ replies work asks) → PutsFront now.taken work before (asks ++ more)
+front_put now work before asks more taken = (replies work asks, replies (work_after_all work asks) more, taken, replies_append work asks more)
 
 -- a front of the replies was put
-part_put : (now : Shown) (changes : List Change) (before : List ℕ) (asks : List Ask) (count : ℕ) (more : List Ask) → now.taken ≡ Some (before ++ take count (replies (beginning changes) asks)) → PutsFront now.taken changes before (asks ++ more)
-part_put now changes before asks count more taken =
-    let all = replies (beginning changes) asks in
-    let after = replies (work_after_all (beginning changes) asks) more in (
+part_put : (now : Shown) (work : Work) (before : List ℕ) (asks : List Ask) (count : ℕ) (more : List Ask) → now.taken ≡ Some (before ++ take count (replies work asks)) → PutsFront now.taken work before (asks ++ more)
+part_put now work before asks count more taken =
+    let all = replies work asks in
+    let after = replies (work_after_all work asks) more in (
       take count all,
       drop count all ++ after,
       taken,
-      replies_append (beginning changes) asks more ∙ ap (λ (l : List ℕ). l ++ after) (sym (take-append-drop count all)) ∙ append_assoc (take count all) (drop count all) after,
+      replies_append work asks more ∙ ap (λ (l : List ℕ). l ++ after) (sym (take-append-drop count all)) ∙ append_assoc (take count all) (drop count all) after,
     )
 
 -- a run that answered the first of its items
-first_front : OneAsk → (now : Shown) (changes : List Change) (input before : List ℕ) (asks all : List Ask) → FirstAsksOf (beginning changes) input asks → now.taken ≡ Some (before ++ replies (beginning changes) asks) → AsksOf (beginning changes) input all → PutsFront now.taken changes before all
-first_front one now changes input before asks all first taken whole =
-    let rest = first_asks one (beginning changes) input asks all first whole in
-    let P : List Ask → Type 0 = λ l. PutsFront now.taken changes before l in
-    subst P (sym rest.1) (front_put now changes before asks rest.0 taken)
+first_front : OneList → (now : Shown) (work : Work) (input before : List ℕ) (asks all : List Ask) → FirstAsksOf work input asks → now.taken ≡ Some (before ++ replies work asks) → AsksOf work input all → PutsFront now.taken work before all
+first_front one now work input before asks all first taken whole =
+    let rest = first_asks one work input asks all first whole in
+    let P : List Ask → Type 0 = λ l. PutsFront now.taken work before l in
+    subst P (sym rest.1) (front_put now work before asks rest.0 taken)
 
-unanswered_front : OneAsk → (may_leave : Image → Type 0) (now : Shown) (changes : List Change) (input before : List ℕ) (all : List Ask) → Unanswered may_leave now (beginning changes) input before → AsksOf (beginning changes) input all → PutsFront now.taken changes before all
-unanswered_front one may_leave now changes input before all h whole =
-    let rest = first_asks one (beginning changes) input h.asks all h.first whole in
-    let P : List Ask → Type 0 = λ l. PutsFront now.taken changes before l in
-    subst P (sym rest.1) (part_put now changes before h.asks h.count rest.0 h.taken)
+unanswered_front : OneList → (may_leave : Image → Type 0) (now : Shown) (work : Work) (input before : List ℕ) (all : List Ask) → Unanswered may_leave now work input before → AsksOf work input all → PutsFront now.taken work before all
+unanswered_front one may_leave now work input before all h whole =
+    let rest = first_asks one work input h.asks all h.first whole in
+    let P : List Ask → Type 0 = λ l. PutsFront now.taken work before l in
+    subst P (sym rest.1) (part_put now work before h.asks h.count rest.0 h.taken)
 
 -- more was worked than is answered
-lost_front : OneAsk → (may_leave : Image → Type 0) (now : Shown) (changes : List Change) (input before : List ℕ) (all : List Ask) → LostDisk may_leave now (beginning changes) input before → AsksOf (beginning changes) input all → PutsFront now.taken changes before all
-lost_front one may_leave now changes input before all h whole =
-    let rest = first_asks one (beginning changes) input (h.asks ++ h.more) all h.first whole in
-    let P : List Ask → Type 0 = λ l. PutsFront now.taken changes before l in
-    subst P (sym (rest.1 ∙ append_assoc h.asks h.more rest.0)) (front_put now changes before h.asks (h.more ++ rest.0) h.taken)
+lost_front : OneList → (may_leave : Image → Type 0) (now : Shown) (work : Work) (input before : List ℕ) (all : List Ask) → LostDisk may_leave now work input before → AsksOf work input all → PutsFront now.taken work before all
+lost_front one may_leave now work input before all h whole =
+    let rest = first_asks one work input (h.asks ++ h.more) all h.first whole in
+    let P : List Ask → Type 0 = λ l. PutsFront now.taken work before l in
+    subst P (sym (rest.1 ∙ append_assoc h.asks h.more rest.0)) (front_put now work before h.asks (h.more ++ rest.0) h.taken)
 
 -- the last doIt was kept, and not evaluated
-unevaluated_front : OneAsk → (may_leave : Image → Type 0) (now : Shown) (changes : List Change) (input before : List ℕ) (all : List Ask) → Unevaluated may_leave now (beginning changes) input before → AsksOf (beginning changes) input all → PutsFront now.taken changes before all
-unevaluated_front one may_leave now changes input before all h whole =
+unevaluated_front : OneList → (may_leave : Image → Type 0) (now : Shown) (work : Work) (input before : List ℕ) (all : List Ask) → Unevaluated may_leave now work input before → AsksOf work input all → PutsFront now.taken work before all
+unevaluated_front one may_leave now work input before all h whole =
     let last = evaluates h.text h.told h.stopped in
-    let rest = first_asks one (beginning changes) input (h.asks ++ last ∷ []) all h.first whole in
-    let P : List Ask → Type 0 = λ l. PutsFront now.taken changes before l in
-    subst P (sym (rest.1 ∙ append_assoc h.asks (last ∷ []) rest.0)) (front_put now changes before h.asks (last ∷ rest.0) h.taken)
+    let rest = first_asks one work input (h.asks ++ last ∷ []) all h.first whole in
+    let P : List Ask → Type 0 = λ l. PutsFront now.taken work before l in
+    subst P (sym (rest.1 ∙ append_assoc h.asks (last ∷ []) rest.0)) (front_put now work before h.asks (last ∷ rest.0) h.taken)
 
-broke_off_front : OneAsk → (may_leave : Image → Type 0) (now : Shown) (changes : List Change) (input before : List ℕ) (all : List Ask) → BrokeOff may_leave now (beginning changes) input before ⊎ Unevaluated may_leave now (beginning changes) input before → AsksOf (beginning changes) input all → PutsFront now.taken changes before all
-broke_off_front one may_leave now changes input before all (inl h) whole = first_front one now changes input before h.asks all h.first h.answered.taken whole
-broke_off_front one may_leave now changes input before all (inr h) whole = unevaluated_front one may_leave now changes input before all h whole
+broke_off_front : OneList → (may_leave : Image → Type 0) (now : Shown) (work : Work) (input before : List ℕ) (all : List Ask) → BrokeOff may_leave now work input before ⊎ Unevaluated may_leave now work input before → AsksOf work input all → PutsFront now.taken work before all
+broke_off_front one may_leave now work input before all (inl h) whole = first_front one now work input before h.asks all h.first h.answered.taken whole
+broke_off_front one may_leave now work input before all (inr h) whole = unevaluated_front one may_leave now work input before all h whole
 
-finished_front : OneAsk → (may_leave : Image → Type 0) (now : Shown) (changes : List Change) (input before : List ℕ) (all : List Ask) (troubled : Bool) (was ran : Option RanValue) → Finished may_leave now (beginning changes) input before troubled was ran → AsksOf (beginning changes) input all → PutsFront now.taken changes before all
-finished_front one may_leave now changes input before all troubled was ran h whole = first_front one now changes input before h.asks all (h.all.0, inr h.all.1, h.all.2) h.answered.taken whole
+finished_front : OneList → (may_leave : Image → Type 0) (now : Shown) (work : Work) (input before : List ℕ) (all : List Ask) (troubled : Bool) (was ran : Option RanValue) → Finished may_leave now work input before troubled was ran → AsksOf work input all → PutsFront now.taken work before all
+finished_front one may_leave now work input before all troubled was ran h whole = first_front one now work input before h.asks all (h.all.0, inr h.all.1, h.all.2) h.answered.taken whole
 
 -- whatever the status of a run, a front of all replies was put
-run_front : OneAsk → (s : Status) (may_leave : Image → Type 0) (now : Shown) (changes : List Change) (input before : List ℕ) (all : List Ask) → RunLeaves s may_leave now changes input before → AsksOf (beginning changes) input all → PutsFront now.taken changes before all
-run_front one status.Done may_leave now changes input before all h whole = finished_front one may_leave now changes input before all false None h.0 h.1 whole
-run_front one status.DoneWithRefusals may_leave now changes input before all h whole = finished_front one may_leave now changes input before all true None h.0 h.1 whole
-run_front one status.Usage may_leave now changes input before all h whole = absurd h
-run_front one status.ReadFault may_leave now changes input before all h whole = first_front one now changes input before h.asks all (whole_first (beginning changes) h.got h.left input h.asks h.whole h.input_is) h.answered.taken whole
-run_front one status.WriteFault may_leave now changes input before all h whole = unanswered_front one may_leave now changes input before all h whole
-run_front one status.DiskFault may_leave now changes input before all h whole = lost_front one may_leave now changes input before all h whole
-run_front one status.Damaged may_leave now changes input before all h whole = absurd h
-run_front one status.OutOfMemory may_leave now changes input before all h whole = broke_off_front one may_leave now changes input before all h whole
-run_front one status.InputTooLong may_leave now changes input before all h whole = first_front one now changes input before h.asks all (whole_first (beginning changes) h.got (h.next ∷ h.left) input h.asks h.whole h.input_is) h.answered.taken whole
+run_front : OneList → (s : Status) (may_leave : Image → Type 0) (now : Shown) (work : Work) (input before : List ℕ) (all : List Ask) → RunLeaves s may_leave now work input before → AsksOf work input all → PutsFront now.taken work before all
+run_front one status.Done may_leave now work input before all h whole = finished_front one may_leave now work input before all false None h.0 h.1 whole
+run_front one status.DoneWithRefusals may_leave now work input before all h whole = finished_front one may_leave now work input before all true None h.0 h.1 whole
+run_front one status.Usage may_leave now work input before all h whole = absurd h
+run_front one status.ReadFault may_leave now work input before all h whole = first_front one now work input before h.asks all (whole_first work h.got h.left input h.asks h.whole h.input_is) h.answered.taken whole
+run_front one status.WriteFault may_leave now work input before all h whole = unanswered_front one may_leave now work input before all h whole
+run_front one status.DiskFault may_leave now work input before all h whole = lost_front one may_leave now work input before all h whole
+run_front one status.Damaged may_leave now work input before all h whole = absurd h
+run_front one status.OutOfMemory may_leave now work input before all h whole = broke_off_front one may_leave now work input before all h whole
+run_front one status.InputTooLong may_leave now work input before all h whole = first_front one now work input before h.asks all (whole_first work h.got (h.next ∷ h.left) input h.asks h.whole h.input_is) h.answered.taken whole
 
 -- the same where one item is worked: it asks the first of what is asked
-item_asks : OneAsk → (changes : List Change) (item : SessionItem) (ask : Ask) (all : List Ask) → AsksFirst changes item ask → AllAsk (beginning changes) (item ∷ []) all → (more : List Ask) × (all ≡ ask ∷ more)
-item_asks one changes item ask all asked whole = goes_on_asking one (beginning changes) (item ∷ []) [] (ask ∷ []) all (asked, tt) whole
+item_asks : OneList → (work : Work) (item : SessionItem) (ask : Ask) (all : List Ask) → IsTimed work.settings item → AsksIn work item ask → AllAsk work (item ∷ []) all → (more : List Ask) × (all ≡ ask ∷ more)
+item_asks one work item ask all timed asked whole = goes_on_asking one work (item ∷ []) [] (ask ∷ []) all (All-cons (IsTimed work.settings) item [] timed (All-nil (IsTimed work.settings))) (asked, tt) whole
 
-answered_front : OneAsk → (may_leave : Image → Type 0) (now : Shown) (changes : List Change) (item : SessionItem) (ask : Ask) (before : List ℕ) (all : List Ask) → AsksFirst changes item ask → IsAnswered may_leave now changes ask before → AllAsk (beginning changes) (item ∷ []) all → PutsFront now.taken changes before all
-answered_front one may_leave now changes item ask before all asked h whole =
-    let rest = item_asks one changes item ask all asked whole in
-    let P : List Ask → Type 0 = λ l. PutsFront now.taken changes before l in
-    subst P (sym rest.1) (front_put now changes before (ask ∷ []) rest.0 h.taken)
+answered_front : OneList → (may_leave : Image → Type 0) (now : Shown) (work : Work) (item : SessionItem) (ask : Ask) (before : List ℕ) (all : List Ask) → IsTimed work.settings item → AsksIn work item ask → IsAnswered may_leave now work ask before → AllAsk work (item ∷ []) all → PutsFront now.taken work before all
+answered_front one may_leave now work item ask before all timed asked h whole =
+    let rest = item_asks one work item ask all timed asked whole in
+    let P : List Ask → Type 0 = λ l. PutsFront now.taken work before l in
+    subst P (sym rest.1) (front_put now work before (ask ∷ []) rest.0 h.taken)
 
 -- its reply was put in part
-part_front : OneAsk → (now : Shown) (changes : List Change) (item : SessionItem) (ask : Ask) (count : ℕ) (before : List ℕ) (all : List Ask) → AsksFirst changes item ask → now.taken ≡ Some (before ++ take count (reply_text (reply_to (beginning changes) ask))) → AllAsk (beginning changes) (item ∷ []) all → PutsFront now.taken changes before all
-part_front one now changes item ask count before all asked taken whole =
-    let rest = item_asks one changes item ask all asked whole in
-    let line = reply_text (reply_to (beginning changes) ask) in
-    let after = replies (work_after (beginning changes) ask) rest.0 in
-    let P : List Ask → Type 0 = λ l. PutsFront now.taken changes before l in
+part_front : OneList → (now : Shown) (work : Work) (item : SessionItem) (ask : Ask) (count : ℕ) (before : List ℕ) (all : List Ask) → IsTimed work.settings item → AsksIn work item ask → now.taken ≡ Some (before ++ take count (reply_text (reply_to work ask))) → AllAsk work (item ∷ []) all → PutsFront now.taken work before all
+part_front one now work item ask count before all timed asked taken whole =
+    let rest = item_asks one work item ask all timed asked whole in
+    let line = reply_text (reply_to work ask) in
+    let after = replies (work_after work ask) rest.0 in
+    let P : List Ask → Type 0 = λ l. PutsFront now.taken work before l in
     subst P (sym rest.1) (take count line, drop count line ++ after, taken, ap (λ (l : List ℕ). l ++ after) (sym (take-append-drop count line)) ∙ append_assoc (take count line) (drop count line) after)
 
-nothing_put : (now : Shown) (changes : List Change) (before : List ℕ) (all : List Ask) → now.taken ≡ Some before → PutsFront now.taken changes before all
-nothing_put now changes before all taken = front_put now changes before [] all (taken ∙ ap Some (sym (append-nil before)))
+nothing_put : (now : Shown) (work : Work) (before : List ℕ) (all : List Ask) → now.taken ≡ Some before → PutsFront now.taken work before all
+nothing_put now work before all taken = front_put now work before [] all (taken ∙ ap Some (sym (append-nil before)))
 
-item_front : OneAsk → (s : Status) (may_leave : Image → Type 0) (now : Shown) (changes : List Change) (item : SessionItem) (before : List ℕ) (all : List Ask) → ItemLeaves s may_leave now changes item before → AllAsk (beginning changes) (item ∷ []) all → PutsFront now.taken changes before all
-item_front one status.Done may_leave now changes item before all (ask, asked, h, calm) whole = answered_front one may_leave now changes item ask before all asked h whole
-item_front one status.DoneWithRefusals may_leave now changes item before all (ask, asked, h, calm) whole = answered_front one may_leave now changes item ask before all asked h whole
-item_front one status.Usage may_leave now changes item before all h whole = absurd h
-item_front one status.ReadFault may_leave now changes item before all h whole = absurd h
-item_front one status.WriteFault may_leave now changes item before all (ask, asked, count, stands, taken) whole = part_front one now changes item ask count before all asked taken whole
-item_front one status.DiskFault may_leave now changes item before all h whole = nothing_put now changes before all h.taken
-item_front one status.Damaged may_leave now changes item before all h whole = absurd h
-item_front one status.OutOfMemory may_leave now changes item before all (inl h) whole = nothing_put now changes before all (h.taken ∙ ap Some (append-nil before))
-item_front one status.OutOfMemory may_leave now changes item before all (inr (text, told, stopped, asked, stands, taken)) whole = nothing_put now changes before all taken
-item_front one status.InputTooLong may_leave now changes item before all h whole = absurd h
+item_front : OneList → (s : Status) (may_leave : Image → Type 0) (now : Shown) (work : Work) (item : SessionItem) (before : List ℕ) (all : List Ask) → IsTimed work.settings item → ItemLeaves s may_leave now work item before → AllAsk work (item ∷ []) all → PutsFront now.taken work before all
+item_front one status.Done may_leave now work item before all timed (ask, asked, h, calm) whole = answered_front one may_leave now work item ask before all timed asked h whole
+item_front one status.DoneWithRefusals may_leave now work item before all timed (ask, asked, h, calm) whole = answered_front one may_leave now work item ask before all timed asked h whole
+item_front one status.Usage may_leave now work item before all timed h whole = absurd h
+item_front one status.ReadFault may_leave now work item before all timed h whole = absurd h
+item_front one status.WriteFault may_leave now work item before all timed (ask, asked, count, stands, taken) whole = part_front one now work item ask count before all timed asked taken whole
+item_front one status.DiskFault may_leave now work item before all timed h whole = nothing_put now work before all h.taken
+item_front one status.Damaged may_leave now work item before all timed h whole = absurd h
+item_front one status.OutOfMemory may_leave now work item before all timed (inl h) whole = nothing_put now work before all (h.taken ∙ ap Some (append-nil before))
+item_front one status.OutOfMemory may_leave now work item before all timed (inr (text, told, stopped, asked, stands, taken)) whole = nothing_put now work before all taken
+item_front one status.InputTooLong may_leave now work item before all timed h whole = absurd h
 
 -- whatever is worked and the status, a front of all replies was put
-pub front_of : OneAsk → (item : Option SessionItem) (s : Status) (may_leave : Image → Type 0) (now : Shown) (changes : List Change) (input before : List ℕ) (all : List Ask) → LeavesFor item s may_leave now changes input before → AllAsksFor item changes input all → PutsFront now.taken changes before all
-front_of one None s may_leave now changes input before all h whole = run_front one s may_leave now changes input before all h whole
-front_of one (Some item) s may_leave now changes input before all h whole = item_front one s may_leave now changes item before all h.0 whole
+pub front_of : OneList → (item : Option SessionItem) (s : Status) (may_leave : Image → Type 0) (now : Shown) (work : Work) (input before : List ℕ) (all : List Ask) → IfSome item (IsTimed work.settings) → LeavesFor item s may_leave now work input before → AllAsksFor item work input all → PutsFront now.taken work before all
+front_of one None s may_leave now work input before all timed h whole = run_front one s may_leave now work input before all h whole
+front_of one (Some item) s may_leave now work input before all timed h whole = item_front one s may_leave now work item before all timed h.0 whole
 
 longer : (got left : List ℕ) (next : ℕ) (input : List ℕ) → input ≡ got ++ next ∷ left → length got ≡ input_limit → length input ≤ input_limit → ⊥
 longer got left next input is limit within =
     let size = ap length is ∙ length-append got (next ∷ left) in omega (arith, size, limit, within)
 
 -- with no fault and a short input, all of a run is done or memory is wanting
-run_whole : (s : Status) (old new : Faults) (may_leave : Image → Type 0) (now : Shown) (changes : List Change) (input before : List ℕ) → RunLeaves s may_leave now changes input before → StatusHasReason old new s → NoFault old new → length input ≤ input_limit → IsWhole s
-run_whole status.Done old new may_leave now changes input before h reason none within = tt
-run_whole status.DoneWithRefusals old new may_leave now changes input before h reason none within = tt
-run_whole status.Usage old new may_leave now changes input before h reason none within = absurd h
-run_whole status.ReadFault old new may_leave now changes input before h reason none within = absurd (none.read reason)
-run_whole status.WriteFault old new may_leave now changes input before h reason none within = absurd (none.write reason)
-run_whole status.DiskFault old new may_leave now changes input before h reason none within = absurd (none.disk reason)
-run_whole status.Damaged old new may_leave now changes input before h reason none within = absurd h
-run_whole status.OutOfMemory old new may_leave now changes input before h reason none within = tt
-run_whole status.InputTooLong old new may_leave now changes input before h reason none within = absurd (longer h.got h.left h.next input h.input_is h.limit within)
+run_whole : (s : Status) (old new : Faults) (may_leave : Image → Type 0) (now : Shown) (work : Work) (input before : List ℕ) → RunLeaves s may_leave now work input before → StatusHasReason old new s → NoFault old new → length input ≤ input_limit → IsWhole s
+run_whole status.Done old new may_leave now work input before h reason none within = tt
+run_whole status.DoneWithRefusals old new may_leave now work input before h reason none within = tt
+run_whole status.Usage old new may_leave now work input before h reason none within = absurd h
+run_whole status.ReadFault old new may_leave now work input before h reason none within = absurd (none.read reason)
+run_whole status.WriteFault old new may_leave now work input before h reason none within = absurd (none.write reason)
+run_whole status.DiskFault old new may_leave now work input before h reason none within = absurd (none.disk reason)
+run_whole status.Damaged old new may_leave now work input before h reason none within = absurd h
+run_whole status.OutOfMemory old new may_leave now work input before h reason none within = tt
+run_whole status.InputTooLong old new may_leave now work input before h reason none within = absurd (longer h.got h.left h.next input h.input_is h.limit within)
 
-item_whole : (s : Status) (old new : Faults) (may_leave : Image → Type 0) (now : Shown) (changes : List Change) (item : SessionItem) (before : List ℕ) → ItemLeaves s may_leave now changes item before → StatusHasReason old new s → NoFault old new → IsWhole s
-item_whole status.Done old new may_leave now changes item before h reason none = tt
-item_whole status.DoneWithRefusals old new may_leave now changes item before h reason none = tt
-item_whole status.Usage old new may_leave now changes item before h reason none = absurd h
-item_whole status.ReadFault old new may_leave now changes item before h reason none = absurd h
-item_whole status.WriteFault old new may_leave now changes item before h reason none = absurd (none.write reason)
-item_whole status.DiskFault old new may_leave now changes item before h reason none = absurd (none.disk reason)
-item_whole status.Damaged old new may_leave now changes item before h reason none = absurd h
-item_whole status.OutOfMemory old new may_leave now changes item before h reason none = tt
-item_whole status.InputTooLong old new may_leave now changes item before h reason none = absurd h
+item_whole : (s : Status) (old new : Faults) (may_leave : Image → Type 0) (now : Shown) (work : Work) (item : SessionItem) (before : List ℕ) → ItemLeaves s may_leave now work item before → StatusHasReason old new s → NoFault old new → IsWhole s
+item_whole status.Done old new may_leave now work item before h reason none = tt
+item_whole status.DoneWithRefusals old new may_leave now work item before h reason none = tt
+item_whole status.Usage old new may_leave now work item before h reason none = absurd h
+item_whole status.ReadFault old new may_leave now work item before h reason none = absurd h
+item_whole status.WriteFault old new may_leave now work item before h reason none = absurd (none.write reason)
+item_whole status.DiskFault old new may_leave now work item before h reason none = absurd (none.disk reason)
+item_whole status.Damaged old new may_leave now work item before h reason none = absurd h
+item_whole status.OutOfMemory old new may_leave now work item before h reason none = tt
+item_whole status.InputTooLong old new may_leave now work item before h reason none = absurd h
 
-pub whole_without_fault : (command : Command) (s : Status) (old new : Faults) (may_leave : Image → Type 0) (now : Shown) (changes : List Change) (input before : List ℕ) → Leaves command s may_leave now changes input before → StatusHasReason old new s → NoFault old new → IsWithin command input → IsWhole s
-whole_without_fault Run s old new may_leave now changes input before h reason none within = run_whole s old new may_leave now changes input before h reason none within
-whole_without_fault (Do text) s old new may_leave now changes input before h reason none within = item_whole s old new may_leave now changes (Chunk (item_of Plain (behind_separators text))) before h.0 reason none
-whole_without_fault (Tell query) s old new may_leave now changes input before h reason none within = item_whole s old new may_leave now changes (Query query) before h.0 reason none
+pub whole_without_fault : (command : Command) (s : Status) (old new : Faults) (may_leave : Image → Type 0) (now : Shown) (work : Work) (input before : List ℕ) → Leaves command s may_leave now work input before → StatusHasReason old new s → NoFault old new → IsWithin command input → IsWhole s
+whole_without_fault Run s old new may_leave now work input before h reason none within = run_whole s old new may_leave now work input before h reason none within
+whole_without_fault (Do text) s old new may_leave now work input before h reason none within = item_whole s old new may_leave now work (Chunk (item_of Plain (behind_separators text))) before h.0 reason none
+whole_without_fault (Tell query) s old new may_leave now work input before h reason none within = item_whole s old new may_leave now work (Query query) before h.0 reason none

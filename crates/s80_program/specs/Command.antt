@@ -1,11 +1,13 @@
 -- What the program can be asked to do.
-use Rattle.std.specs.Prelude.{◌≢◌, ℕ, List, [], ◌∷◌, drop, Option, Some, None, codes}
+use Rattle.std.specs.Prelude.{◌≢◌, ℕ, List, [], ◌∷◌, drop, Option, Some, None, IfSome, codes}
 use Rattle.std.specs.List.{prefix_len}
 use Rattle.s80_base.specs.Byte.{is_separator}
 use Rattle.s80_chunk.specs.Chunks.{item_of}
 use Rattle.s80_chunk.specs.declared.item.Role.TheVariants.{Plain}
+use Rattle.s80_model.specs.Asked.{IsTimed}
+use Rattle.s80_model.specs.declared.item.Filed.TheVariants.{All, Class, Set}
 use Rattle.s80_model.specs.declared.item.Query.{Query as SessionQuery}
-use Rattle.s80_model.specs.declared.item.Query.TheVariants.{Recover, Classes, Browse, Source, Versions, Changes, Snapshot}
+use Rattle.s80_model.specs.declared.item.Query.TheVariants.{Recover, Classes, Browse, Source, Versions, Changes, FileOut, Snapshot}
 use Rattle.s80_model.specs.declared.item.SessionItem.{SessionItem}
 use Rattle.s80_model.specs.declared.item.SessionItem.TheVariants.{Chunk, Query}
 use Rattle.s80_model.specs.Settings.{Settings}
@@ -27,6 +29,9 @@ command_word (Tell (Browse name)) = codes "browse"
 command_word (Tell (Source spec selector)) = codes "source"
 command_word (Tell (Versions spec selector)) = codes "versions"
 command_word (Tell Changes) = codes "changes"
+command_word (Tell (FileOut All)) = codes "file-out"
+command_word (Tell (FileOut (Class name))) = codes "file-out-class"
+command_word (Tell (FileOut Set)) = codes "file-out-set"
 command_word (Tell Snapshot) = codes "snapshot"
 
 abbrev pub arguments_of : Command → List (List ℕ)
@@ -38,6 +43,9 @@ arguments_of (Tell (Browse name)) = name ∷ []
 arguments_of (Tell (Source spec selector)) = spec ∷ selector ∷ []
 arguments_of (Tell (Versions spec selector)) = spec ∷ selector ∷ []
 arguments_of (Tell Changes) = []
+arguments_of (Tell (FileOut All)) = []
+arguments_of (Tell (FileOut (Class name))) = name ∷ []
+arguments_of (Tell (FileOut Set)) = []
 arguments_of (Tell Snapshot) = []
 
 -- what stands behind the separators at a text's beginning
@@ -60,9 +68,13 @@ item_for (Tell query) = Some (Query query)
 abbrev pub default_budget : ℕ
 default_budget = 1000000
 
--- what a run is given that is told nothing else
-abbrev pub default_settings : Settings
-default_settings = record { budget = default_budget; kept_versions = 1; moment = None }
+-- what a run is given that is told nothing else, with the seconds of its clock, where that tells them
+abbrev pub default_settings : Option ℕ → Settings
+default_settings moment = record { budget = default_budget; kept_versions = 1; moment = moment }
+
+-- what it asks is one thing: where it files out, the clock tells its seconds
+abbrev pub IsTimedCommand : Option ℕ → Command → Type 0
+IsTimedCommand moment command = IfSome (item_for command) (IsTimed (default_settings moment))
 
 -- it asks for something to be told, and no more
 abbrev pub IsAskingCommand : Command → Type 0

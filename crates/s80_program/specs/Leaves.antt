@@ -4,7 +4,6 @@ use Rattle.s80_change.specs.declared.change.Change.{Change}
 use Rattle.s80_disk.specs.Image.{Image}
 use Rattle.s80_disk.specs.Shown.{Shown}
 use Rattle.s80_keeper.specs.Standing.{ReadsFor}
-use Rattle.s80_model.specs.declared.reply.Reply.{Reply}
 use Rattle.s80_machine.specs.Came.{RanValue}
 use Rattle.s80_model.specs.declared.item.SessionItem.{SessionItem}
 use Rattle.s80_model.specs.Asked.{Ask, evaluates}
@@ -22,91 +21,80 @@ pub record StartsWith (may_leave : Image → Type 0) (o : Shown) (changes : List
   pub taken : o.taken ≡ Some before
   pub told : o.told ≡ length before
 
--- before the first item
-abbrev pub beginning : List Change → Work
-beginning changes = begun default_settings changes
+-- before the first item, with the seconds of the clock, where it tells them
+abbrev pub beginning : Option ℕ → List Change → Work
+beginning moment changes = begun (default_settings moment) changes
 
--- what a run leaves, by its status
-abbrev pub RunLeaves : Status → (Image → Type 0) → Shown → List Change → List ℕ → List ℕ → Type 0
-RunLeaves status.Done may_leave now changes input before = (ran : Option RanValue) × Finished may_leave now (beginning changes) input before false None ran
-RunLeaves status.DoneWithRefusals may_leave now changes input before = (ran : Option RanValue) × Finished may_leave now (beginning changes) input before true None ran
-RunLeaves status.Usage may_leave now changes input before = ⊥
-RunLeaves status.ReadFault may_leave now changes input before = CutOff may_leave now (beginning changes) input before
-RunLeaves status.WriteFault may_leave now changes input before = Unanswered may_leave now (beginning changes) input before
-RunLeaves status.DiskFault may_leave now changes input before = LostDisk may_leave now (beginning changes) input before
-RunLeaves status.Damaged may_leave now changes input before = ⊥
-RunLeaves status.OutOfMemory may_leave now changes input before = BrokeOff may_leave now (beginning changes) input before ⊎ Unevaluated may_leave now (beginning changes) input before
-RunLeaves status.InputTooLong may_leave now changes input before = TooLong may_leave now (beginning changes) input before
-
--- what is answered first, and the list afterwards
-abbrev pub first_reply : List Change → Ask → Reply
-first_reply changes ask = reply_to (beginning changes) ask
-
-abbrev pub list_after : List Change → Ask → List Change
-list_after changes ask = (work_after (beginning changes) ask).changes
-
--- an item asks this as the first
-abbrev pub AsksFirst : List Change → SessionItem → Ask → Type 0
-AsksFirst changes item ask = AsksIn (beginning changes) item ask
+-- what a run leaves of the work from which it begins, by its status
+abbrev pub RunLeaves : Status → (Image → Type 0) → Shown → Work → List ℕ → List ℕ → Type 0
+RunLeaves status.Done may_leave now work input before = (ran : Option RanValue) × Finished may_leave now work input before false None ran
+RunLeaves status.DoneWithRefusals may_leave now work input before = (ran : Option RanValue) × Finished may_leave now work input before true None ran
+RunLeaves status.Usage may_leave now work input before = ⊥
+RunLeaves status.ReadFault may_leave now work input before = CutOff may_leave now work input before
+RunLeaves status.WriteFault may_leave now work input before = Unanswered may_leave now work input before
+RunLeaves status.DiskFault may_leave now work input before = LostDisk may_leave now work input before
+RunLeaves status.Damaged may_leave now work input before = ⊥
+RunLeaves status.OutOfMemory may_leave now work input before = BrokeOff may_leave now work input before ⊎ Unevaluated may_leave now work input before
+RunLeaves status.InputTooLong may_leave now work input before = TooLong may_leave now work input before
 
 -- what one item asks was worked, and answered
-abbrev pub IsAnswered : (Image → Type 0) → Shown → List Change → Ask → List ℕ → Type 0
-IsAnswered may_leave now changes ask before = Answered may_leave now (beginning changes) before (ask ∷ [])
+abbrev pub IsAnswered : (Image → Type 0) → Shown → Work → Ask → List ℕ → Type 0
+IsAnswered may_leave now work ask before = Answered may_leave now work before (ask ∷ [])
 
 -- the doIt that an item asks to evaluate was kept, and memory was wanting to evaluate it
-abbrev pub IsUnevaluated : (Image → Type 0) → Shown → List Change → SessionItem → List ℕ → Type 0
-IsUnevaluated may_leave now changes item before =
-    (text : List ℕ) × (told : List ℕ) × (stopped : Bool) × AsksFirst changes item (evaluates text told stopped) × ShownFor may_leave now (list_after changes (evaluates text told stopped))
+abbrev pub IsUnevaluated : (Image → Type 0) → Shown → Work → SessionItem → List ℕ → Type 0
+IsUnevaluated may_leave now work item before =
+    (text : List ℕ) × (told : List ℕ) × (stopped : Bool) × AsksIn work item (evaluates text told stopped) × ShownFor may_leave now (work_after work (evaluates text told stopped)).changes
     × (now.taken ≡ Some before)
 
 -- what is left where one item is worked, by the status
-abbrev pub ItemLeaves : Status → (Image → Type 0) → Shown → List Change → SessionItem → List ℕ → Type 0
-ItemLeaves status.Done may_leave now changes item before =
-    (ask : Ask) × AsksFirst changes item ask × IsAnswered may_leave now changes ask before × (is_trouble (first_reply changes ask) ≡ false)
-ItemLeaves status.DoneWithRefusals may_leave now changes item before =
-    (ask : Ask) × AsksFirst changes item ask × IsAnswered may_leave now changes ask before × (is_trouble (first_reply changes ask) ≡ true)
-ItemLeaves status.Usage may_leave now changes item before = ⊥
-ItemLeaves status.ReadFault may_leave now changes item before = ⊥
-ItemLeaves status.WriteFault may_leave now changes item before =
-    (ask : Ask) × AsksFirst changes item ask × (count : ℕ) × ShownFor may_leave now (list_after changes ask)
-    × (now.taken ≡ Some (before ++ take count (reply_text (first_reply changes ask))))
-ItemLeaves status.DiskFault may_leave now changes item before = IsLost may_leave now before (IsPast (beginning changes) item)
-ItemLeaves status.Damaged may_leave now changes item before = ⊥
-ItemLeaves status.OutOfMemory may_leave now changes item before = Answered may_leave now (beginning changes) before [] ⊎ IsUnevaluated may_leave now changes item before
-ItemLeaves status.InputTooLong may_leave now changes item before = ⊥
+abbrev pub ItemLeaves : Status → (Image → Type 0) → Shown → Work → SessionItem → List ℕ → Type 0
+ItemLeaves status.Done may_leave now work item before =
+    (ask : Ask) × AsksIn work item ask × IsAnswered may_leave now work ask before × (is_trouble (reply_to work ask) ≡ false)
+ItemLeaves status.DoneWithRefusals may_leave now work item before =
+    (ask : Ask) × AsksIn work item ask × IsAnswered may_leave now work ask before × (is_trouble (reply_to work ask) ≡ true)
+ItemLeaves status.Usage may_leave now work item before = ⊥
+ItemLeaves status.ReadFault may_leave now work item before = ⊥
+ItemLeaves status.WriteFault may_leave now work item before =
+    (ask : Ask) × AsksIn work item ask × (count : ℕ) × ShownFor may_leave now (work_after work ask).changes
+    × (now.taken ≡ Some (before ++ take count (reply_text (reply_to work ask))))
+ItemLeaves status.DiskFault may_leave now work item before = IsLost may_leave now before (IsPast work item)
+ItemLeaves status.Damaged may_leave now work item before = ⊥
+ItemLeaves status.OutOfMemory may_leave now work item before = Answered may_leave now work before [] ⊎ IsUnevaluated may_leave now work item before
+ItemLeaves status.InputTooLong may_leave now work item before = ⊥
 
 -- what a command leaves, by the status: a run works the input, and each other command one item, and takes no input
-abbrev pub LeavesFor : Option SessionItem → Status → (Image → Type 0) → Shown → List Change → List ℕ → List ℕ → Type 0
-LeavesFor None status may_leave now changes input before = RunLeaves status may_leave now changes input before
-LeavesFor (Some item) status may_leave now changes input before = ItemLeaves status may_leave now changes item before × (now.left ≡ Some input)
+abbrev pub LeavesFor : Option SessionItem → Status → (Image → Type 0) → Shown → Work → List ℕ → List ℕ → Type 0
+LeavesFor None status may_leave now work input before = RunLeaves status may_leave now work input before
+LeavesFor (Some item) status may_leave now work input before = ItemLeaves status may_leave now work item before × (now.left ≡ Some input)
 
-abbrev pub Leaves : Command → Status → (Image → Type 0) → Shown → List Change → List ℕ → List ℕ → Type 0
+abbrev pub Leaves : Command → Status → (Image → Type 0) → Shown → Work → List ℕ → List ℕ → Type 0
 Leaves command = LeavesFor (item_for command)
 
 -- what a crash leaves at a moment at which so many bytes are told: files that stand for the list after the first items, up to one at least
 -- whose reply is among the bytes told
-abbrev pub KeepsFor : Option SessionItem → List Change → List ℕ → List ℕ → ℕ → Image → Type 0
-KeepsFor None changes input before told c = Keeps (beginning changes) input before told c
-KeepsFor (Some item) changes input before told c = StepLeaves (beginning changes) before item told c
+abbrev pub KeepsFor : Option SessionItem → Work → List ℕ → List ℕ → ℕ → Image → Type 0
+KeepsFor None work input before told c = Keeps work input before told c
+KeepsFor (Some item) work input before told c = StepLeaves work before item told c
 
-abbrev pub CommandKeeps : Command → List Change → List ℕ → List ℕ → ℕ → Image → Type 0
+abbrev pub CommandKeeps : Command → Work → List ℕ → List ℕ → ℕ → Image → Type 0
 CommandKeeps command = KeepsFor (item_for command)
 
 -- the same behind a run that was killed: until a byte more is told a crash may leave files that stand for the list before its last commit
-abbrev pub KilledKeeps : Command → List Change → List Change → List ℕ → List ℕ → ℕ → Image → Type 0
-KilledKeeps command changes was input before told c = HasKept was (length before) told c ⊎ CommandKeeps command changes input before told c
+abbrev pub KilledKeeps : Command → Work → List Change → List ℕ → List ℕ → ℕ → Image → Type 0
+KilledKeeps command work was input before told c = HasKept was (length before) told c ⊎ CommandKeeps command work input before told c
 
 -- all that a command asks
-abbrev pub AllAsksFor : Option SessionItem → List Change → List ℕ → List Ask → Type 0
-AllAsksFor None changes input all = AsksOf (beginning changes) input all
-AllAsksFor (Some item) changes input all = AllAsk (beginning changes) (item ∷ []) all
+abbrev pub AllAsksFor : Option SessionItem → Work → List ℕ → List Ask → Type 0
+AllAsksFor None work input all = AsksOf work input all
+AllAsksFor (Some item) work input all = AllAsk work (item ∷ []) all
 
-abbrev pub AllAsks : Command → List Change → List ℕ → List Ask → Type 0
+abbrev pub AllAsks : Command → Work → List ℕ → List Ask → Type 0
 AllAsks command = AllAsksFor (item_for command)
 
 -- these bytes were put behind those before, a front of the replies to this
-abbrev pub PutsFront : Option (List ℕ) → List Change → List ℕ → List Ask → Type 0
-PutsFront taken changes before asks = (put more : List ℕ) × (taken ≡ Some (before ++ put)) × (replies (beginning changes) asks ≡ put ++ more)
+abbrev pub PutsFront : Option (List ℕ) → Work → List ℕ → List Ask → Type 0
+PutsFront taken work before asks = (put more : List ℕ) × (taken ≡ Some (before ++ put)) × (replies work asks ≡ put ++ more)
 
 -- the input isn't too long for the command
 abbrev pub IsWithin : Command → List ℕ → Type 0

@@ -19,7 +19,7 @@ ghost use Rattle.s80_session.specs.Session.{keeper_of, last_run_of, troubled_of,
 ghost use Rattle.s80_session.specs.Working.{IsAt, IsReadable, StepLeaves};
 ghost use Rattle.s80_program.specs.Ending.{IsDiskEnd, NoFault, StatusHasReason, status_after, IsWhole};
 ghost use Rattle.s80_program.specs.Leaves.{StartsWith, Leaves, RunLeaves, ItemLeaves, CommandKeeps, KilledKeeps, AllAsks, IsWithin, PutsFront, TellsDamage, beginning};
-ghost use Rattle.s80_program.specs.Command.{Command, IsAskingCommand, IsUseful, behind_separators, item_for};
+ghost use Rattle.s80_program.specs.Command.{Command, IsAskingCommand, IsTimedCommand, IsUseful, behind_separators, item_for};
 ghost use Rattle.s80_program.specs.Words.{Asks};
 ghost use Rattle.s80_program.specs.Task.{command_of};
 
@@ -29,7 +29,7 @@ use crate::words::{Task, behind_separators, request_of};
 use s80_base::{OutOfMemory, Text};
 use s80_chunk::{Item, LONGEST, Role};
 use s80_disk::Outside;
-use s80_model::{Query, SessionItem, one_ask};
+use s80_model::{Filed, Query, SessionItem, one_ask};
 use s80_session::{Session, SessionEnd};
 use std::alloc::Global;
 
@@ -40,6 +40,7 @@ const DEFAULT_BUDGET: u64 = 1_000_000;
 /// method or a doIt in the folder, on the disk, and then answers it: a doIt with what it wrote and what it comes to, and else by a line.
 /// `do TEXT` does so with one text; `classes` names all classes, `browse NAME` shows one, `source SPEC SELECTOR` shows a method and
 /// `versions SPEC SELECTOR` all that it has been, `changes` lists the change set, `recover` says how much there is, and `snapshot` keeps a note.
+/// `file-out`, `file-out-class NAME` and `file-out-set` write all classes, one and the change set as a file that `run` takes.
 pub fn st80<O: Outside>(alloc: Global, words: &[Text], outside: &mut O) -> Status
     // Bad usage is answered exactly where the words ask for nothing, and then the outside isn't called.
     ensures usage { result ≡ Status.Usage
@@ -53,7 +54,7 @@ pub fn st80<O: Outside>(alloc: Global, words: &[Text], outside: &mut O) -> Statu
     ensures leaves { (folder : List ℕ) (command : Command) (changes : List Change) (input before : List ℕ)
         → Asks words.now folder command
         → StartsWith (O.may_leave outside.old) (O.shown outside.old) changes input before
-        → Leaves command result (O.may_leave outside.new) (O.shown outside.new) changes input before }
+        → Leaves command result (O.may_leave outside.new) (O.shown outside.new) (beginning (O.shown outside.old).seconds changes) input before }
 
     // A crash at any moment, inside a write too, leaves files that stand for the list after the first items, and no change is lost that
     // was answered by then.
@@ -61,21 +62,22 @@ pub fn st80<O: Outside>(alloc: Global, words: &[Text], outside: &mut O) -> Statu
         → Asks words.now folder command
         → StartsWith (O.may_leave outside.old) (O.shown outside.old) changes input before
         → ShownFor (O.may_leave outside.old) (O.shown outside.old) changes
-        → LeavesOnly O.moment O.left_since outside.old outside.new (CommandKeeps command changes input before) }
+        → LeavesOnly O.moment O.left_since outside.old outside.new (CommandKeeps command (beginning (O.shown outside.old).seconds changes) input before) }
 
     // So it is behind a run that was killed as it committed: its disk reads for the list, and a crash might leave that list or the one before.
     ensures killed { (folder : List ℕ) (command : Command) (changes was : List Change) (input before : List ℕ)
         → Asks words.now folder command
         → StartsWith (O.may_leave outside.old) (O.shown outside.old) changes input before
         → ((c : FileId → List ℕ) → O.may_leave outside.old c → FilesStandFor c changes ⊎ FilesStandFor c was)
-        → LeavesOnly O.moment O.left_since outside.old outside.new (KilledKeeps command changes was input before) }
+        → LeavesOnly O.moment O.left_since outside.old outside.new (KilledKeeps command (beginning (O.shown outside.old).seconds changes) was input before) }
 
-    // However it ends, what it wrote is a front of the replies to all that the command asks.
+    // However it ends, what it wrote is a front of the replies to all that the command asks, if the clock tells its seconds to one that files out.
     ensures front { (folder : List ℕ) (command : Command) (changes : List Change) (input before : List ℕ) (asks : List Ask)
         → Asks words.now folder command
         → StartsWith (O.may_leave outside.old) (O.shown outside.old) changes input before
-        → AllAsks command changes input asks
-        → PutsFront (O.shown outside.new).taken changes before asks }
+        → IsTimedCommand (O.shown outside.old).seconds command
+        → AllAsks command (beginning (O.shown outside.old).seconds changes) input asks
+        → PutsFront (O.shown outside.new).taken (beginning (O.shown outside.old).seconds changes) before asks }
 
     // With no fault and an input within the limit it comes to the end, or is out of memory.
     ensures complete { (folder : List ℕ) (command : Command) (changes : List Change) (input before : List ℕ)
@@ -118,15 +120,15 @@ fn work<O: Outside>(
     requires { IsUseful (command_of task) }
     ensures worked { (changes : List Change) (input before : List ℕ)
         → StartsWith (O.may_leave outside.old) (O.shown outside.old) changes input before
-        → Leaves (command_of task.entry) (status_after result) (O.may_leave outside.new) (O.shown outside.new) changes input before }
+        → Leaves (command_of task.entry) (status_after result) (O.may_leave outside.new) (O.shown outside.new) (beginning (O.shown outside.old).seconds changes) input before }
     ensures any_moment { (changes : List Change) (input before : List ℕ)
         → StartsWith (O.may_leave outside.old) (O.shown outside.old) changes input before
         → ShownFor (O.may_leave outside.old) (O.shown outside.old) changes
-        → LeavesOnly O.moment O.left_since outside.old outside.new (CommandKeeps (command_of task.entry) changes input before) }
+        → LeavesOnly O.moment O.left_since outside.old outside.new (CommandKeeps (command_of task.entry) (beginning (O.shown outside.old).seconds changes) input before) }
     ensures killed { (changes was : List Change) (input before : List ℕ)
         → StartsWith (O.may_leave outside.old) (O.shown outside.old) changes input before
         → ((c : FileId → List ℕ) → O.may_leave outside.old c → FilesStandFor c changes ⊎ FilesStandFor c was)
-        → LeavesOnly O.moment O.left_since outside.old outside.new (KilledKeeps (command_of task.entry) changes was input before) }
+        → LeavesOnly O.moment O.left_since outside.old outside.new (KilledKeeps (command_of task.entry) (beginning (O.shown outside.old).seconds changes) was input before) }
     ensures asked { IsAskingCommand (command_of task.entry)
         → (file : FileId) → file ≢ Mark → (O.shown outside.new).files file ≡ (O.shown outside.old).files file }
     ensures marked { IsAskingCommand (command_of task.entry) → IsTrue (O.shown outside.old).tells → 0 < longer_log (O.shown outside.old).files
@@ -168,11 +170,11 @@ fn do_task<O: Outside>(
     requires useful { IsUseful (command_of task) }
     ensures worked { (changes : List Change) (input before : List ℕ) → (O.shown outside.old).left ≡ Some input
         → troubled_of session.old ≡ false → last_run_of session.old ≡ None
-        → IsAt (O.may_leave outside.old) (O.shown outside.old) session.old (beginning changes) before
-        → Leaves (command_of task.entry) (status_after result) (O.may_leave outside.new) (O.shown outside.new) changes input before }
+        → IsAt (O.may_leave outside.old) (O.shown outside.old) session.old (beginning (O.shown outside.old).seconds changes) before
+        → Leaves (command_of task.entry) (status_after result) (O.may_leave outside.new) (O.shown outside.new) (beginning (O.shown outside.old).seconds changes) input before }
     ensures any_moment { (changes : List Change) (input before : List ℕ) → (O.shown outside.old).left ≡ Some input
-        → IsAt (O.may_leave outside.old) (O.shown outside.old) session.old (beginning changes) before
-        → LeavesOnly O.moment O.left_since outside.old outside.new (CommandKeeps (command_of task.entry) changes input before) }
+        → IsAt (O.may_leave outside.old) (O.shown outside.old) session.old (beginning (O.shown outside.old).seconds changes) before
+        → LeavesOnly O.moment O.left_since outside.old outside.new (CommandKeeps (command_of task.entry) (beginning (O.shown outside.old).seconds changes) input before) }
     ensures asked { IsAskingCommand (command_of task.entry) → (file : FileId) → (O.shown outside.new).files file ≡ (O.shown outside.old).files file }
     ensures sound { IsTrue (O.shown outside.old).tells → (changes : List Change) → Knows (O.shown outside.old).files (keeper_of session.old) changes → MeetsNoDamage result }
     ensures counts { SourceCounts (O.faults outside.old) (O.faults outside.new) result }
@@ -198,6 +200,9 @@ fn item_for(alloc: Global, task: Task<'_>) -> Result<Option<SessionItem>, OutOfM
         Task::Source(spec, selector) => Query::Source(spec.copy(alloc)?, selector.copy(alloc)?),
         Task::Versions(spec, selector) => Query::Versions(spec.copy(alloc)?, selector.copy(alloc)?),
         Task::Changes => Query::Changes,
+        Task::FileOut => Query::FileOut(Filed::All),
+        Task::FileOutClass(name) => Query::FileOut(Filed::Class(name.copy(alloc)?)),
+        Task::FileOutSet => Query::FileOut(Filed::Set),
         Task::Snapshot => Query::Snapshot,
     };
     Ok(Some(SessionItem::Query(query)))
@@ -228,11 +233,11 @@ fn run_input<O: Outside>(
     requires resting { IsResting session.old }
     ensures worked { (changes : List Change) (input before : List ℕ) → (O.shown outside.old).left ≡ Some input
         → troubled_of session.old ≡ false → last_run_of session.old ≡ None
-        → IsAt (O.may_leave outside.old) (O.shown outside.old) session.old (beginning changes) before
-        → RunLeaves (status_after result) (O.may_leave outside.new) (O.shown outside.new) changes input before }
+        → IsAt (O.may_leave outside.old) (O.shown outside.old) session.old (beginning (O.shown outside.old).seconds changes) before
+        → RunLeaves (status_after result) (O.may_leave outside.new) (O.shown outside.new) (beginning (O.shown outside.old).seconds changes) input before }
     ensures any_moment { (changes : List Change) (input before : List ℕ) → (O.shown outside.old).left ≡ Some input
-        → IsAt (O.may_leave outside.old) (O.shown outside.old) session.old (beginning changes) before
-        → LeavesOnly O.moment O.left_since outside.old outside.new (Keeps (beginning changes) input before) }
+        → IsAt (O.may_leave outside.old) (O.shown outside.old) session.old (beginning (O.shown outside.old).seconds changes) before
+        → LeavesOnly O.moment O.left_since outside.old outside.new (Keeps (beginning (O.shown outside.old).seconds changes) input before) }
     ensures counts { Counts (O.faults outside.old) (O.faults outside.new) result }
 {
     session.run_items(alloc, outside)?;
@@ -249,11 +254,11 @@ fn answer_item<O: Outside>(
     requires resting { IsResting session.old }
     requires readable { IsReadable item }
     ensures worked { (changes : List Change) (before : List ℕ) → troubled_of session.old ≡ false
-        → IsAt (O.may_leave outside.old) (O.shown outside.old) session.old (beginning changes) before
-        → ItemLeaves (status_after result) (O.may_leave outside.new) (O.shown outside.new) changes item before }
+        → IsAt (O.may_leave outside.old) (O.shown outside.old) session.old (beginning (O.shown outside.old).seconds changes) before
+        → ItemLeaves (status_after result) (O.may_leave outside.new) (O.shown outside.new) (beginning (O.shown outside.old).seconds changes) item before }
     ensures any_moment { (changes : List Change) (before : List ℕ)
-        → IsAt (O.may_leave outside.old) (O.shown outside.old) session.old (beginning changes) before
-        → LeavesOnly O.moment O.left_since outside.old outside.new (StepLeaves (beginning changes) before item) }
+        → IsAt (O.may_leave outside.old) (O.shown outside.old) session.old (beginning (O.shown outside.old).seconds changes) before
+        → LeavesOnly O.moment O.left_since outside.old outside.new (StepLeaves (beginning (O.shown outside.old).seconds changes) before item) }
     ensures asked { IsAsking item → (file : FileId) → (O.shown outside.new).files file ≡ (O.shown outside.old).files file }
     ensures left { (O.shown outside.new).left ≡ (O.shown outside.old).left }
     ensures sound { IsTrue (O.shown outside.old).tells → (changes : List Change) → Knows (O.shown outside.old).files (keeper_of session.old) changes → MeetsNoDamage result }

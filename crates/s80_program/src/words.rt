@@ -25,6 +25,12 @@ pub(crate) enum Task<'w> {
     Versions(&'w Text, &'w Text),
     /// Lists the change set.
     Changes,
+    /// Files out all classes.
+    FileOut,
+    /// Files out the class of this name.
+    FileOutClass(&'w Text),
+    /// Files out the change set.
+    FileOutSet,
     /// Keeps the note of a snapshot.
     Snapshot,
 }
@@ -79,6 +85,12 @@ fn task_alone(word: &Text) -> Option<Task<'_>>
     if bytes == b"changes".as_slice() {
         return Some(Task::Changes);
     }
+    if bytes == b"file-out".as_slice() {
+        return Some(Task::FileOut);
+    }
+    if bytes == b"file-out-set".as_slice() {
+        return Some(Task::FileOutSet);
+    }
     if bytes == b"snapshot".as_slice() {
         return Some(Task::Snapshot);
     }
@@ -95,6 +107,9 @@ fn task_on<'w>(word: &Text, name: &'w Text) -> Option<Task<'w>>
     }
     if word.bytes() == b"browse".as_slice() {
         return Some(Task::Browse(name));
+    }
+    if word.bytes() == b"file-out-class".as_slice() {
+        return Some(Task::FileOutClass(name));
     }
     if word.bytes() == b"do".as_slice() && !behind_separators(name).is_empty() {
         return Some(Task::Do(name));

@@ -8,17 +8,17 @@ use Rattle.s80_program.proofs.program.answer_item.Goals as goal
 pub returns-in_err-step-clause-worked : goal.returns-in_err-step-clause-worked
 returns-in_err-step-clause-worked g c = λ changes before calm at.
     let p = err_from_is_err_and c.from_residual.result c.from_residual.ensures.1 in
-    rw (p.1, p.2) (item_ended (Unit {0}) _ (g.O.Disk.may_leave c.step.new.outside) (g.O.Outside.shown c.step.new.outside) _ (was_of c.args.session.now) changes c.args.item before (c.in_err-step.ensures.stepped (beginning changes) before c.requires.readable at))
+    rw (p.1, p.2) (item_ended (Unit {0}) _ (g.O.Disk.may_leave c.step.new.outside) (g.O.Outside.shown c.step.new.outside) _ (was_of c.args.session.now) (beginning (g.O.Outside.shown c.args.outside.now).seconds changes) c.args.item before (c.in_err-step.ensures.stepped (beginning (g.O.Outside.shown c.args.outside.now).seconds changes) before c.requires.readable at))
 
 pub returns-clause-worked : goal.returns-clause-worked
 returns-clause-worked g c = λ changes before calm at.
-    rw c.troubled.ensures (item_done (g.O.Disk.may_leave c.step.new.outside) (g.O.Outside.shown c.step.new.outside) _ (was_of c.args.session.now) changes c.args.item before (c.in_ok-step.ensures.stepped (beginning changes) before c.requires.readable at) calm)
+    rw c.troubled.ensures (item_done (g.O.Disk.may_leave c.step.new.outside) (g.O.Outside.shown c.step.new.outside) _ (was_of c.args.session.now) (beginning (g.O.Outside.shown c.args.outside.now).seconds changes) c.args.item before (c.in_ok-step.ensures.stepped (beginning (g.O.Outside.shown c.args.outside.now).seconds changes) before c.requires.readable at) calm)
 
 pub returns-clause-any_moment : goal.returns-clause-any_moment
-returns-clause-any_moment g c = λ changes before at. c.step.ensures.any_moment (beginning changes) before c.requires.readable at
+returns-clause-any_moment g c = λ changes before at. c.step.ensures.any_moment (beginning (g.O.Outside.shown c.args.outside.now).seconds changes) before c.requires.readable at
 
 pub returns-in_err-step-clause-any_moment : goal.returns-in_err-step-clause-any_moment
-returns-in_err-step-clause-any_moment g c = λ changes before at. c.step.ensures.any_moment (beginning changes) before c.requires.readable at
+returns-in_err-step-clause-any_moment g c = λ changes before at. c.step.ensures.any_moment (beginning (g.O.Outside.shown c.args.outside.now).seconds changes) before c.requires.readable at
 
 pub returns-in_err-step-clause-sound : goal.returns-in_err-step-clause-sound
 returns-in_err-step-clause-sound g c = λ tells changes knows.
