@@ -22,7 +22,7 @@ use Rattle.s80_apply.specs.System.{IsSystemOf, SystemState}
 use Rattle.s80_fileout.specs.Condensed.{as_change, by_category, categories, class_vars_of, classified, comment_of, defined, filed, for_classes, for_methods, is_on, is_own_at, kernel_category, kernel_part, of_kernel_class, of_method, of_own_class, over_kernels, own_part, removals, up_to}
 use Rattle.s80_fileout.specs.Order.{by_row, class_made, kernel_class, made_by, methods_in, own_class}
 use Rattle.s80_fileout.proofs.Depths.{deep, no_longer}
-use Rattle.s80_fileout.proofs.Elements.{IsIn, flat_none}
+use Rattle.s80_fileout.proofs.Elements.{flat_none}
 use Rattle.s80_fileout.proofs.Keyed.{by_found, got_key, key_got, keys_apart, no_value, other_bytes, same_bytes}
 use Rattle.s80_fileout.proofs.KeptOnce.{filter_flat, flat_only}
 use Rattle.s80_fileout.proofs.Looked.{pieces_by_keys}

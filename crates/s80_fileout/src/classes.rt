@@ -45,7 +45,7 @@ pub(crate) fn add_class(
     }
 }
 
-/// The same of a class of the kernel's.
+/// The same, of a class of the kernel's.
 fn add_class_of_kernel(
     alloc: Global,
     system: &System,
