@@ -1,31 +1,60 @@
 // Lists of changes: as files, and as the shortest lists that make their states.
+use crate::systems::{filed_of, shortest_of};
 use anyhow::{Context, Result, bail, ensure};
-use s80_apply::{System, boot};
-use s80_base::{OutOfMemory, Text};
-use s80_change::{Changes, FirstBlock, Refused, block_text, first_block};
-use s80_fileout::{canon, render};
-use s80_print::refusal_text;
+use s80_base::Text;
+use s80_change::{Changes, FirstBlock, block_text, first_block};
+use s80_fileout::render;
 use s80_rows::bytes;
 use std::alloc::Global;
 
 /// The text of a file of changes: the seconds at which they are filed out, and their blocks.
 pub(crate) fn file(alloc: Global, rest: &str) -> Result<Text> {
     let (seconds, blocks) = rest.split_once(' ').context("no seconds")?;
-    let seconds: u64 = seconds.parse().with_context(|| seconds)?;
-    Ok(render(alloc, &changes_of(alloc, blocks)?, seconds)?)
+    file_at(alloc, &changes_of(alloc, blocks)?, seconds)
+}
+
+/// The text of a file of one class: its name, the seconds, and the blocks of the changes behind which it is filed out.
+pub(crate) fn file_on(alloc: Global, rest: &str) -> Result<Text> {
+    let (class_name, rest) = rest.split_once(' ').context("no class")?;
+    let (seconds, blocks) = rest.split_once(' ').context("no seconds")?;
+    file_at(alloc, &filed(alloc, class_name, blocks)?, seconds)
+}
+
+/// The changes of a file of one class, a block a line: the name of the class, and the blocks of the changes behind which it is filed out.
+pub(crate) fn filed_on(alloc: Global, rest: &str) -> Result<Text> {
+    let (class_name, blocks) = rest.split_once(' ').context("no class")?;
+    lines_of(alloc, &filed(alloc, class_name, blocks)?)
 }
 
 /// The shortest list that makes the state of these blocks, a block a line. That of the state that it makes is the same again.
 pub(crate) fn shortest(alloc: Global, rest: &str) -> Result<Text> {
-    let system = system_of(alloc, &changes_of(alloc, rest)?)?;
-    let list = canon(alloc, &system)?;
-    let lines = lines_of(alloc, &list)?;
-    let again = canon(alloc, &system_of(alloc, &list)?)?;
+    let list = shortest_of(alloc, &changes_of(alloc, rest)?)?;
+    lines_that_stay(alloc, &list)
+}
+
+/// The lines of a list that is the shortest of the state that it makes.
+fn lines_that_stay(alloc: Global, list: &Changes) -> Result<Text> {
+    let lines = lines_of(alloc, list)?;
     ensure!(
-        lines_of(alloc, &again)?.bytes() == lines.bytes(),
+        lines_again(alloc, list)?.bytes() == lines.bytes(),
         "its own shortest list is another"
     );
     Ok(lines)
+}
+
+fn lines_again(alloc: Global, list: &Changes) -> Result<Text> {
+    lines_of(alloc, &shortest_of(alloc, list)?)
+}
+
+/// The changes of a file of one class behind these blocks.
+fn filed(alloc: Global, class_name: &str, blocks: &str) -> Result<Changes> {
+    let changes = changes_of(alloc, blocks)?;
+    filed_of(alloc, &changes, &bytes::read(alloc, class_name)?)
+}
+
+fn file_at(alloc: Global, changes: &Changes, seconds: &str) -> Result<Text> {
+    let seconds: u64 = seconds.parse().with_context(|| seconds)?;
+    Ok(render(alloc, changes, seconds)?)
 }
 
 /// The blocks of changes, each on a line of its own as rows spell it.
@@ -54,26 +83,4 @@ fn changes_of(alloc: Global, spelled: &str) -> Result<Changes> {
         rest = rest.get(length..).context("a block passes the end")?;
     }
     Ok(changes)
-}
-
-/// The system that changes make of the kernel's.
-fn system_of(alloc: Global, changes: &Changes) -> Result<System> {
-    let mut system = boot(alloc)?;
-    for i in 0..changes.count() {
-        let change = changes.at(i);
-        let block = block_text(alloc, change)?;
-        match system.prepare(alloc, change) {
-            Ok(step) => system.install(step, 0),
-            Err(Refused::Memory) => return Err(OutOfMemory.into()),
-            Err(Refused::Refusal(refusal)) => {
-                let text = refusal_text(alloc, &refusal)?;
-                bail!(
-                    "{}: {}",
-                    std::str::from_utf8(block.bytes())?,
-                    std::str::from_utf8(text.bytes())?
-                );
-            }
-        }
-    }
-    Ok(system)
 }

@@ -1,8 +1,9 @@
-//! Reads rows from standard input and prints behind each the text of a file of changes, or the shortest list that makes the state of a list of
-//! changes. What it is given and what it prints are tables of the repository's tests.
+//! Reads rows from standard input and prints behind each the text of a file of changes, the shortest list that makes the state of a list of
+//! changes, or what a file of one class has. What it is given and what it prints are tables of the repository's tests.
 #![tactic(auto)]
 
 mod lists;
+mod systems;
 
 use anyhow::{Context, Result, bail};
 use s80_base::Text;
@@ -13,6 +14,8 @@ use std::alloc::Global;
 fn answer(alloc: Global, word: &str, rest: &str) -> Result<Text> {
     match word {
         "file" => lists::file(alloc, rest),
+        "file_on" => lists::file_on(alloc, rest),
+        "filed_on" => lists::filed_on(alloc, rest),
         "shortest" => lists::shortest(alloc, rest),
         _ => bail!("no row: {word}"),
     }

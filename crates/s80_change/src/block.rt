@@ -111,18 +111,19 @@ fn has_no_form(alloc: Global, text: &Text) -> Result<bool, OutOfMemory>
     ensures { IfOk result (λ none. MatchBool none (IsNoFormText text.now) (IsNoFormText text.now → ⊥)) }
 {
     match parse_doit(alloc, text) {
-        Ok(tree) => is_evaluated(alloc, &tree),
+        Ok(tree) => is_kept(alloc, &tree),
         Err(ParseFault::Memory) => Err(OutOfMemory),
         Err(_) => Ok(true),
     }
 }
 
-/// Whether a tree has none of these forms.
-fn is_evaluated(alloc: Global, tree: &DoItTree) -> Result<bool, OutOfMemory>
+/// Whether a tree has none of these forms. One that asks to condense has none, and is kept.
+fn is_kept(alloc: Global, tree: &DoItTree) -> Result<bool, OutOfMemory>
     ensures { IfOk result (λ none. MatchBool none (IsNoForm (doit_of tree.now)) (IsNoForm (doit_of tree.now) → ⊥)) }
 {
     match recognise(alloc, tree)? {
         Recognised::Form(_) => Ok(false),
+        Recognised::Condense => Ok(true),
         Recognised::Snapshot => Ok(false),
         Recognised::Evaluate => Ok(true),
     }

@@ -22,7 +22,7 @@ pub use check::{fitting_doit, one_check, sources_have_selectors, syntax_refusal}
 pub use first::{FirstBlock, first_block};
 pub use framing::Framing;
 pub use head::{HeadFault, SectionHead, head_of, one_head};
-pub use laws::measures_are_told;
+pub use laws::{a_condensing_is_a_doit, measures_are_told};
 pub use logged_head::{a_head_text_is_a_head, head_text, one_head_text, read_head};
 pub use s80_form::{
     Definition, FitWord, Form, Kind, ManyKind, Recognised, Refusal, Refused, SyntaxKind, recognise,

@@ -162,13 +162,13 @@ never_met (suc n) depth cs more =
     let differs : (depth == suc n) ≡ false = grind (arith, nat_tests) in
     last_depth n depth cs ∙ (λ i. never_met n depth cs (omega (arith, more)) i ++ cond (differs i) cs [])
 
+met_by : (n depth : ℕ) (cs : List Change) → depth ≤ suc n → (depth ≤ n → at_depths n depth cs ≡ cs) → (b : Bool) → (depth == suc n) ≡ b → at_depths n depth cs ++ cond b cs [] ≡ cs
+met_by n depth cs most earlier true is = let last : depth ≡ suc n = grind (arith, nat_tests) in ap (λ l. l ++ cs) (never_met n depth cs (omega (arith, last)))
+met_by n depth cs most earlier false isnt = let within : depth ≤ n = grind (arith, nat_tests) in append-nil (at_depths n depth cs) ∙ earlier within
+
 met_once : (n depth : ℕ) (cs : List Change) → 0 < depth → depth ≤ n → at_depths n depth cs ≡ cs
 met_once zero depth cs some most = absurd (omega (arith, some, most))
-met_once (suc n) depth cs some most = last_depth n depth cs ∙ go (depth == suc n) refl
-  where
-    go : (b : Bool) → (depth == suc n) ≡ b → at_depths n depth cs ++ cond b cs [] ≡ cs
-    go true is = let last : depth ≡ suc n = grind (arith, nat_tests) in ap (λ l. l ++ cs) (never_met n depth cs (omega (arith, last)))
-    go false isnt = let within : depth ≤ n = grind (arith, nat_tests) in append-nil (at_depths n depth cs) ∙ met_once n depth cs some within
+met_once (suc n) depth cs some most = last_depth n depth cs ∙ met_by n depth cs most (met_once n depth cs some) (depth == suc n) refl
 
 module _ (state : State) (name : Name) where
   abbrev at_depth : ℕ → Name → ClassRow → List Change

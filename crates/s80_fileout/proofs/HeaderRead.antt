@@ -1,6 +1,5 @@
 -- The first line of a file of changes is read as a doIt.
 use Rattle.std.proofs.Common.{◌≡◌, ◌≢◌, ℕ, ◌+◌, ◌<◌, true, false, true≢false, codes, All, List, [], ◌∷◌, ◌++◌, length, None, refl, sym, ap, subst, ◌∙◌, append_assoc, arith}
-use Rattle.std.proofs.lemmas.Bool.{ne_eqb}
 use Rattle.std.proofs.lemmas.Grind.{flat_map-append}
 use Rattle.jiff_core.specs.declared.civil.datetime.DateTime.{DateTime}
 use Rattle.s80_chunk.specs.declared.item.Item.TheVariants as items
@@ -14,26 +13,7 @@ use Rattle.s80_fileout.specs.Items.{header_text, items_from, IsReadAs, IsShort}
 use Rattle.s80_fileout.specs.Moment.{civil_text}
 use Rattle.s80_fileout.proofs.FileRead.{changes_read, ends_at_top, one_more}
 use Rattle.s80_fileout.proofs.FiledTexts.{all_readable}
-
--- without marks a text is spelled as it is
-abbrev HasNoMarks : List ℕ → Type 0
-HasNoMarks [] = Unit {0}
-HasNoMarks (b ∷ text) = (b ≢ mark) × HasNoMarks text
-
-spell_same : (text : List ℕ) → HasNoMarks text → spell text ≡ text
-spell_same [] none = refl
-spell_same (b ∷ text) none = rw (ne_eqb b mark none.0) (ap (λ l. b ∷ l) (spell_same text none.1))
-
-digit : (n : ℕ) → 48 + n ≢ mark
-digit n e = omega (arith, e)
-
--- one of the bytes between the digits
-other : (b : ℕ) → mark < b → b ≢ mark
-other b more e = omega (arith, more, e)
-
-moment_has_none : (dt : DateTime) → HasNoMarks (civil_text dt)
-moment_has_none dt =
-    (digit _, (digit _, (digit _, (digit _, (other 45 (omega arith), (digit _, (digit _, (other 45 (omega arith), (digit _, (digit _, (other 84 (omega arith), (digit _, (digit _, (other 58 (omega arith), (digit _, (digit _, (other 58 (omega arith), (digit _, (digit _, (other 90 (omega arith), tt))))))))))))))))))))
+use Rattle.s80_fileout.proofs.lemmas.MomentBytes.{doubled_same, moment_lacks}
 
 module _ (dt : DateTime) where
   abbrev moment : List ℕ
@@ -42,13 +22,13 @@ module _ (dt : DateTime) where
   spelled : spell (header_text moment) ≡ header_text moment
   spelled =
       let first = codes "'From Smalltalk-80, filed out " in
-      flat_map-append spell_byte first (moment ++ 39 ∷ []) ∙ ap (λ l. first ++ l) (flat_map-append spell_byte moment (39 ∷ []) ∙ ap (λ l. l ++ 39 ∷ []) (spell_same moment (moment_has_none dt)))
+      flat_map-append spell_byte first (moment ++ 39 ∷ []) ∙ ap (λ l. first ++ l) (flat_map-append spell_byte moment (39 ∷ []) ∙ ap (λ l. l ++ 39 ∷ []) (doubled_same mark moment (moment_lacks mark (omega arith) dt)))
 
   header_chunk : header moment ≡ chunk (header_text moment) ++ 10 ∷ []
   header_chunk = sym (ap (λ l. (l ++ mark ∷ []) ++ 10 ∷ []) spelled)
 
   header_plain : IsPlainText (header_text moment)
-  header_plain = (λ e. true≢false (sym e), other 39 (omega arith), let size : length (header_text moment) ≡ 51 = refl in omega (arith, size))
+  header_plain = (λ e. true≢false (sym e), λ e. let bad : 39 ≡ 33 = e in omega (arith, bad), let size : length (header_text moment) ≡ 51 = refl in omega (arith, size))
 
   header_read : (changes : List Change) → All IsLawful changes → All IsShort changes → IsReadAs (header moment ++ changes_text changes) moment changes
   header_read changes lawful short =

@@ -1,3 +1,4 @@
+pub mod lemmas
 mod Listed
 pub mod Elements
 pub mod Keyed

@@ -39,11 +39,23 @@ pub(crate) fn add_class(
     ensures { (state : State) → IsSystemOf system.now state → OnOk result (changes.new ≡ changes.old ++ class_made state class_name.now) }
 {
     if is_kernel_class(class_name.bytes()) {
-        let kernel = boot(alloc)?;
-        add_kernel_class(alloc, &kernel, system, class_name, changes)
+        add_class_of_kernel(alloc, system, class_name, changes)
     } else {
         add_own_class(alloc, system.classes(), class_name, changes)
     }
+}
+
+/// The same of a class of the kernel's.
+fn add_class_of_kernel(
+    alloc: Global,
+    system: &System,
+    class_name: &Text,
+    changes: &mut Changes,
+) -> Result<(), OutOfMemory>
+    ensures { (state : State) → IsSystemOf system.now state → OnOk result (changes.new ≡ changes.old ++ kernel_class state class_name.now) }
+{
+    let kernel = boot(alloc)?;
+    add_kernel_class(alloc, &kernel, system, class_name, changes)
 }
 
 /// Adds what makes the classes of the kernel.

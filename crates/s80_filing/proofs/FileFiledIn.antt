@@ -1,6 +1,5 @@
 -- A whole file of changes, filed in.
 use Rattle.std.proofs.Common.{◌≡◌, ◌≢◌, ℕ, ◌+◌, ◌<◌, ◌≤◌, codes, flat_map, map, List, [], ◌∷◌, ◌++◌, length, length-append, None, Result, Ok, refl, sym, ap, subst, ◌∙◌, arith}
-use Rattle.std.proofs.lemmas.Bool.{ne_eqb}
 use Rattle.std.proofs.lemmas.Grind.{flat_map-append}
 use Rattle.jiff_core.specs.declared.civil.datetime.DateTime.{DateTime}
 use Rattle.s80_lex.specs.Spelling.{doubled, quoted}
@@ -20,29 +19,12 @@ use Rattle.s80_model.specs.Asked.{Ask, evaluates, AsksPlain}
 use Rattle.s80_model.specs.Replies.{AllAsk, Work, list_after_all, list_or, work_after}
 use Rattle.s80_fileout.specs.Items.{header_text, items_from, IsReadAs}
 use Rattle.s80_fileout.specs.Moment.{civil_text, IsMoment}
+use Rattle.s80_fileout.proofs.lemmas.MomentBytes.{doubled_same, moment_lacks}
 use Rattle.s80_filing.specs.Filing.{BytesLeadTo, CanFile, LeadsTo, headed}
-use Rattle.s80_filing.proofs.FiledIn.{added_ok, filed_in, OneAsk}
+use Rattle.s80_filing.proofs.FiledIn.{added_ok, filed_in, front_within, OneAsk}
 use Rattle.s80_filing.proofs.HeaderAsked.{asks_evaluation}
 
 -- ---- the first line as a string
-
-abbrev HasNoQuotes : List ℕ → Type 0
-HasNoQuotes [] = Unit {0}
-HasNoQuotes (b ∷ text) = (b ≢ 39) × HasNoQuotes text
-
-doubled_same : (text : List ℕ) → HasNoQuotes text → flat_map (doubled 39) text ≡ text
-doubled_same [] none = refl
-doubled_same (b ∷ text) none = rw (ne_eqb b 39 none.0) (ap (λ l. b ∷ l) (doubled_same text none.1))
-
-digit : (n : ℕ) → 48 + n ≢ 39
-digit n e = omega (arith, e)
-
-other : (b : ℕ) → 39 < b → b ≢ 39
-other b more e = omega (arith, more, e)
-
-moment_has_none : (dt : DateTime) → HasNoQuotes (civil_text dt)
-moment_has_none dt =
-    (digit _, (digit _, (digit _, (digit _, (other 45 (omega arith), (digit _, (digit _, (other 45 (omega arith), (digit _, (digit _, (other 84 (omega arith), (digit _, (digit _, (other 58 (omega arith), (digit _, (digit _, (other 58 (omega arith), (digit _, (digit _, (other 90 (omega arith), tt))))))))))))))))))))
 
 abbrev inner : DateTime → List ℕ
 inner dt = codes "From Smalltalk-80, filed out " ++ civil_text dt
@@ -50,14 +32,9 @@ inner dt = codes "From Smalltalk-80, filed out " ++ civil_text dt
 header_quoted : (dt : DateTime) → header_text (civil_text dt) ≡ quoted 39 (inner dt)
 header_quoted dt =
     let first = codes "From Smalltalk-80, filed out " in
-    sym (ap (λ l. 39 ∷ (l ++ 39 ∷ [])) (flat_map-append (doubled 39) first (civil_text dt) ∙ ap (λ l. first ++ l) (doubled_same (civil_text dt) (moment_has_none dt))))
+    sym (ap (λ l. 39 ∷ (l ++ 39 ∷ [])) (flat_map-append (doubled 39) first (civil_text dt) ∙ ap (λ l. first ++ l) (doubled_same 39 (civil_text dt) (moment_lacks 39 (omega arith) dt))))
 
 -- ---- the file
-
-front_within : (list changes : List Change) → length (blocks (list ++ changes)) ≤ log_limit → length (blocks list) ≤ log_limit
-front_within list changes within =
-    let whole = ap length (flat_map-append block list changes) ∙ length-append (blocks list) (blocks changes) in
-    omega (arith, whole, within)
 
 module _ (one : OneAsk) (dt : DateTime) (work : Work) (changes : List Change) (top : work.section ≡ Top) (can : CanFile (headed work.changes (civil_text dt)) changes) where
   abbrev text : List ℕ

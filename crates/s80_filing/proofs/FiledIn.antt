@@ -48,16 +48,12 @@ added_ok list change accepted within =
     let room : too_full (length (blocks list)) (length (block change)) ≡ None = rw (le-leb (length (blocks list) + length (block change)) log_limit (omega (arith, size, within))) refl in
     rw (fits_behind (accept change (state_of list)) (too_full (length (blocks list)) (length (block change))) accepted room) refl
 
-front_within : (list changes : List Change) (change : Change) → length (blocks (list ++ change ∷ changes)) ≤ log_limit → length (blocks (list ++ change ∷ [])) ≤ log_limit
-front_within list changes change within =
-    let whole : length (blocks (list ++ change ∷ changes)) ≡ length (blocks (list ++ change ∷ [])) + length (blocks changes) =
-    ap (λ l. length (blocks l)) (sym (append_assoc list (change ∷ []) changes)) ∙ ap length (flat_map-append block (list ++ change ∷ []) changes) ∙ length-append (blocks (list ++ change ∷ [])) (blocks changes) in
+pub front_within : (list changes : List Change) → length (blocks (list ++ changes)) ≤ log_limit → length (blocks list) ≤ log_limit
+front_within list changes within =
+    let whole = ap length (flat_map-append block list changes) ∙ length-append (blocks list) (blocks changes) in
     omega (arith, whole, within)
 
 module _ (list changes : List Change) (change : Change) (can : CanFile list (change ∷ changes)) where
-  pub is_added : add list change ≡ Ok (list ++ change ∷ [])
-  is_added = added_ok list change can.accepted.0 (front_within list changes change can.within)
-
   pub can_more : CanFile (list ++ change ∷ []) changes
   can_more =
       let P : State → Type 0 = λ s. AreAccepted s changes in
@@ -68,6 +64,9 @@ module _ (list changes : List Change) (change : Change) (can : CanFile list (cha
         accepted = subst P (sym (state_more list change)) can.accepted.1;
         within = let same = ap (λ l. length (blocks l)) (append_assoc list (change ∷ []) changes) in omega (arith, same, can.within);
       }
+
+  pub is_added : add list change ≡ Ok (list ++ change ∷ [])
+  is_added = added_ok list change can.accepted.0 (front_within (list ++ change ∷ []) changes can_more.within)
 
 -- the class of a method that is accepted is there
 class_there : (unknown many : Option Refusal) (state : State) → IsAccepted (accepted_or (first_some (unknown ∷ many ∷ [])) state) → unknown ≡ None

@@ -50,8 +50,9 @@ keyword_in word =
     (if bytes_eq word (codes "removeClassNamed:") then Some (Plain words.RemoveClassNamed) else
     (if bytes_eq word (codes "removeFromSystem") then Some (Plain words.RemoveFromSystem) else
     (if bytes_eq word (codes "noChanges") then Some (Plain words.NoChanges) else
+    (if bytes_eq word (codes "condenseChanges") then Some (Plain words.CondenseChanges) else
     (if bytes_eq word (codes "snapshot") then Some (Plain words.Snapshot) else
-    (if bytes_eq word (codes "organization") then Some (Plain words.Organization) else None)))))))))))))))
+    (if bytes_eq word (codes "organization") then Some (Plain words.Organization) else None))))))))))))))))
 
 text_in : (k : Keyword) → keyword_in (keyword_text k) ≡ Some k
 text_in (Defines kinds.Plain) = refl
@@ -64,6 +65,7 @@ text_in (Plain words.RemoveSelector) = refl
 text_in (Plain words.RemoveClassNamed) = refl
 text_in (Plain words.RemoveFromSystem) = refl
 text_in (Plain words.NoChanges) = refl
+text_in (Plain words.CondenseChanges) = refl
 text_in (Plain words.Snapshot) = refl
 text_in (Plain words.Organization) = refl
 
@@ -78,6 +80,7 @@ selector_in (Plain words.RemoveSelector) = refl
 selector_in (Plain words.RemoveClassNamed) = refl
 selector_in (Plain words.RemoveFromSystem) = refl
 selector_in (Plain words.NoChanges) = refl
+selector_in (Plain words.CondenseChanges) = refl
 selector_in (Plain words.Snapshot) = refl
 selector_in (Plain words.Organization) = refl
 

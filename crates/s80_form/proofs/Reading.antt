@@ -149,6 +149,7 @@ keyword_inner (Plain words.RemoveSelector) = search rules
 keyword_inner (Plain words.RemoveClassNamed) = search rules
 keyword_inner (Plain words.RemoveFromSystem) = search rules
 keyword_inner (Plain words.NoChanges) = search rules
+keyword_inner (Plain words.CondenseChanges) = search rules
 keyword_inner (Plain words.Snapshot) = search rules
 keyword_inner (Plain words.Organization) = search rules
 
@@ -164,6 +165,7 @@ no_class (Plain words.RemoveSelector) r s e = omega (arith, ap (λ l. get_or l 1
 no_class (Plain words.RemoveClassNamed) r s e = omega (arith, ap (λ l. get_or l 1 0) e)
 no_class (Plain words.RemoveFromSystem) r s e = omega (arith, ap (λ l. get_or l 1 0) e)
 no_class (Plain words.NoChanges) r s e = omega (arith, ap (λ l. get_or l 1 0) e)
+no_class (Plain words.CondenseChanges) r s e = omega (arith, ap (λ l. get_or l 2 0) e)
 no_class (Plain words.Snapshot) r s e = omega (arith, ap (λ l. get_or l 1 0) e)
 no_class (Plain words.Organization) r s e = omega (arith, ap (λ l. get_or l 1 0) e)
 

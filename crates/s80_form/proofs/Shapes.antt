@@ -8,7 +8,7 @@ use Rattle.s80_tree.specs.Tree.{DoItParts, ExprTrees, message_of, exprs_of, expr
 use Rattle.s80_form.specs.declared.form.Recognised.{Recognised}
 use Rattle.s80_form.specs.declared.form.Recognised.TheVariants as recognised
 use Rattle.s80_form.specs.TreeParts.{argument}
-use Rattle.s80_form.specs.Form.{IsNoForm, Recognises, classifying}
+use Rattle.s80_form.specs.Form.{IsEvaluated, Recognises, classifying}
 use Rattle.s80_form.specs.Shown.{Has, IsBriefRecognised}
 use Rattle.s80_form.proofs.Trees.{message_open}
 use Rattle.s80_form.proofs.lemmas.OneForm.{has_same}
@@ -19,21 +19,31 @@ classifying_is m selector category s e =
     message_open m ∙ ap (λ (x : List ℕ). (x, exprs_of (out-Message m).arguments)) s ∙ ap (λ (x : ExprTrees). (codes "classify:under:", x)) e
 
 -- a tree that has no form, whether its parts are brief or not
-pub none_has : (tree : DoItParts) → ((y : Recognised) → Has tree y → ⊥) → IsNoForm tree
+pub none_has : (tree : DoItParts) → ((y : Recognised) → Has tree y → ⊥) → IsEvaluated tree
 none_has tree none = record {
-  form = λ form is. none (recognised.Form form) is.0;
-  snapshot = λ is. none recognised.Snapshot is;
+  none = record {
+    form = λ form is. none (recognised.Form form) is.0;
+    snapshot = λ is. none recognised.Snapshot is;
+  };
+  condensing = λ is. none recognised.Condense is;
 }
 
 -- it is the form where that is brief
 pub recognised_so : (tree : DoItParts) (y z : Recognised) → Has tree y → z ≡ y → IsBriefRecognised z → Recognises tree z
 recognised_so tree y (recognised.Form form) has e brief = (subst (Has tree) (sym e) has, brief)
+recognised_so tree y recognised.Condense has e brief = subst (Has tree) (sym e) has
 recognised_so tree y recognised.Snapshot has e brief = subst (Has tree) (sym e) has
 recognised_so tree y recognised.Evaluate has e brief = absurd (subst (Has tree) (sym e) has)
 
 -- and else the tree has none
-pub not_brief : (tree : DoItParts) (y z : Recognised) (b : Bool) → Has tree y → z ≡ y → (IsTrue b ↔ IsBriefRecognised z) → b ≡ false → IsNoForm tree
+pub not_brief : (tree : DoItParts) (y z : Recognised) (b : Bool) → Has tree y → z ≡ y → (IsTrue b ↔ IsBriefRecognised z) → b ≡ false → IsEvaluated tree
 not_brief tree y z b has e is long = record {
-  form = λ form of. false≢true (sym long ∙ is.1 (subst IsBriefRecognised (has_same tree (recognised.Form form) y of.0 has ∙ sym e) of.1));
-  snapshot = λ of. false≢true (sym long ∙ is.1 (subst IsBriefRecognised (has_same tree recognised.Snapshot y of has ∙ sym e) tt));
+  none = record {
+    form = λ form of. none (recognised.Form form) of.0 of.1;
+    snapshot = λ of. none recognised.Snapshot of tt;
+  };
+  condensing = λ of. none recognised.Condense of tt;
 }
+  where
+    none : (x : Recognised) → Has tree x → IsBriefRecognised x → ⊥
+    none x of brief = false≢true (sym long ∙ is.1 (subst IsBriefRecognised (has_same tree x y of has ∙ sym e) brief))

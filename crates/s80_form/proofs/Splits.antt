@@ -1,13 +1,12 @@
 -- Names that are joined by spaces, and split again.
-use Rattle.std.proofs.Common.{◌≡◌, ℕ, List, [], ◌∷◌, ◌++◌, Bool, true, false, cond, not, ◌&&◌, refl, ap, ◌∙◌, rules, tests}
-use Rattle.std.specs.Char.{is_ascii_alphabetic, is_ascii_alphanumeric}
+use Rattle.std.proofs.Common.{◌≡◌, ℕ, List, [], ◌∷◌, ◌++◌, Bool, true, false, cond, not, refl, ap, ◌∙◌}
+use Rattle.std.specs.Char.{is_ascii_alphanumeric}
 use Rattle.std.specs.List.{list_all, filter, slice_split}
 use Rattle.std.specs.List as slice
 use Rattle.std.proofs.lemmas.Bool.{and_parts, false≢true}
 use Rattle.std.proofs.lemmas.List.{append-nil}
 use Rattle.std.proofs.lemmas.List.Elements.{All-head, All-tail}
 use Rattle.s80_base.specs.Byte.{is_separator}
-use Rattle.s80_syntax.specs.Word.{is_reserved}
 use Rattle.s80_lex.specs.Selector.{is_name as is_identifier}
 use Rattle.s80_form.specs.Name.{IsName, AreNames}
 use Rattle.s80_form.proofs.lemmas.Identifiers.{identifier_of, identifier_passes, no_separator}

@@ -65,16 +65,26 @@ IsFormOf tree form = HasForm tree form × IsBriefForm form
 abbrev pub IsSnapshot : DoItParts → Type 0
 IsSnapshot tree = Sends tree smalltalk Instance (unary (codes "snapshot"))
 
--- it has none of the forms
+-- or to condense the changes
+abbrev pub IsCondensing : DoItParts → Type 0
+IsCondensing tree = Sends tree smalltalk Instance (unary (codes "condenseChanges"))
+
+-- It has none of the forms by which doIts change classes, nor the snapshot's. A log may keep such a doIt, also one that asks to condense.
 pub record IsNoForm (tree : DoItParts) : Type 0 where
   pub form : (form : Form) → IsFormOf tree form → ⊥
   pub snapshot : IsSnapshot tree → ⊥
 
+-- nor does it ask to condense: it is evaluated
+pub record IsEvaluated (tree : DoItParts) : Type 0 where
+  pub none : IsNoForm tree
+  pub condensing : IsCondensing tree → ⊥
+
 -- what a tree is by its form
 abbrev pub Recognises : DoItParts → Recognised → Type 0
 Recognises tree (recognised.Form form) = IsFormOf tree form
+Recognises tree recognised.Condense = IsCondensing tree
 Recognises tree recognised.Snapshot = IsSnapshot tree
-Recognises tree recognised.Evaluate = IsNoForm tree
+Recognises tree recognised.Evaluate = IsEvaluated tree
 
 -- ---- texts with such a tree
 
@@ -90,10 +100,21 @@ pub record IsSnapshotText (text : List ℕ) : Type 0 where
   pub tree_is : IsDoItOf text tree
   pub snapshot : IsSnapshot tree
 
--- it is the text of none of the forms
+-- or to condense the changes
+pub record IsCondensingText (text : List ℕ) : Type 0 where
+  pub tree : DoItParts
+  pub tree_is : IsDoItOf text tree
+  pub condensing : IsCondensing tree
+
+-- it is the text of none of the forms by which doIts change classes, nor of the snapshot's
 pub record IsNoFormText (text : List ℕ) : Type 0 where
   pub form : (form : Form) → IsFormText text form → ⊥
   pub snapshot : IsSnapshotText text → ⊥
+
+-- nor does it ask to condense
+pub record IsEvaluatedText (text : List ℕ) : Type 0 where
+  pub none : IsNoFormText text
+  pub condensing : IsCondensingText text → ⊥
 
 -- ---- the text of a form
 

@@ -13,6 +13,7 @@ word_text words.RemoveSelector = codes "removeSelector:"
 word_text words.RemoveClassNamed = codes "removeClassNamed:"
 word_text words.RemoveFromSystem = codes "removeFromSystem"
 word_text words.NoChanges = codes "noChanges"
+word_text words.CondenseChanges = codes "condenseChanges"
 word_text words.Snapshot = codes "snapshot"
 word_text words.Organization = codes "organization"
 

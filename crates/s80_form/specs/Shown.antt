@@ -20,7 +20,7 @@ use Rattle.s80_form.specs.declared.shown.Shown.TheVariants as shown
 use Rattle.s80_form.specs.Definition.{split_names, are_arguments}
 use Rattle.s80_form.specs.Keyword.{keyword_selector}
 use Rattle.s80_form.specs.TreeParts.{argument}
-use Rattle.s80_form.specs.Form.{HasForm, IsBriefForm, IsSnapshot, smalltalk, classifying}
+use Rattle.s80_form.specs.Form.{HasForm, IsBriefForm, IsCondensing, IsSnapshot, smalltalk, classifying}
 
 -- ---- what is shown
 
@@ -47,11 +47,13 @@ recognised_as (shown.RemoveMethod name side selector) = recognised.Form (RemoveM
 recognised_as (shown.Classify name side selector category) = recognised.Form (Classify name.now side selector.now category.now)
 recognised_as (shown.RemoveClass name) = recognised.Form (RemoveClass name.now)
 recognised_as shown.NoChanges = recognised.Form NoChanges
+recognised_as shown.Condense = recognised.Condense
 recognised_as shown.Snapshot = recognised.Snapshot
 
--- the tree has this form, whether its parts are brief or not, or asks for a snapshot
+-- the tree has this form, whether its parts are brief or not, or asks to condense or for a snapshot
 abbrev pub Has : DoItParts → Recognised → Type 0
 Has tree (recognised.Form form) = HasForm tree form
+Has tree recognised.Condense = IsCondensing tree
 Has tree recognised.Snapshot = IsSnapshot tree
 Has tree recognised.Evaluate = ⊥
 
@@ -68,6 +70,7 @@ SaysWord words.RemoveSelector name side es y = (selector : List ℕ) × (es ≡ 
 SaysWord words.RemoveClassNamed name Instance es y = (other : List ℕ) × (name ≡ smalltalk) × (es ≡ sole (symbol other)) × (y ≡ recognised.Form (RemoveClass other))
 SaysWord words.RemoveFromSystem name Instance es y = (es ≡ no_exprs) × (y ≡ recognised.Form (RemoveClass name))
 SaysWord words.NoChanges name Instance es y = (name ≡ smalltalk) × (es ≡ no_exprs) × (y ≡ recognised.Form NoChanges)
+SaysWord words.CondenseChanges name Instance es y = (name ≡ smalltalk) × (es ≡ no_exprs) × (y ≡ recognised.Condense)
 SaysWord words.Snapshot name Instance es y = (name ≡ smalltalk) × (es ≡ no_exprs) × (y ≡ recognised.Snapshot)
 SaysWord _ name side es y = ⊥
 

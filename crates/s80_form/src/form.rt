@@ -52,6 +52,8 @@ pub enum Form {
 pub enum Recognised {
     /// It changes classes so.
     Form(Form),
+    /// It asks to condense the changes: `Smalltalk condenseChanges`.
+    Condense,
     /// It asks for a snapshot: `Smalltalk snapshot`.
     Snapshot,
     /// It has no form: it is evaluated.

@@ -24,6 +24,7 @@ pub(crate) enum Word {
     RemoveClassNamed,
     RemoveFromSystem,
     NoChanges,
+    CondenseChanges,
     Snapshot,
     Organization,
 }
@@ -90,6 +91,8 @@ fn word_named(bytes: &[u8]) -> Option<Word>
         Some(Word::RemoveFromSystem)
     } else if bytes == b"noChanges".as_slice() {
         Some(Word::NoChanges)
+    } else if bytes == b"condenseChanges".as_slice() {
+        Some(Word::CondenseChanges)
     } else if bytes == b"snapshot".as_slice() {
         Some(Word::Snapshot)
     } else if bytes == b"organization".as_slice() {

@@ -193,6 +193,7 @@ fn by_word(
         Word::Organization => classified(alloc, name, side, rest),
         Word::NoChanges => Ok(Some(Form::NoChanges)),
         Word::RemoveFromSystem => Ok(None),
+        Word::CondenseChanges => Ok(None),
         Word::Snapshot => Ok(None),
     }
 }

@@ -47,6 +47,7 @@ pub(crate) enum Shown<'t> {
         class_name: &'t Text,
     },
     NoChanges,
+    Condense,
     Snapshot,
 }
 
@@ -138,6 +139,7 @@ fn to_instance<'t>(word: Word, name: &'t Text, arguments: &'t Exprs) -> Option<S
         Word::RemoveClassNamed => named_class(name, arguments),
         Word::RemoveFromSystem => receiving_class(name, arguments),
         Word::NoChanges => no_changes(name, arguments),
+        Word::CondenseChanges => condense(name, arguments),
         Word::Snapshot => snapshot(name, arguments),
         Word::InstanceVariableNames => None,
         Word::Organization => None,
@@ -208,6 +210,18 @@ fn no_changes(receiver: &Text, arguments: &Exprs) -> Option<Shown<'static>>
         return None;
     }
     Some(Shown::NoChanges)
+}
+
+fn condense(receiver: &Text, arguments: &Exprs) -> Option<Shown<'static>>
+    ensures { Finds recognised_as (SaysWord words.CondenseChanges receiver.now Instance (exprs_of arguments.now)) result }
+{
+    if !is_smalltalk(receiver) {
+        return None;
+    }
+    if arguments.count() > 0 {
+        return None;
+    }
+    Some(Shown::Condense)
 }
 
 fn snapshot(receiver: &Text, arguments: &Exprs) -> Option<Shown<'static>>

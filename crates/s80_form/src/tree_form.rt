@@ -69,6 +69,7 @@ fn copied(alloc: Global, shown: Shown<'_>) -> Result<Recognised, OutOfMemory>
             class_name: class_name.copy(alloc)?,
         },
         Shown::NoChanges => Form::NoChanges,
+        Shown::Condense => return Ok(Recognised::Condense),
         Shown::Snapshot => return Ok(Recognised::Snapshot),
     }))
 }
@@ -97,6 +98,7 @@ fn is_brief_recognised(recognised: &Recognised) -> bool
 {
     match recognised {
         Recognised::Form(form) => is_brief_form(form),
+        Recognised::Condense => true,
         Recognised::Snapshot => true,
         Recognised::Evaluate => true,
     }

@@ -1,13 +1,14 @@
 -- Files that stand for a list, and what a write past the marked part leaves of them.
-use Rattle.std.proofs.Common.{◌≡◌, ℕ, ◌+◌, ◌≤◌, min, Bool, true, false, List, [], ◌∷◌, ◌++◌, length, take, drop, sym, ap, ◌∙◌, arith, append-nil, length-append, length-take, if◌then◌else◌}
+use Rattle.std.proofs.Common.{◌≡◌, ◌≢◌, ℕ, zero, suc, ◌+◌, ◌-◌, ◌≤◌, min, Bool, true, false, List, [], ◌∷◌, ◌++◌, length, take, drop, sym, ap, ◌∙◌, arith, append-nil, length-append, length-take, if◌then◌else◌}
 use Rattle.std.proofs.lemmas.List.{take-append-drop, take-append-le}
 use Rattle.std.proofs.lemmas.Grind.{flat_map-append}
 use Rattle.std.proofs.lemmas.List.Elements.{All-push}
 use Rattle.std.proofs.Math.Seq.{take-add}
 use Rattle.s80_change.specs.declared.change.Change.{Change}
 use Rattle.s80_change.specs.Block.{block, blocks, log_limit, IsLawful, IsList}
+use Rattle.s80_disk.specs.declared.disk.FileId.{FileId}
 use Rattle.s80_disk.specs.declared.disk.FileId.TheVariants.{Mark, Log0, Log1}
-use Rattle.s80_disk.specs.Image.{Image, Wrote, Torn}
+use Rattle.s80_disk.specs.Image.{Image, Wrote, Torn, OnFile}
 use Rattle.s80_mark.specs.declared.mark.MarkState.{MarkState}
 use Rattle.s80_log.specs.Log.{log_file}
 use Rattle.s80_log.specs.Standing.{marked_part, FilesStandFor}
@@ -19,6 +20,16 @@ either_is_no_mark false e = cc
 -- a log isn't the mark file
 pub log_is_no_mark : (number : ℕ) → Mark ≡ log_file number → ⊥
 log_is_no_mark number e = either_is_no_mark _ (sym e)
+
+-- the two logs are two files
+pub logs_differ : (number : ℕ) → number ≤ 1 → log_file number ≡ log_file (1 - number) → ⊥
+logs_differ zero le e = cc
+logs_differ (suc zero) le e = cc
+logs_differ (suc (suc number)) le e = omega (arith, le)
+
+-- where another file changes, the marked part stays
+pub part_elsewhere : (mark : MarkState) (file : FileId) (change : List ℕ → List ℕ → Type 0) (d c : Image) → log_file mark.log ≢ file → OnFile file change d c → marked_part mark c ≡ marked_part mark d
+part_elsewhere mark file change d c ne step = ap (take mark.log_length) (step.others (log_file mark.log) ne)
 
 -- what is read of the mark and of the marked part is all that counts
 pub stands_on : (files other : Image) (mark : MarkState) (changes : List Change) → FilesStandFor files mark changes → other Mark ≡ files Mark → marked_part mark other ≡ marked_part mark files → FilesStandFor other mark changes

@@ -1,5 +1,7 @@
 mod OneList
 mod Files
+mod Staying
 mod Appending
+mod Beginning
 mod Committing
 mod Reading

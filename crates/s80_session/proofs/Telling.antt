@@ -1,10 +1,12 @@
 -- What is told of the source of a method, of its versions, and in files of changes.
-use Rattle.std.proofs.Common.{◌≡◌, ℕ, List, Bool, true, false, if◌then◌else◌, sym, ap, ◌∙◌, Option, Some, None, map as list_map}
+use Rattle.std.proofs.Common.{◌≡◌, ℕ, List, Bool, true, false, true≢false, if◌then◌else◌, is_some, sym, ap, ◌∙◌, Option, Some, None, map as list_map}
+use Rattle.std.specs.Prelude.{MatchOption}
 use Rattle.std.specs.FinMap as map
 use Rattle.s80_base.specs.declared.names.Side.{Side}
 use Rattle.s80_change.specs.declared.change.Change.{Change}
-use Rattle.s80_class.specs.Classes.{Name, ClassRow}
+use Rattle.s80_class.specs.Classes.{Name, Classes, ClassRow}
 use Rattle.s80_apply.specs.List.{state_of}
+use Rattle.s80_apply.specs.System.{HasNumber, IsSystemOf, SystemState}
 use Rattle.s80_fileout.specs.Condensed.{filed_on}
 use Rattle.s80_fileout.specs.FileText.{IsFile}
 use Rattle.s80_fileout.specs.Moment.{IsMoment}
@@ -40,7 +42,7 @@ file_is_told listed wanted seconds text is (moment, file) = (moment, file.at, ap
 
 module _ (changes : List Change) (name : Name) (seconds : ℕ) where
   -- what is told by whether the word is a name
-  by_name : List ℕ → Bool → Reply
+  abbrev by_name : List ℕ → Bool → Reply
   by_name moment named = if named then file_of_class (state_of changes) moment name (map.get (state_of changes).classes name) else Refused (BadName name)
 
   -- it is none
@@ -51,12 +53,19 @@ module _ (changes : List Change) (name : Name) (seconds : ℕ) where
   named_told : is_name name ≡ true → (row : Option ClassRow) → map.get (state_of changes).classes name ≡ row → (moment : List ℕ) → file_of_class (state_of changes) moment name row ≡ file_reply changes moment (OneClass name)
   named_told named row there moment = sym (ap (by_name moment) named ∙ ap (file_of_class (state_of changes) moment name) there)
 
-  -- there is no class
-  pub unknown_told : is_name name ≡ true → map.get (state_of changes).classes name ≡ None → (moment : List ℕ) × IsMoment seconds moment → TellsFile changes seconds (OneClass name) (Refused (UnknownClass name))
-  unknown_told named none (moment, is) = (moment, is, named_told named None none moment)
+  module _ (system : SystemState) (is : IsSystemOf system (state_of changes)) (named : is_name name ≡ true) where
+    -- in the system's classes
+    of_system : (row : Option ClassRow) → map.get system.table.classes name ≡ row → map.get (state_of changes).classes name ≡ row
+    of_system row there = sym (ap (λ (m : Classes). map.get m name) is.classes) ∙ there
 
-  -- there is one
-  pub class_told : is_name name ≡ true → (row : ClassRow) → map.get (state_of changes).classes name ≡ Some row → (listed : List Change) (text : List ℕ) → listed ≡ filed_on name (state_of changes) → IsFile listed seconds text → TellsFile changes seconds (OneClass name) (Told text)
-  class_told named row there listed text is file =
-      let told = file_is_told listed (filed_on name (state_of changes)) seconds text is file in
-      (told.0, told.1, told.2 ∙ named_told named (Some row) there told.0)
+    -- there is no class
+    pub unknown_told : (found : Option ℕ) → MatchOption found (map.get system.table.classes name ≡ None) (HasNumber system name) → is_some found ≡ false → (moment : List ℕ) × IsMoment seconds moment → TellsFile changes seconds (OneClass name) (Refused (UnknownClass name))
+    unknown_told None none unfound (moment, at) = (moment, at, named_told named None (of_system None none) moment)
+    unknown_told (Some number) has unfound moment = absurd (true≢false unfound)
+
+    -- there is one
+    pub class_told : (found : Option ℕ) → MatchOption found (map.get system.table.classes name ≡ None) (HasNumber system name) → is_some found ≡ true → (listed : List Change) (text : List ℕ) → listed ≡ filed_on name (state_of changes) → IsFile listed seconds text → TellsFile changes seconds (OneClass name) (Told text)
+    class_told None none is_found listed text listed_is file = absurd (true≢false (sym is_found))
+    class_told (Some number) has is_found listed text listed_is file =
+        let told = file_is_told listed (filed_on name (state_of changes)) seconds text listed_is file in
+        (told.0, told.1, told.2 ∙ named_told named (Some has.there.0) (of_system (Some has.there.0) has.there.1) told.0)

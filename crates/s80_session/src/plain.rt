@@ -19,7 +19,8 @@ pub(crate) enum Plain {
     Evaluate(Text, MethodTree),
 }
 
-/// What a plain text asks, or why it is refused by itself: it has no tree, or one that doesn't fit a machine. It is parsed once.
+/// What a plain text asks, or why it is refused by itself: it has no tree, or one that doesn't fit a machine. It is parsed once. One that asks to
+/// condense is evaluated as every other doIt is.
 pub(crate) fn plain_of(alloc: Global, text: Text) -> Result<Plain, Refused>
     requires { length text ≤ 65535 }
     ensures { IsPlain text result }
@@ -32,6 +33,7 @@ pub(crate) fn plain_of(alloc: Global, text: Text) -> Result<Plain, Refused>
     let method = fitting_doit(alloc, tree)?;
     match recognised {
         Recognised::Form(form) => Ok(Plain::Form(form)),
+        Recognised::Condense => Ok(Plain::Evaluate(text, method)),
         Recognised::Snapshot => Ok(Plain::Snapshot),
         Recognised::Evaluate => Ok(Plain::Evaluate(text, method)),
     }

@@ -116,6 +116,7 @@ fn recognised(alloc: Global, spelled: &str) -> Result<Text> {
     let mut out = Text::empty(alloc);
     match recognise(alloc, &tree)? {
         Recognised::Form(form) => spell(alloc, &mut out, form_text(alloc, &form)?.bytes())?,
+        Recognised::Condense => out.append(b"a condensing")?,
         Recognised::Snapshot => out.append(b"a snapshot")?,
         Recognised::Evaluate => out.append(b"no form")?,
     }

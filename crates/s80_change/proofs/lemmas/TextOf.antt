@@ -7,7 +7,8 @@ use Rattle.s80_syntax.specs.declared.fault.ParseFault.{ParseFault}
 use Rattle.s80_syntax.specs.declared.fault.ParseFault.TheVariants.{Memory}
 use Rattle.s80_syntax.specs.Text.{IsDoItOf, IsFaultOf}
 use Rattle.s80_syntax.proofs.lemmas.OneReading.{one_doit_of, doit_only_memory}
-use Rattle.s80_form.specs.Form.{IsFormOf, IsNoForm, IsNoFormText, IsReadAs, IsSnapshot}
+use Rattle.s80_form.specs.Form.{IsCondensingText, IsFormOf, IsNoForm, IsNoFormText, IsReadAs, IsSnapshot}
+use Rattle.s80_form.proofs.lemmas.OneForm.{condensing_no_form}
 use Rattle.s80_change.specs.declared.change.Change.TheVariants.{Form, Method, DoIt}
 use Rattle.s80_change.specs.declared.framing.Framing.TheVariants.{Plain}
 use Rattle.s80_change.specs.Block.{IsLawful, HasNoChange}
@@ -41,6 +42,10 @@ fault_in_text text fault is some = record {
 pub doit_of_text : (text : List ℕ) → IsPlainText text → (none : Bool) → MatchBool none (IsNoFormText text) (IsNoFormText text → ⊥) → MatchBool none (IsLawful (DoIt text)) (IsLawful (DoIt text) → ⊥)
 doit_of_text text plain true none = (plain, none)
 doit_of_text text plain false some = λ lawful. some lawful.1
+
+-- so is one that asks to condense
+pub condensing_is_doit : (text : List ℕ) → IsPlainText text → IsCondensingText text → IsLawful (DoIt text)
+condensing_is_doit text plain is = (plain, no_form_text text is.tree is.tree_is (condensing_no_form is.tree is.condensing))
 
 -- a text that is read as no form and is no doIt's
 pub no_change : (text : List ℕ) → IsReadAs text None → (IsLawful (DoIt text) → ⊥) → HasNoChange (Plain text)

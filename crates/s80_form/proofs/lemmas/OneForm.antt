@@ -18,7 +18,7 @@ use Rattle.s80_form.specs.declared.keyword.Word.TheVariants as words
 use Rattle.s80_form.specs.Definition.{split_names, defining_selector, are_arguments, IsDefining}
 use Rattle.s80_form.specs.Keyword.{keyword_selector}
 use Rattle.s80_form.specs.TreeParts.{IsSending, IsOrganizing}
-use Rattle.s80_form.specs.Form.{IsFormOf, IsFormText, smalltalk, classifying}
+use Rattle.s80_form.specs.Form.{IsCondensing, IsFormOf, IsFormText, IsNoForm, smalltalk, classifying}
 use Rattle.s80_form.specs.Shown.{defined, Has, SaysWord, Says, SaysSent, SaysOrganizing, sole}
 use Rattle.s80_form.proofs.Keywords.{selectors_same}
 use Rattle.s80_form.proofs.lemmas.Cuts.{fields_same}
@@ -38,6 +38,8 @@ word_same words.RemoveFromSystem name Instance es y z (e, i) (f, j) = i ∙ sym 
 word_same words.RemoveFromSystem name Class es y z h k = absurd h
 word_same words.NoChanges name Instance es y z (n, e, i) (o, f, j) = i ∙ sym j
 word_same words.NoChanges name Class es y z h k = absurd h
+word_same words.CondenseChanges name Instance es y z (n, e, i) (o, f, j) = i ∙ sym j
+word_same words.CondenseChanges name Class es y z h k = absurd h
 word_same words.Snapshot name Instance es y z (n, e, i) (o, f, j) = i ∙ sym j
 word_same words.Snapshot name Class es y z h k = absurd h
 word_same words.Organization name s es y z h k = absurd h
@@ -101,6 +103,8 @@ said tree (recognised.Form (RemoveClass name)) (inr (at, sends)) =
     inl ((record { name = name; at = at }, Instance, (codes "removeFromSystem", no_exprs)), sends, (Plain words.RemoveFromSystem, no_exprs, refl, (refl, refl)))
 said tree (recognised.Form NoChanges) (at, sends) =
     inl ((record { name = smalltalk; at = at }, Instance, (codes "noChanges", no_exprs)), sends, (Plain words.NoChanges, no_exprs, refl, (refl, refl, refl)))
+said tree recognised.Condense (at, sends) =
+    inl ((record { name = smalltalk; at = at }, Instance, (codes "condenseChanges", no_exprs)), sends, (Plain words.CondenseChanges, no_exprs, refl, (refl, refl, refl)))
 said tree recognised.Snapshot (at, sends) =
     inl ((record { name = smalltalk; at = at }, Instance, (codes "snapshot", no_exprs)), sends, (Plain words.Snapshot, no_exprs, refl, (refl, refl, refl)))
 said tree recognised.Evaluate h = absurd h
@@ -124,6 +128,8 @@ word_has tree words.RemoveFromSystem n Instance es y h (e, i) = subst (Has tree)
 word_has tree words.RemoveFromSystem n Class es y h k = absurd k
 word_has tree words.NoChanges n Instance es y h (o, e, i) = subst (Has tree) (sym i) (n.at, to_smalltalk tree n (codes "noChanges") es no_exprs o e h)
 word_has tree words.NoChanges n Class es y h k = absurd k
+word_has tree words.CondenseChanges n Instance es y h (o, e, i) = subst (Has tree) (sym i) (n.at, to_smalltalk tree n (codes "condenseChanges") es no_exprs o e h)
+word_has tree words.CondenseChanges n Class es y h k = absurd k
 word_has tree words.Snapshot n Instance es y h (o, e, i) = subst (Has tree) (sym i) (n.at, to_smalltalk tree n (codes "snapshot") es no_exprs o e h)
 word_has tree words.Snapshot n Class es y h k = absurd k
 word_has tree words.Organization n s es y h k = absurd k
@@ -185,6 +191,19 @@ form_value one other e = cc
 
 pub form_same : (tree : DoItParts) (one other : Form) → IsFormOf tree one → IsFormOf tree other → one ≡ other
 form_same tree one other h k = form_value one other (has_same tree (recognised.Form one) (recognised.Form other) h.0 k.0)
+
+-- so a tree that asks to condense has none of the others
+no_other : (form : Form) → recognised.Condense ≡ recognised.Form form → ⊥
+no_other form e = cc
+
+no_snapshot : recognised.Condense ≡ recognised.Snapshot → ⊥
+no_snapshot e = cc
+
+pub condensing_no_form : (tree : DoItParts) → IsCondensing tree → IsNoForm tree
+condensing_no_form tree is = record {
+  form = λ form of. no_other form (has_same tree recognised.Condense (recognised.Form form) is of.0);
+  snapshot = λ of. no_snapshot (has_same tree recognised.Condense recognised.Snapshot is of);
+}
 
 -- of a text too
 pub form_of_text_same : (text : List ℕ) (one other : Form) → IsFormText text one → IsFormText text other → one ≡ other

@@ -11,9 +11,9 @@ pub returns-then-is_kernel_class : goal.returns-then-is_kernel_class
 returns-then-is_kernel_class c = λ state is.
     let name = c.args.class_name.now in
     let known = ap is_kernel_class (sym c.bytes.ensures) ∙ sym c.is_kernel_class.ensures ∙ c.if-is_kernel_class.true in
-    on_ok_weaker c.add_kernel_class.result
+    on_ok_weaker c.add_class_of_kernel.result
     (λ more. more ∙ ap (λ b. c.args.changes.now ++ (if b then kernel_class state name else own_class state.classes name)) (sym known))
-    (c.add_kernel_class.ensures state is)
+    (c.add_class_of_kernel.ensures state is)
 
 pub returns-else-is_kernel_class : goal.returns-else-is_kernel_class
 returns-else-is_kernel_class c = λ state is.

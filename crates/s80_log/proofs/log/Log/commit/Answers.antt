@@ -1,153 +1,30 @@
-use Rattle.std.proofs.Common.{◌≡◌, ◌∙◌, inl, ℕ, List, length, sym, ap, subst, refl}
-use Rattle.s80_change.specs.declared.change.Change.{Change}
-use Rattle.s80_disk.specs.declared.disk.FileId.{FileId}
-use Rattle.s80_disk.specs.Image.{Image, Only}
-use Rattle.s80_disk.specs.Moments.{LeavesOnly}
-use Rattle.s80_mark.specs.declared.mark.MarkState.{MarkState}
-use Rattle.s80_mark.specs.Commit.{CanCommit, HasEither}
-use Rattle.s80_log.specs.Log.{LogEnd, log_file}
-use Rattle.s80_log.specs.Commit.{next_mark, Holds, LeavesBeside, ReadForEither, StandForEither}
-use Rattle.s80_log.proofs.Files.{log_is_no_mark}
-use Rattle.s80_log.proofs.Committing as committing
+use Rattle.s80_log.proofs.Staying.{carried}
+use Rattle.s80_log.proofs.Committing.{takes_next}
 use Rattle.s80_log.proofs.log.Log.commit.Goals as goal
-use Rattle.s80_log.proofs.log.Log.commit.Goals.{After-commit_mark}
-
--- ---- where the sync failed
-
-pub returns-in_err-sync-clause-any_moment : goal.returns-in_err-sync-clause-any_moment
-returns-in_err-sync-clause-any_moment g c =
-    let D = g.D.Disk in
-    let sync = c.sync.ensures in
-    committing.either_synced D.moment D.left_since D.may_leave D.tells D.reads D.beside c.args.mark.now (next_mark c.args.mark.now c.args.self.now c.args.count) c.args.disk.now c.sync.new.self sync.tells sync.same sync.crash sync.beside (g.met.D.Disk.only_now c.args.disk.now) sync.time
-
-pub returns-in_err-sync-clause-crash : goal.returns-in_err-sync-clause-crash
-returns-in_err-sync-clause-crash g c =
-    let D = g.D.Disk in
-    let sync = c.sync.ensures in
-    committing.either_mid D.moment D.left_since D.may_leave D.tells D.reads D.beside c.args.mark.now (next_mark c.args.mark.now c.args.self.now c.args.count) c.args.disk.now c.sync.new.self sync.tells sync.same sync.crash sync.beside
-
-pub returns-in_err-sync-clause-stands : goal.returns-in_err-sync-clause-stands
-returns-in_err-sync-clause-stands g c = λ kept all holds counts.
-    let D = g.D.Disk in
-    let sync = c.sync.ensures in
-    committing.lists_synced D.moment D.left_since D.may_leave D.tells D.reads D.beside c.args.mark.now (next_mark c.args.mark.now c.args.self.now c.args.count) c.args.disk.now c.sync.new.self sync.tells sync.same sync.crash sync.beside c.args.self.now kept all holds (g.met.D.Disk.only_now c.args.disk.now) sync.time
-
-pub returns-in_err-sync-clause-left : goal.returns-in_err-sync-clause-left
-returns-in_err-sync-clause-left g c = λ kept all e holds counts left.
-    let D = g.D.Disk in
-    let sync = c.sync.ensures in
-    committing.lists_mid D.moment D.left_since D.may_leave D.tells D.reads D.beside c.args.mark.now (next_mark c.args.mark.now c.args.self.now c.args.count) c.args.disk.now c.sync.new.self sync.tells sync.same sync.crash sync.beside c.args.self.now kept all holds e left
-
-pub returns-in_err-sync-clause-reads : goal.returns-in_err-sync-clause-reads
-returns-in_err-sync-clause-reads g c = λ kept all holds counts.
-    let D = g.D.Disk in
-    let sync = c.sync.ensures in
-    inl (committing.reads_kept D.moment D.left_since D.may_leave D.tells D.reads D.beside c.args.mark.now (next_mark c.args.mark.now c.args.self.now c.args.count) c.args.disk.now c.sync.new.self sync.tells sync.same sync.crash sync.beside c.args.self.now kept all holds)
-
--- ---- what the commit of the mark left
-
-module _ (g : _) (c : After-commit_mark g) where
-  -- a crash leaves the log as it reads
-  durable : Only (log_file c.args.self.now.number) (g.D.Disk.reads c.args.disk.now (log_file c.args.self.now.number)) (g.D.Disk.may_leave c.sync.new.self)
-  durable =
-      let P : FileId → Type 0 = λ f. Only f (g.D.Disk.reads c.args.disk.now f) (g.D.Disk.may_leave c.sync.new.self) in
-      subst P c.file.ensures c.in_ok-sync.ensures.durable
-
-  -- what is said of the mark that the code made, of the one that the contract names
-  abbrev Left : MarkState → ℕ → Image → Type 0
-  Left m = HasEither (g.D.Disk.tells c.sync.new.self) (g.D.Disk.reads c.sync.new.self) (g.D.Disk.may_leave c.sync.new.self) (g.D.Disk.beside c.sync.new.self).told c.args.mark.now m
-
-  more : LeavesOnly g.D.Disk.moment g.D.Disk.left_since c.sync.new.self c.commit_mark.new.disk (Left (next_mark c.args.mark.now c.args.self.now c.args.count))
-  more =
-      let P : MarkState → Type 0 = λ m. LeavesOnly g.D.Disk.moment g.D.Disk.left_since c.sync.new.self c.commit_mark.new.disk (Left m) in
-      subst P (ap (λ (l : LogEnd). next_mark c.args.mark.now l c.args.count) c.self.view_is) c.commit_mark.ensures.any_moment
-
-  now : (e : Image) → g.D.Disk.may_leave c.commit_mark.new.disk e → Left (next_mark c.args.mark.now c.args.self.now c.args.count) (g.D.Disk.beside c.commit_mark.new.disk).told e
-  now =
-      let P : MarkState → Type 0 = λ m. (e : Image) → g.D.Disk.may_leave c.commit_mark.new.disk e → Left m (g.D.Disk.beside c.commit_mark.new.disk).told e in
-      subst P (ap (λ (l : LogEnd). next_mark c.args.mark.now l c.args.count) c.self.view_is) c.commit_mark.ensures.left
-
-  any_moment : LeavesOnly g.D.Disk.moment g.D.Disk.left_since c.args.disk.now c.commit_mark.new.disk (HasEither (g.D.Disk.tells c.args.disk.now) (g.D.Disk.reads c.args.disk.now) (g.D.Disk.may_leave c.args.disk.now) (g.D.Disk.beside c.args.disk.now).told c.args.mark.now (next_mark c.args.mark.now c.args.self.now c.args.count))
-  any_moment =
-      let D = g.D.Disk in
-      let sync = c.sync.ensures in
-      committing.either_run D.moment D.left_since D.may_leave D.tells D.reads D.beside c.args.mark.now (next_mark c.args.mark.now c.args.self.now c.args.count) c.args.disk.now c.sync.new.self sync.tells sync.same sync.crash sync.beside c.commit_mark.new.disk (g.met.D.Disk.only_now c.args.disk.now) sync.time more
-
-  crash : (e : Image) → g.D.Disk.may_leave c.commit_mark.new.disk e → HasEither (g.D.Disk.tells c.args.disk.now) (g.D.Disk.reads c.args.disk.now) (g.D.Disk.may_leave c.args.disk.now) (g.D.Disk.beside c.args.disk.now).told c.args.mark.now (next_mark c.args.mark.now c.args.self.now c.args.count) (g.D.Disk.beside c.commit_mark.new.disk).told e
-  crash e left =
-      let D = g.D.Disk in
-      let sync = c.sync.ensures in
-      committing.either_on D.moment D.left_since D.may_leave D.tells D.reads D.beside c.args.mark.now (next_mark c.args.mark.now c.args.self.now c.args.count) c.args.disk.now c.sync.new.self sync.tells sync.same sync.crash sync.beside _ e (now e left)
-
-  module _ (kept all : List Change) (holds : Holds (g.D.Disk.tells c.args.disk.now) (g.D.Disk.reads c.args.disk.now) (g.D.Disk.may_leave c.args.disk.now) c.args.self.now c.args.mark.now kept all) (counts : c.args.count ≡ length all) where
-    stands : LeavesOnly g.D.Disk.moment g.D.Disk.left_since c.args.disk.now c.commit_mark.new.disk (LeavesBeside (g.D.Disk.may_leave c.args.disk.now) (g.D.Disk.beside c.args.disk.now).told (log_file c.args.self.now.number) (StandForEither c.args.mark.now kept (next_mark c.args.mark.now c.args.self.now c.args.count) all))
-    stands =
-        let D = g.D.Disk in
-        let sync = c.sync.ensures in
-        committing.lists_run D.moment D.left_since D.may_leave D.tells D.reads D.beside c.args.mark.now (next_mark c.args.mark.now c.args.self.now c.args.count) c.args.disk.now c.sync.new.self sync.tells sync.same sync.crash sync.beside c.args.self.now kept all holds c.args.count refl counts durable c.commit_mark.new.disk (g.met.D.Disk.only_now c.args.disk.now) sync.time more
-
-    left : (e : Image) → g.D.Disk.may_leave c.commit_mark.new.disk e → LeavesBeside (g.D.Disk.may_leave c.args.disk.now) (g.D.Disk.beside c.args.disk.now).told (log_file c.args.self.now.number) (StandForEither c.args.mark.now kept (next_mark c.args.mark.now c.args.self.now c.args.count) all) (g.D.Disk.beside c.commit_mark.new.disk).told e
-    left e here =
-        let D = g.D.Disk in
-        let sync = c.sync.ensures in
-        committing.lists_on D.moment D.left_since D.may_leave D.tells D.reads D.beside c.args.mark.now (next_mark c.args.mark.now c.args.self.now c.args.count) c.args.disk.now c.sync.new.self sync.tells sync.same sync.crash sync.beside c.args.self.now kept all holds c.args.count refl counts durable _ e (now e here)
-
-    reads : ReadForEither (g.D.Disk.tells c.commit_mark.new.disk) (g.D.Disk.reads c.commit_mark.new.disk) (g.D.Disk.may_leave c.commit_mark.new.disk) c.args.mark.now kept (next_mark c.args.mark.now c.args.self.now c.args.count) all
-    reads =
-        let D = g.D.Disk in
-        let sync = c.sync.ensures in
-        let new = c.commit_mark.new.disk in
-        let tells_same = c.commit_mark.ensures.tells in
-        committing.reads_either D.moment D.left_since D.may_leave D.tells D.reads D.beside c.args.mark.now (next_mark c.args.mark.now c.args.self.now c.args.count) c.args.disk.now c.sync.new.self sync.tells sync.same sync.crash sync.beside c.args.self.now kept all holds c.args.count refl counts durable new tells_same
-        (g.met.D.Disk.reads_is_left new (tells_same ∙ sync.tells ∙ holds.stands.told)) (c.commit_mark.ensures.others (log_file c.args.self.now.number) (λ e. log_is_no_mark c.args.self.now.number (sym e))) now
-
--- ---- where it failed
-
-pub returns-in_err-commit_mark-clause-any_moment : goal.returns-in_err-commit_mark-clause-any_moment
-returns-in_err-commit_mark-clause-any_moment g c = any_moment g (goal.at.returns-in_err-commit_mark-clause-any_moment g c).After-commit_mark
-
-pub returns-in_err-commit_mark-clause-crash : goal.returns-in_err-commit_mark-clause-crash
-returns-in_err-commit_mark-clause-crash g c = crash g (goal.at.returns-in_err-commit_mark-clause-crash g c).After-commit_mark
-
-pub returns-in_err-commit_mark-clause-stands : goal.returns-in_err-commit_mark-clause-stands
-returns-in_err-commit_mark-clause-stands g c = λ kept all holds counts. stands g (goal.at.returns-in_err-commit_mark-clause-stands g c).After-commit_mark kept all holds counts
-
-pub returns-in_err-commit_mark-clause-left : goal.returns-in_err-commit_mark-clause-left
-returns-in_err-commit_mark-clause-left g c = λ kept all e holds counts here. left g (goal.at.returns-in_err-commit_mark-clause-left g c).After-commit_mark kept all holds counts e here
-
-pub returns-in_err-commit_mark-clause-reads : goal.returns-in_err-commit_mark-clause-reads
-returns-in_err-commit_mark-clause-reads g c = λ kept all holds counts. reads g (goal.at.returns-in_err-commit_mark-clause-reads g c).After-commit_mark kept all holds counts
-
--- ---- where it succeeded
-
-pub returns-clause-any_moment : goal.returns-clause-any_moment
-returns-clause-any_moment g c = any_moment g (goal.at.returns-clause-any_moment g c).After-commit_mark
-
-pub returns-clause-crash : goal.returns-clause-crash
-returns-clause-crash g c = crash g (goal.at.returns-clause-crash g c).After-commit_mark
-
-pub returns-clause-stands : goal.returns-clause-stands
-returns-clause-stands g c = λ kept all holds counts. stands g (goal.at.returns-clause-stands g c).After-commit_mark kept all holds counts
-
-pub returns-clause-left : goal.returns-clause-left
-returns-clause-left g c = λ kept all e holds counts here. left g (goal.at.returns-clause-left g c).After-commit_mark kept all holds counts e here
-
-pub returns-clause-valid : goal.returns-clause-valid
-returns-clause-valid g c = λ can.
-    let D = g.D.Disk in
-    let sync = c.sync.ensures in
-    let P : MarkState → Type 0 = λ m. CanCommit (D.tells c.args.disk.now) (D.reads c.args.disk.now) (D.may_leave c.args.disk.now) c.args.mark.now m in
-    c.in_ok-commit_mark.ensures.committed (committing.can_on D.moment D.left_since D.may_leave D.tells D.reads D.beside c.args.mark.now _ c.args.disk.now c.sync.new.self sync.tells sync.same sync.crash sync.beside (subst P (sym (ap (λ (l : LogEnd). next_mark c.args.mark.now l c.args.count) c.self.view_is)) can))
 
 pub returns-clause-committed : goal.returns-clause-committed
 returns-clause-committed g c = λ kept all holds counts.
     let D = g.D.Disk in
-    let sync = c.sync.ensures in
-    let is = ap (λ (l : LogEnd). next_mark c.args.mark.now l c.args.count) c.self.view_is in
-    let log_file_of = log_file c.args.self.now.number in
-    committing.holds_all D.moment D.left_since D.may_leave D.tells D.reads D.beside c.args.mark.now _ c.args.disk.now c.sync.new.self sync.tells sync.same sync.crash sync.beside c.args.self.now kept all holds c.args.count is counts (durable g (goal.at.returns-clause-committed g c).After-commit_mark) c.commit_mark.new.disk c.commit_mark.ensures.tells
-    (returns-clause-valid g c (committing.can D.moment D.left_since D.may_leave D.tells D.reads D.beside c.args.mark.now (next_mark c.args.mark.now c.args.self.now c.args.count) c.args.disk.now c.sync.new.self sync.tells sync.same sync.crash sync.beside c.args.self.now kept all holds c.args.count refl))
-    c.in_ok-commit_mark.ensures.durable (c.commit_mark.ensures.others log_file_of (λ e. log_is_no_mark c.args.self.now.number (sym e))) c.commit_mark.ensures.left
+    let d = c.args.disk.now in
+    (rw c.mark_after-next.ensures at c.commit_by.ensures.committed) kept all (carried holds) (takes_next (D.tells d) (D.reads d) (D.may_leave d) c.args.self.now c.args.mark.now kept all c.args.count holds counts)
+
+pub returns-clause-stands : goal.returns-clause-stands
+returns-clause-stands g c = λ kept all holds counts.
+    let D = g.D.Disk in
+    let d = c.args.disk.now in
+    (rw c.mark_after-next.ensures at c.commit_by.ensures.stands) kept all (carried holds) (takes_next (D.tells d) (D.reads d) (D.may_leave d) c.args.self.now c.args.mark.now kept all c.args.count holds counts)
+
+pub returns-clause-left : goal.returns-clause-left
+returns-clause-left g c = λ kept all e holds counts here.
+    let D = g.D.Disk in
+    let d = c.args.disk.now in
+    (rw c.mark_after-next.ensures at c.commit_by.ensures.left) kept all e (carried holds) (takes_next (D.tells d) (D.reads d) (D.may_leave d) c.args.self.now c.args.mark.now kept all c.args.count holds counts) here
 
 pub returns-clause-reads : goal.returns-clause-reads
-returns-clause-reads g c = λ kept all holds counts. reads g (goal.at.returns-clause-reads g c).After-commit_mark kept all holds counts
+returns-clause-reads g c = λ kept all holds counts.
+    let D = g.D.Disk in
+    let d = c.args.disk.now in
+    (rw c.mark_after-next.ensures at c.commit_by.ensures.reads) kept all (carried holds) (takes_next (D.tells d) (D.reads d) (D.may_leave d) c.args.self.now c.args.mark.now kept all c.args.count holds counts)
+
+pub returns-clause-crash : goal.returns-clause-crash
+returns-clause-crash g c = rw c.mark_after-next.ensures at c.commit_by.ensures.crash

@@ -71,6 +71,11 @@ returns-in-Changes-clause-replied g c = λ work put at.
     let P : SessionQuery → Type 0 = λ q. QueryWorked c.tell_changes.result (g.O.Disk.may_leave c.tell_changes.new.outside) (g.O.Outside.shown c.tell_changes.new.outside) c.tell_changes.new.self (was_of c.args.self.now) work put (Query q) in
     subst P (sym c.in-Changes.is) (c.tell_changes.ensures.replied work put at)
 
+pub returns-in-FileOut-clause-replied : goal.returns-in-FileOut-clause-replied
+returns-in-FileOut-clause-replied g c = λ work put at.
+    let P : SessionQuery → Type 0 = λ q. QueryWorked c.file_out.result (g.O.Disk.may_leave c.file_out.new.outside) (g.O.Outside.shown c.file_out.new.outside) c.file_out.new.self (was_of c.args.self.now) work put (Query q) in
+    subst P (sym c.in-FileOut.is) (c.file_out.ensures.replied work put at)
+
 -- the note of a snapshot
 pub returns-in-Snapshot-clause-replied : goal.returns-in-Snapshot-clause-replied
 returns-in-Snapshot-clause-replied g c = λ work put at.
@@ -106,6 +111,14 @@ returns-in-Changes-clause-elsewhere g c =
     let o = c.args.outside.now in
     elsewhere_as_left g.O.Disk.moment g.O.Disk.left_since o c.tell_changes.new.outside (g.O.Disk.may_leave o) (log_file (keeper_of c.args.self.now).log.number) c.tell_changes.ensures.no_more
 
+pub returns-in-FileOut-clause-any_moment : goal.returns-in-FileOut-clause-any_moment
+returns-in-FileOut-clause-any_moment g c = λ work put at. work_still g.O.Disk.moment g.O.Disk.left_since c.args.outside.now c.file_out.new.outside work (at_rest work put) (Query c.args.query) (c.file_out.ensures.any_moment work put at)
+
+pub returns-in-FileOut-clause-elsewhere : goal.returns-in-FileOut-clause-elsewhere
+returns-in-FileOut-clause-elsewhere g c =
+    let o = c.args.outside.now in
+    elsewhere_as_left g.O.Disk.moment g.O.Disk.left_since o c.file_out.new.outside (g.O.Disk.may_leave o) (log_file (keeper_of c.args.self.now).log.number) c.file_out.ensures.no_more
+
 -- ---- what is held and pending
 
 pub returns-in_ok-tell_recovered-in-Recover-clause-room : goal.returns-in_ok-tell_recovered-in-Recover-clause-room
@@ -134,6 +147,12 @@ returns-in-Changes-clause-room g c = λ enough. c.tell_changes.ensures.room _
 
 pub returns-in-Changes-clause-settled : goal.returns-in-Changes-clause-settled
 returns-in-Changes-clause-settled g c = λ question. c.tell_changes.ensures.pending ∙ c.requires.resting.settled
+
+pub returns-in-FileOut-clause-room : goal.returns-in-FileOut-clause-room
+returns-in-FileOut-clause-room g c = λ enough. c.file_out.ensures.room _
+
+pub returns-in-FileOut-clause-settled : goal.returns-in-FileOut-clause-settled
+returns-in-FileOut-clause-settled g c = λ question. c.file_out.ensures.pending ∙ c.requires.resting.settled
 
 pub returns-in-Snapshot-clause-held : goal.returns-in-Snapshot-clause-held
 returns-in-Snapshot-clause-held g c = ⊎_elim (λ same. same) (λ none. none ∙ sym c.requires.resting.silent) c.keep_note.ensures.held
