@@ -22,7 +22,7 @@ use Rattle.s80_form.proofs.lemmas.Building.{Words as TokenWords, ended, last_str
 use Rattle.s80_form.proofs.lemmas.Operands.{str_is}
 use Rattle.s80_change.specs.declared.change.Change.TheVariants.{Form, Method, DoIt}
 use Rattle.s80_change.specs.Check.{as_method, fault_of, size_refusal, IsSyntaxRefusal}
-use Rattle.s80_model.specs.Asked.{Ask, refuses, adds, evaluates, opens, refuses_head, adds_source, refuses_source, closes, tells, AsksPlain, IsRefusedText}
+use Rattle.s80_model.specs.Asked.{Ask, refuses, adds, evaluates, opens, refuses_head, adds_source, refuses_source, closes, tells, files, AsksPlain, IsRefusedText}
 use Rattle.s80_filing.proofs.FormsFit.{small_fits, IsSmall}
 
 -- ---- a doIt that is a string
@@ -125,3 +125,4 @@ asks_evaluation string (adds_source source) is = absurd is
 asks_evaluation string (refuses_source refusal) is = absurd is
 asks_evaluation string closes is = absurd is
 asks_evaluation string (tells query) is = absurd is
+asks_evaluation string (files filed moment) is = absurd is
