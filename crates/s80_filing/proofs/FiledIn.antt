@@ -7,6 +7,7 @@ use Rattle.std.proofs.lemmas.List.Elements.{All-head, All-tail}
 use Rattle.s80_dict.specs.Table.{same_side}
 use Rattle.std.specs.Cmp.Lexicographic.{bytes_decides}
 use Rattle.s80_apply.proofs.Places.{side_is}
+use Rattle.s80_chunk.specs.declared.item.Item.{Item}
 use Rattle.s80_chunk.specs.declared.item.Item.TheVariants as items
 use Rattle.s80_form.specs.declared.form.Form.{Form as AnyForm}
 use Rattle.s80_form.specs.declared.refusal.Refusal.{Refusal}
@@ -95,12 +96,12 @@ abbrev pub section_at : Option SectionHead → Section
 section_at None = sections.Top
 section_at (Some head) = sections.Open head
 
--- an item asks one thing
+-- an item of an input asks one thing
 abbrev pub OneAsk : Type 0
-OneAsk = (work : Work) (item : SessionItem) (ask other : Ask) → AsksIn work item ask → AsksIn work item other → other ≡ ask
+OneAsk = (work : Work) (item : Item) (ask other : Ask) → AsksIn work (Chunk item) ask → AsksIn work (Chunk item) other → other ≡ ask
 
 module _ (one : OneAsk) where
-  step : (work : Work) (item : SessionItem) (rest : List SessionItem) (expected : Ask) (list : List Change) → AsksIn work item expected → LeadsTo (work_after work expected) rest list → LeadsTo work (item ∷ rest) list
+  step : (work : Work) (item : Item) (rest : List SessionItem) (expected : Ask) (list : List Change) → AsksIn work (Chunk item) expected → LeadsTo (work_after work expected) rest list → LeadsTo work (Chunk item ∷ rest) list
   step work item rest expected list is next [] all = absurd all
   step work item rest expected list is next (ask ∷ asks) all =
       let same : ask ≡ expected = one work item expected ask is all.0 in
@@ -113,7 +114,7 @@ module _ (one : OneAsk) where
 
   -- a section ends
   ends : (work : Work) (rest : List SessionItem) (list : List Change) → LeadsTo (record work { section = sections.Top }) rest list → LeadsTo work (Chunk items.SectionEnd ∷ rest) list
-  ends work rest list next = step work (Chunk items.SectionEnd) rest closes list (refl, tt) next
+  ends work rest list next = step work items.SectionEnd rest closes list (refl, tt) next
 
   -- a form is added
   adds_form : (work : Work) (rest : List SessionItem) (form : AnyForm) (changes list : List Change) → CanFile work.changes (Form form ∷ changes) → LeadsTo (record work { changes = work.changes ++ Form form ∷ [] }) rest list → LeadsTo work (Chunk (items.Plain (form_text form)) ∷ rest) list
@@ -121,7 +122,7 @@ module _ (one : OneAsk) where
       let text = has_text form (All-head IsLawful (Form form) changes can.lawful) in
       let fits : Fits (form_text form) = (text.tree, text.tree_is, form_fits text.tree form text.form_is.0) in
       let P : Result (List Change) Refusal → Type 0 = λ r. LeadsTo (record work { changes = list_or r work.changes }) rest list in
-      step work (Chunk (items.Plain (form_text form))) rest (adds (Form form)) list ((fits, text), tt) (subst P (sym (is_added work.changes changes (Form form) can)) next)
+      step work (items.Plain (form_text form)) rest (adds (Form form)) list ((fits, text), tt) (subst P (sym (is_added work.changes changes (Form form) can)) next)
 
   -- a section begins, of whose class there is one
   begins : (work : Work) (rest : List SessionItem) (m : MethodChange) (changes list : List Change) → CanFile work.changes (Method m ∷ changes) → LeadsTo (record work { section = sections.Open (head_of m) }) rest list → LeadsTo work (Chunk (items.Head (head_text (head_of m))) ∷ rest) list
@@ -129,7 +130,7 @@ module _ (one : OneAsk) where
       let lawful = All-head IsLawful (Method m) changes can.lawful in
       let known = class_is_known m (state_of work.changes) can.accepted.0 in
       let P : Option Refusal → Type 0 = λ r. LeadsTo (record work { section = section_of (head_of m) r }) rest list in
-      step work (Chunk (items.Head (head_text (head_of m)))) rest (opens (head_of m)) list (text_begins (head_of m) lawful.head, tt) (subst P (sym known) next)
+      step work (items.Head (head_text (head_of m))) rest (opens (head_of m)) list (text_begins (head_of m) lawful.head, tt) (subst P (sym known) next)
 
   -- a method is added in its section
   adds_method : (work : Work) (rest : List SessionItem) (m : MethodChange) (changes list : List Change) → work.section ≡ sections.Open (head_of m) → CanFile work.changes (Method m ∷ changes) → LeadsTo (record work { changes = work.changes ++ Method m ∷ [] }) rest list → LeadsTo work (Chunk (items.Method m.source.text) ∷ rest) list
@@ -137,7 +138,7 @@ module _ (one : OneAsk) where
       let lawful = All-head IsLawful (Method m) changes can.lawful in
       let P : Result (List Change) Refusal → Type 0 = λ r. LeadsTo (record work { changes = list_or r work.changes }) rest list in
       let Q : Section → Type 0 = λ s. LeadsTo (record work { changes = list_after_source work.changes s m.source }) rest list in
-      step work (Chunk (items.Method m.source.text)) rest (adds_source m.source) list ((refl, lawful.check), tt) (subst Q (sym in_section) (subst P (sym (is_added work.changes changes (Method m) can)) next))
+      step work (items.Method m.source.text) rest (adds_source m.source) list ((refl, lawful.check), tt) (subst Q (sym in_section) (subst P (sym (is_added work.changes changes (Method m) can)) next))
 
   -- ---- changes
 
