@@ -41,7 +41,7 @@ unrefused (Ok state) end size e = (tt, not_full end size e)
 unrefused (Err refusal) end size e = absurd cc
 
 -- and what is accepted isn't refused, where there is room for it
-unrefusing : (answer : Result State Refusal) (end size : ℕ) → IsAccepted answer → end + size ≤ log_limit → refused_or answer (too_full end size) ≡ None
+pub unrefusing : (answer : Result State Refusal) (end size : ℕ) → IsAccepted answer → end + size ≤ log_limit → refused_or answer (too_full end size) ≡ None
 unrefusing (Ok state) end size accepted within = has_room end size within
 unrefusing (Err refusal) end size accepted within = absurd accepted
 

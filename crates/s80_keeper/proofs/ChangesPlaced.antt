@@ -45,7 +45,7 @@ module _ (P : Placed → Type 0) where
       let others = All-tail P p ps all in
       either (list_any (λ q. passes q.1) ps) (behind_last passes ps) (if passes p.1 then ps else p ∷ ps) (behind passes ps others) (either (passes p.1) ps (p ∷ ps) others all)
 
-  turned : (ps : List Placed) → All P ps → All P (reverse ps)
+  pub turned : (ps : List Placed) → All P ps → All P (reverse ps)
   turned [] all = all
   turned (p ∷ ps) all = All-same P (reverse (p ∷ ps)) (reverse ps ++ p ∷ []) (reverse-append (p ∷ []) ps) (All-push P (reverse ps) p (turned ps (All-tail P p ps all)) (All-head P p ps all))
 

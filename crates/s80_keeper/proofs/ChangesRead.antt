@@ -44,17 +44,17 @@ module _ (places : List ℕ) (i at : ℕ) (there : slice_get places i ≡ Some a
   failed_at log (faults.Damaged (CountDiffers marked found)) read = absurd read
   failed_at log (faults.Damaged (BadBlock place)) read = ((i, there ∙ ap Some (sym read.0)), subst (λ n. BeginsWithNone (drop n log)) (sym read.0) read.1)
 
-  pub placed_at : (fault : KeepFault) → IsPlacedAt at (Err fault) → ArePlaced places (Err fault)
-  placed_at faults.Memory placed = tt
-  placed_at (faults.Disk failed) placed = tt
-  placed_at (faults.Closed failed) placed = tt
-  placed_at (faults.Full count) placed = absurd placed
-  placed_at (faults.Damaged (NoMark size)) placed = absurd placed
-  placed_at (faults.Damaged (BadMark value)) placed = absurd placed
-  placed_at (faults.Damaged (LogShort marked found)) placed = absurd placed
-  placed_at (faults.Damaged (Replay place number)) placed = absurd placed
-  placed_at (faults.Damaged (CountDiffers marked found)) placed = absurd placed
-  placed_at (faults.Damaged (BadBlock place)) placed = (i, there ∙ ap Some (sym placed))
+  pub placed_at : (T : Type 0) (fault : KeepFault) → IsPlacedAt at (Err fault) → ArePlaced {T = T} places (Err fault)
+  placed_at T faults.Memory placed = tt
+  placed_at T (faults.Disk failed) placed = tt
+  placed_at T (faults.Closed failed) placed = tt
+  placed_at T (faults.Full count) placed = absurd placed
+  placed_at T (faults.Damaged (NoMark size)) placed = absurd placed
+  placed_at T (faults.Damaged (BadMark value)) placed = absurd placed
+  placed_at T (faults.Damaged (LogShort marked found)) placed = absurd placed
+  placed_at T (faults.Damaged (Replay place number)) placed = absurd placed
+  placed_at T (faults.Damaged (CountDiffers marked found)) placed = absurd placed
+  placed_at T (faults.Damaged (BadBlock place)) placed = (i, there ∙ ap Some (sym placed))
 
 -- the disk wasn't closed
 pub not_closed : (at : ℕ) (fault : KeepFault) (failed : Failed) → IsPlacedAt at (Err fault) → fault ≡ faults.Closed failed → ⊥
@@ -107,3 +107,16 @@ module _ (log : List ℕ) where
 pub read_these : (log held : List ℕ) (places : List ℕ) (ps : List Placed) (result : Result (List Change) KeepFault) → held ≡ log → places ≡ list_map (λ p. p.0) ps → All (Begins log) ps → AreReadAt held places result → IsThis (list_map (λ p. p.1) ps) result
 read_these log held places ps result same there begin read =
     are_these log ps result begin (subst (λ l. AreReadAt l (list_map (λ p. p.0) ps) result) same (subst (λ q. AreReadAt held q result) there read))
+
+-- so is a damage told, whatever was to be read
+pub placed_so : (T U : Type 0) (places : List ℕ) (fault : KeepFault) → ArePlaced {T = T} places (Err fault) → ArePlaced {T = U} places (Err fault)
+placed_so T U places faults.Memory placed = tt
+placed_so T U places (faults.Disk failed) placed = tt
+placed_so T U places (faults.Closed failed) placed = tt
+placed_so T U places (faults.Full count) placed = absurd placed
+placed_so T U places (faults.Damaged (NoMark size)) placed = absurd placed
+placed_so T U places (faults.Damaged (BadMark value)) placed = absurd placed
+placed_so T U places (faults.Damaged (LogShort marked found)) placed = absurd placed
+placed_so T U places (faults.Damaged (Replay place number)) placed = absurd placed
+placed_so T U places (faults.Damaged (CountDiffers marked found)) placed = absurd placed
+placed_so T U places (faults.Damaged (BadBlock place)) placed = placed

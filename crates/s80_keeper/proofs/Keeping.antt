@@ -87,14 +87,14 @@ module _ (changes : List Change) (system : SystemState) (prepared : PreparedChan
       built_more changes prepared.change built (is_accepted (accept prepared.change (state_of changes)) made.0 made.1)
 
   -- the system once its step is installed at the end of their log
-  installed_kept : (end : ℕ) (now : SystemState) → IsInstalled system prepared.step end now → IsSystemOf now (state_of (changes ++ prepared.change ∷ []))
+  pub installed_kept : (end : ℕ) (now : SystemState) → IsInstalled system prepared.step end now → IsSystemOf now (state_of (changes ++ prepared.change ∷ []))
   installed_kept end now installed =
       let made = ready.makes in
       let after = is_after (accept prepared.change (state_of changes)) (state_of changes) made.0 made.1 in
       subst (IsSystemOf now) (state_is_more changes prepared.change made.0 after) (made.2 end now installed)
 
   -- with the places of its sources
-  places_kept : PlacesFor (placed_of changes) system prepared → (end : ℕ) (now : SystemState) → end ≡ length (blocks changes) → IsInstalled system prepared.step end now → HasPlaces now (placed_of (changes ++ prepared.change ∷ []))
+  pub places_kept : PlacesFor (placed_of changes) system prepared → (end : ℕ) (now : SystemState) → end ≡ length (blocks changes) → IsInstalled system prepared.step end now → HasPlaces now (placed_of (changes ++ prepared.change ∷ []))
   places_kept places end now here installed =
       let made = places end in
       let after = is_after (accept_placed prepared.change end (placed_of changes)) (placed_of changes) made.0 made.1 in

@@ -2,6 +2,7 @@ pub mod lemmas
 mod Counting
 mod Accepted
 mod Keeping
+mod KeptWritten
 mod Together
 mod Histories
 mod Readings
@@ -17,3 +18,8 @@ pub mod Pieces
 mod StandingSource
 mod ChangesPlaced
 mod ChangesRead
+mod Elsewhere
+mod Renewed
+mod Written
+mod Versions
+mod Condensed

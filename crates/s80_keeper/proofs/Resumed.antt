@@ -1,5 +1,5 @@
 -- A start from a valid mark.
-use Rattle.std.proofs.Common.{◌≡◌, ◌≢◌, inl, inr, ⊎_elim, ℕ, ◌≤◌, Bool, List, [], ◌++◌, length, None, Result, Ok, Err, IfOk, refl, append_assoc, sym, ap, ◌∙◌, subst, arith, append-nil}
+use Rattle.std.proofs.Common.{◌≡◌, ◌≢◌, inl, inr, ⊎_elim, ℕ, ◌≤◌, Bool, List, [], ◌++◌, length, None, Result, Ok, Err, IfOk, refl, append_assoc, sym, ap, ◌∙◌, subst, arith, append-nil, length-take}
 use Rattle.s80_change.specs.declared.change.Change.{Change}
 use Rattle.s80_change.specs.Block.{block, blocks}
 use Rattle.s80_disk.specs.declared.disk.FileId.{FileId}
@@ -16,13 +16,13 @@ use Rattle.s80_apply.specs.System.{SystemState, HasPlaces, IsSystemOf}
 use Rattle.s80_apply.specs.Placed.{placed_of}
 use Rattle.s80_apply.specs.List.{IsBuilt, state_of}
 use Rattle.s80_history.specs.History.{HistoryState, IsHistoryOf}
-use Rattle.s80_log.specs.Log.{LogEnd, held_in}
+use Rattle.s80_log.specs.Log.{LogEnd, held_in, log_file}
 use Rattle.s80_log.specs.Standing.{marked_part, StandsFor as StandsByMark}
 use Rattle.s80_keeper.specs.declared.start.Damage.TheVariants.{NoMark, BadMark, LogShort, BadBlock, Replay, CountDiffers}
 use Rattle.s80_keeper.specs.declared.start.StartFault.{StartFault}
 use Rattle.s80_keeper.specs.declared.start.StartFault.TheVariants as faults
 use Rattle.s80_keeper.specs.Keeper.{KeeperState, Keeps, pending_of}
-use Rattle.s80_keeper.specs.Standing.{NamesNoImage, ReadsFor, StandsFor}
+use Rattle.s80_keeper.specs.Standing.{FilesStandFor, NamesNoImage, ReadsFor, StandsFor}
 use Rattle.s80_keeper.specs.Start.{HasMark, IsStart, Started, log_length, fault_of_mark}
 use Rattle.s80_keeper.specs.Reading.{IsFound, IsCountChecked, AreReplayed}
 use Rattle.s80_keeper.proofs.Keeping.{all_kept, holds_all}
@@ -191,3 +191,25 @@ pub settled_mark : (result : Result KeeperState StartFault) (mark : MarkState) �
 }) → IfOk result (λ keeper. pending_of keeper ≡ 0)
 settled_mark (Err fault) mark keeper_is = tt
 settled_mark (Ok keeper) mark keeper_is = ap pending_of keeper_is ∙ omega arith
+
+-- a log has all bytes that the valid mark takes, where the files stand for a list
+long_enough : (files : Image) (mark : MarkState) (changes : List Change) → HasMark files mark → FilesStandFor files changes → mark.log_length ≤ log_length files mark
+long_enough files mark changes has (inl empty) = absurd (some_log files empty.0 has.some)
+long_enough files mark changes has (inr by_mark) =
+    let Long : MarkState → Type 0 = λ m. m.log_length ≤ log_length files m in
+    let stands = by_mark.1 in
+    let size = simp length-take at (ap length stands.bytes) in
+    subst Long (one_mark files by_mark.0 mark stands.valid has.valid) (omega (arith, size, stands.whole))
+
+pub whole_mark : (files : Image) (mark : MarkState) (result : Result KeeperState StartFault) → HasMark files mark → IsStart files result → IfOk result (λ keeper. keeper ≡ record {
+  log = record { number = mark.log; end = mark.log_length };
+  mark = mark;
+  system = keeper.system;
+  history = keeper.history;
+  count = keeper.count;
+  fault = None;
+}) → IfOk result (λ keeper. keeper.log.end ≤ length (files (log_file keeper.log.number)))
+whole_mark files mark (Err fault) has is keeper_is = tt
+whole_mark files mark (Ok keeper) has is keeper_is =
+    let Within : LogEnd → Type 0 = λ l. l.end ≤ length (files (log_file l.number)) in
+    subst Within (sym (ap (λ (k : KeeperState). k.log) keeper_is)) (long_enough files mark is.0 has is.1)

@@ -1,5 +1,5 @@
 -- What a start leaves of the files, and the first mark that it makes.
-use Rattle.std.proofs.Common.{◌≡◌, ◌≢◌, ◌⊎◌, ◌-◌, inl, inr, ⊎_elim, ℕ, Bool, IsTrue, List, [], Some, None, Ok, refl, sym, ap, ◌∙◌, subst, arith}
+use Rattle.std.proofs.Common.{◌≡◌, ◌≢◌, ◌⊎◌, ◌-◌, inl, inr, ⊎_elim, ℕ, Bool, IsTrue, List, [], length, ◌≤◌, Some, None, Ok, refl, sym, ap, ◌∙◌, subst, arith}
 use Rattle.std.proofs.lemmas.List.Elements.{All-nil}
 use Rattle.s80_change.specs.declared.change.Change.{Change}
 use Rattle.s80_change.specs.Block.{IsLawful}
@@ -15,7 +15,7 @@ use Rattle.s80_apply.specs.State.{kernel_state}
 use Rattle.s80_apply.specs.Placed.{placed_kernel_state}
 use Rattle.s80_apply.specs.System.{SystemState, HasPlaces, IsSystemOf}
 use Rattle.s80_history.specs.History.{HistoryState, IsHistoryOf}
-use Rattle.s80_log.specs.Log.{LogEnd, held_in}
+use Rattle.s80_log.specs.Log.{LogEnd, held_in, log_file}
 use Rattle.s80_log.specs.Standing.{StandsFor as StandsByMark}
 use Rattle.s80_keeper.specs.Keeper.{KeeperState, Keeps, pending_of}
 use Rattle.s80_keeper.specs.Standing.{FilesStandFor, ReadsFor, StandsFor, LeavesEither, LeavesFor}
@@ -127,3 +127,9 @@ still_empty tells reads mid now may_leave changes told empty none same others = 
 -- a log and a mark that begin at nothing
 pub settled_first : (log : LogEnd) (mark : MarkState) (keeper : KeeperState) (system : SystemState) (history : HistoryState) → log ≡ record { number = 0; end = 0 } → keeper ≡ record { log = log; mark = mark; system = system; history = history; count = 0; fault = None } → pending_of keeper ≡ 0
 settled_first log mark keeper system history first is = ap pending_of is ∙ ap (λ (l : LogEnd). l.end - mark.log_length) first ∙ omega arith
+
+-- of which the log has all bytes
+pub whole_first : (reads : Image) (log : LogEnd) (mark : MarkState) (keeper : KeeperState) (system : SystemState) (history : HistoryState) → log ≡ record { number = 0; end = 0 } → keeper ≡ record { log = log; mark = mark; system = system; history = history; count = 0; fault = None } → keeper.log.end ≤ length (reads (log_file keeper.log.number))
+whole_first reads log mark keeper system history first is =
+    let none : keeper.log.end ≡ 0 = ap (λ (k : KeeperState). k.log.end) is ∙ ap (λ (l : LogEnd). l.end) first in
+    omega (arith, none)

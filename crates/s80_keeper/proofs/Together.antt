@@ -1,5 +1,5 @@
 -- A change kept later, and a commit after it, as one.
-use Rattle.std.proofs.Common.{◌≡◌, ◌⊎◌, ◌↔◌, ◌<◌, ◌≤◌, ◌+◌, inl, inr, ℕ, Bool, List, [], ◌∷◌, ◌++◌, length, Option, Some, None, Result, Ok, Err, refl, sym, ap, ◌∙◌, subst}
+use Rattle.std.proofs.Common.{◌≡◌, ◌↔◌, ◌<◌, ◌≤◌, ◌+◌, inl, inr, ℕ, Bool, List, [], ◌∷◌, ◌++◌, Option, Some, None, Result, Ok, Err, refl, sym, ap, ◌∙◌, subst}
 use Rattle.std.specs.Prelude.{⊤}
 use Rattle.s80_base.specs.declared.outside.Failed.{Failed}
 use Rattle.s80_change.specs.declared.change.Change.{Change}
@@ -17,7 +17,7 @@ use Rattle.s80_keeper.specs.Standing.{LeavesEither, LeavesFor}
 use Rattle.s80_keeper.specs.Answers.{PreparedChange, AfterCommit, AfterKeeping, AfterKeepingLater, Committed, HasTakenIn, Kept, KeptLater}
 use Rattle.s80_keeper.proofs.lemmas.Standing.{reads_so, stands_leaves}
 
-abbrev IsClosed : (T : Type 0) → Result T KeepFault → Failed → Type 0
+abbrev pub IsClosed : (T : Type 0) → Result T KeepFault → Failed → Type 0
 IsClosed T result failed = result ≡ Err (faults.Closed failed)
 
 abbrev IsFull : (T : Type 0) → Result T KeepFault → ℕ → Type 0

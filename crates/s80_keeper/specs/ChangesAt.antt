@@ -1,5 +1,5 @@
 -- What reading changes at the places of their blocks answers.
-use Rattle.std.specs.Prelude.{◌≡◌, ℕ, List, [], ◌∷◌, drop, slice_get, Some, Result, Ok, Err, ⊤}
+use Rattle.std.specs.Prelude.{◌≡◌, ℕ, List, [], ◌∷◌, ◌++◌, drop, slice_get, Some, Result, Ok, Err, ⊤}
 use Rattle.s80_change.specs.declared.change.Change.{Change}
 use Rattle.s80_change.specs.Blocks.{BeginsWith, BeginsWithNone}
 use Rattle.s80_keeper.specs.declared.keep.KeepFault.{KeepFault}
@@ -27,6 +27,11 @@ AreReadAt bytes places (Err (faults.Disk failed)) = ⊤
 AreReadAt bytes places (Err (faults.Closed failed)) = ⊤
 AreReadAt bytes places (Err (faults.Full count)) = ⊥
 
+-- such changes stand behind those that there were; or at one of the places no block begins
+abbrev pub AreAddedAt : List ℕ → List ℕ → List Change → List Change → Result (Unit {0}) KeepFault → Type 0
+AreAddedAt bytes places before now (Ok done) = (more : List Change) × (now ≡ before ++ more) × BeginAt bytes places more
+AreAddedAt bytes places before now (Err fault) = AreReadAt bytes places (Err fault)
+
 -- the change of which the bytes have a block at this place; or no block begins there
 abbrev pub IsReadAt : List ℕ → ℕ → Result Change KeepFault → Type 0
 IsReadAt bytes at (Ok change) = BeginsWith (drop at bytes) change
@@ -38,7 +43,7 @@ IsReadAt bytes at (Err (faults.Closed failed)) = ⊥
 IsReadAt bytes at (Err (faults.Full count)) = ⊥
 
 -- a damage is told at one of the places, and that the log is full never
-abbrev pub ArePlaced : List ℕ → Result (List Change) KeepFault → Type 0
+abbrev pub ArePlaced : {T : Type 0} → List ℕ → Result T KeepFault → Type 0
 ArePlaced places (Err (faults.Damaged (BadBlock place))) = IsAmong places place
 ArePlaced places (Err (faults.Damaged _)) = ⊥
 ArePlaced places (Err (faults.Full count)) = ⊥

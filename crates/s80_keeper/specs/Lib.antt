@@ -7,3 +7,5 @@ pub mod Source
 pub mod Unspelled
 pub mod SourceAt
 pub mod ChangesAt
+pub mod Condensing
+pub mod Renewing

@@ -9,7 +9,7 @@ ghost use Rattle.s80_history.specs.History.{set_places, version_places};
 ghost use Rattle.s80_history.specs.Lists.{set_of, versions_of};
 ghost use Rattle.s80_log.specs.Log.{held_in};
 ghost use Rattle.s80_keeper.specs.Answers.{IfKeepDisk, UnlessKeepDisk};
-ghost use Rattle.s80_keeper.specs.ChangesAt.{ArePlaced, AreReadAt, IsPlacedAt, IsReadAt};
+ghost use Rattle.s80_keeper.specs.ChangesAt.{AreAddedAt, ArePlaced, AreReadAt, IsPlacedAt, IsReadAt};
 ghost use Rattle.s80_keeper.specs.Keeper.{IsSettled, Knows};
 ghost use Rattle.s80_keeper.specs.Source.{IsThis, after_reading};
 
@@ -102,11 +102,34 @@ impl Keeper {
         ensures named { IfKeepDisk result (λ failed. failed.call ≡ Read) }
     {
         let mut changes = Changes::empty(alloc);
+        self.add_changes_at(alloc, disk, places, &mut changes)?;
+        Ok(changes)
+    }
+
+    /// Adds the changes whose blocks begin at these places. The disk hasn't failed yet.
+    pub(crate) fn add_changes_at<D: Disk>(
+        &mut self,
+        alloc: Global,
+        disk: &mut D,
+        places: &[u64],
+        changes: &mut Changes,
+    ) -> Result<(), KeepFault>
+        requires { self.old.fault ≡ None }
+        ensures read { IsTrue (D.tells disk.old)
+            → AreAddedAt (held_in (D.reads disk.old) self.old.log) places.now changes.old changes.new result }
+        ensures placed { ArePlaced places.now result }
+        ensures after { self.new ≡ after_reading result self.old }
+        ensures open { (failed : Failed) → result ≢ Err (KeepFault.Closed failed) }
+        ensures untouched { IsUntouched D.tells D.reads D.may_leave D.moment D.left_since D.beside D.disk_faults disk.old disk.new }
+        ensures cause { IfKeepDisk result (λ failed. Rose (D.disk_faults disk.old) (D.disk_faults disk.new)) }
+        ensures faults_stay { UnlessKeepDisk result (D.disk_faults disk.new ≡ D.disk_faults disk.old) }
+        ensures named { IfKeepDisk result (λ failed. failed.call ≡ Read) }
+    {
         for place in places {
             let change = self.change_at(alloc, disk, *place)?;
             changes.push(change)?;
         }
-        Ok(changes)
+        Ok(())
     }
 
     /// The change whose block begins at this place.

@@ -1,5 +1,5 @@
 // The keeping of a change.
-ghost use Rattle.std.specs.Prelude.{All, ◌≡◌, ◌≢◌, ◌⊎◌, ◌↔◌, ◌<◌, ◌≤◌, ◌+◌, ◌^◌, ◌∷◌, [], ◌++◌, List, ℕ, length, Some, None, Ok, Err, IfOk, ⊤};
+ghost use Rattle.std.specs.Prelude.{All, ◌≡◌, ◌≢◌, ◌⊎◌, ◌↔◌, ◌<◌, ◌≤◌, ◌+◌, ◌^◌, ◌∷◌, [], ◌++◌, List, ℕ, length, Some, None, Ok, Err, IfOk, OnOk, ⊤};
 ghost use Rattle.s80_base.specs.Causes.{Rose};
 ghost use Rattle.s80_base.specs.declared.outside.Call.TheVariants.{Read, Write, Sync};
 ghost use Rattle.s80_change.specs.declared.change.Change.{Change};
@@ -14,11 +14,12 @@ ghost use Rattle.s80_apply.specs.Placed.{placed_of};
 ghost use Rattle.s80_log.specs.Commit.{LeavesBeside};
 ghost use Rattle.s80_log.specs.Log.{log_file};
 ghost use Rattle.s80_keeper.specs.Keeper.{pending_of, IsSettled, Keeps};
+ghost use Rattle.s80_keeper.specs.Renewing.{HasWritten};
 ghost use Rattle.s80_keeper.specs.Standing.{LeavesEither, LeavesFor};
 ghost use Rattle.s80_keeper.specs.Answers.{AfterCommit, AfterKeeping, AfterKeepingLater, CanKeep, Committed, IfKeepDisk, IsFor, Kept, KeptLater, PlacesFor, UnlessKeepDisk};
 
 use crate::keeper::{Keeper, Prepared};
-use crate::start::Damage;
+use crate::start::{Damage, StartFault};
 use s80_apply::System;
 use s80_base::{Failed, OutOfMemory};
 use s80_disk::Disk;
@@ -53,6 +54,30 @@ impl From<OutOfMemory> for KeepFault {
     }
 }
 
+impl From<Failed> for KeepFault {
+    ghost use Rattle.s80_keeper.specs.declared.keep.KeepFault.TheVariants.{Disk};
+
+    ghost from_gives = { λ failed fault. fault ≡ Disk failed };
+
+    fn from(failed: Failed) -> Self {
+        KeepFault::Disk(failed)
+    }
+}
+
+impl From<StartFault> for KeepFault {
+    ghost use Rattle.s80_keeper.specs.Renewing.{fault_of_start};
+
+    ghost from_gives = { λ found fault. fault ≡ fault_of_start found };
+
+    fn from(fault: StartFault) -> Self {
+        match fault {
+            StartFault::Memory => KeepFault::Memory,
+            StartFault::Disk(failed) => KeepFault::Disk(failed),
+            StartFault::Damaged(damage) => KeepFault::Damaged(damage),
+        }
+    }
+}
+
 impl Keeper {
     /// How many bytes of the log are appended and not yet committed.
     pub fn pending(&self) -> u64
@@ -80,6 +105,11 @@ impl Keeper {
             → Keeps (D.tells disk.old) (D.reads disk.old) (D.may_leave disk.old) self.old kept all → IsLawful prepared.change → IsFor (state_of all) self.old.system prepared
             → PlacesFor (placed_of all) self.old.system prepared
             → KeptLater result (D.tells disk.new) (D.reads disk.new) (D.may_leave disk.new) self.new kept all prepared.change }
+
+        // Whatever a crash may leave.
+        ensures written { (changes : List Change) → HasWritten (D.tells disk.old) (D.reads disk.old) self.old changes → IsLawful prepared.change
+            → IsFor (state_of changes) self.old.system prepared → PlacesFor (placed_of changes) self.old.system prepared
+            → OnOk result (HasWritten (D.tells disk.new) (D.reads disk.new) self.new (changes ++ prepared.change ∷ [])) }
 
         // After a fault of the disk each call answers it, and none is made.
         ensures closed { (failed : Failed) → (result ≡ Err (KeepFault.Closed failed)) ↔ (self.old.fault ≡ Some failed) }
@@ -135,6 +165,10 @@ impl Keeper {
         ensures committed { (kept all : List Change)
             → Keeps (D.tells disk.old) (D.reads disk.old) (D.may_leave disk.old) self.old kept all
             → Committed result (D.tells disk.new) (D.reads disk.new) (D.may_leave disk.new) self.new kept all }
+
+        // Whatever a crash may leave.
+        ensures written { (changes : List Change) → HasWritten (D.tells disk.old) (D.reads disk.old) self.old changes
+            → OnOk result (HasWritten (D.tells disk.new) (D.reads disk.new) self.new changes) }
 
         ensures closed { (failed : Failed) → (result ≡ Err (KeepFault.Closed failed)) ↔ (self.old.fault ≡ Some failed) }
         ensures uncalled { self.old.fault ≢ None → disk.new ≡ disk.old }

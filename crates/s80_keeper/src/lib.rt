@@ -2,9 +2,11 @@
 #![tactic(auto)]
 
 mod changes_at;
+mod condense;
 mod keep;
 mod keeper;
 mod laws;
+mod renew;
 mod source;
 mod source_at;
 mod start;

@@ -124,6 +124,8 @@ impl Keeper {
             → Started result (D.tells disk.new) (D.reads disk.new) (D.may_leave disk.new) changes }
         ensures faultless { IfOk result (λ keeper. keeper.fault ≡ None) }
         ensures settled { IfOk result (λ keeper. pending_of keeper ≡ 0) }
+        // The log has all the bytes that count.
+        ensures whole { IsTrue (D.tells disk.old) → IfOk result (λ keeper. keeper.log.end ≤ length (D.reads disk.new (log_file keeper.log.number))) }
 
         // A crash at any moment leaves what it might have left before; but where the logs read empty, they may be so for certain.
         ensures any_moment { IsTrue (D.tells disk.old) → LeavesOnly D.moment D.left_since disk.old disk.new
@@ -163,7 +165,13 @@ impl Keeper {
     }
 
     /// A keeper of so many changes in this log, with this mark, the state that they make, and their change set and versions.
-    fn at(log: Log, mark: MarkState, system: System, history: History, count: u64) -> Keeper
+    pub(crate) fn at(
+        log: Log,
+        mark: MarkState,
+        system: System,
+        history: History,
+        count: u64,
+    ) -> Keeper
         ensures { result ≡ record { log = log; mark = mark; system = system; history = history; count = count; fault = None } }
     {
         Keeper {
@@ -290,7 +298,7 @@ fn accept_owned(
 }
 
 /// Has the change of a block accepted, which begins and ends at these places.
-fn accept(
+pub(crate) fn accept(
     alloc: Global,
     system: &mut System,
     history: &mut History,

@@ -1,56 +1,24 @@
-use Rattle.std.proofs.Common.{◌≡◌, ◌+◌, List, ℕ, take, drop, get_or, rules, sym, ap, subst, ◌∙◌}
-use Rattle.std.proofs.lemmas.Option.{slice_get-get_or}
+use Rattle.std.proofs.Common.{◌++◌, List, ap, sym, subst, ◌∙◌}
 use Rattle.std.proofs.lemmas.Result.{err_from_is_err_and}
-use Rattle.std.specs.Prelude.{Err}
 use Rattle.s80_change.specs.declared.change.Change.{Change}
-use Rattle.s80_change.specs.Blocks.{BeginsWith}
-use Rattle.s80_log.specs.Log.{held_in, log_file}
-use Rattle.s80_keeper.specs.ChangesAt.{BeginAt, IsReadAt}
-use Rattle.s80_keeper.specs.Keeper.{KeeperState}
-use Rattle.s80_keeper.proofs.ChangesRead.{begin_more, failed_at, placed_at}
+use Rattle.s80_log.specs.Log.{held_in}
+use Rattle.s80_keeper.specs.ChangesAt.{BeginAt}
+use Rattle.s80_keeper.proofs.ChangesRead.{placed_so}
 use Rattle.s80_keeper.proofs.keeper.Keeper.changes_at.Goals as goal
-use Rattle.s80_keeper.proofs.keeper.Keeper.changes_at.Goals.{After-change_at}
 
--- the log reads as at first
-same : (g : _) (c : After-change_at g) → held_in (g.D.Disk.reads c.loop-place.disk) c.loop-place.self.log ≡ held_in (g.D.Disk.reads c.args.disk.now) c.args.self.now.log
-same g c =
-    let so_far = c.loop-place.invariant in
-    let log = c.args.self.now.log in
-    ap (λ (k : KeeperState). held_in (g.D.Disk.reads c.loop-place.disk) k.log) so_far.same ∙ ap (take log.end) (so_far.untouched.same (log_file log.number))
-
-pub returns-in_err-change-clause-read : goal.returns-in_err-change-clause-read
-returns-in_err-change-clause-read g c = λ told.
-    let places = c.args.places.now in
-    let i = c.loop-place.place-index in
-    let log = held_in (g.D.Disk.reads c.args.disk.now) c.args.self.now.log in
-    let fault = c.in_err-change.field-0.0 in
-    let there = slice_get-get_or places i 0 c.loop-place-test.true in
-    let P : List ℕ → Type 0 = λ l. IsReadAt l (get_or places i 0) (Err fault) in
-    let read = subst P (same g (goal.at.returns-in_err-change-clause-read g c).After-change_at) (c.in_err-change.ensures.read (c.loop-place.invariant.untouched.telling ∙ told)) in
+pub returns-in_err-add_changes_at-clause-read : goal.returns-in_err-add_changes_at-clause-read
+returns-in_err-add_changes_at-clause-read g c = λ told.
     let p = err_from_is_err_and c.from_residual.result c.from_residual.ensures.1 in
-    rw (p.1, p.2) (failed_at places i (get_or places i 0) there log fault read)
+    rw (p.1, p.2) (c.in_err-add_changes_at.ensures.read told)
 
-pub returns-in_err-change-clause-placed : goal.returns-in_err-change-clause-placed
-returns-in_err-change-clause-placed g c =
-    let places = c.args.places.now in
-    let i = c.loop-place.place-index in
+pub returns-in_err-add_changes_at-clause-placed : goal.returns-in_err-add_changes_at-clause-placed
+returns-in_err-add_changes_at-clause-placed g c =
     let p = err_from_is_err_and c.from_residual.result c.from_residual.ensures.1 in
-    rw (p.1, p.2) (placed_at places i (get_or places i 0) (slice_get-get_or places i 0 c.loop-place-test.true) c.in_err-change.field-0.0 c.in_err-change.ensures.placed)
+    rw (p.1, p.2) (placed_so (Unit {0}) (List Change) c.args.places.now c.in_err-add_changes_at.field-0.0 c.in_err-add_changes_at.ensures.placed)
 
-pub loop-place-preserved : goal.loop-place-preserved
-loop-place-preserved g c =
-    let places = c.args.places.now in
-    let i = c.loop-place.place-index in
+pub returns-clause-read : goal.returns-clause-read
+returns-clause-read g c = λ told.
+    let read = c.in_ok-add_changes_at.ensures.read told in
     let log = held_in (g.D.Disk.reads c.args.disk.now) c.args.self.now.log in
-    let so_far = c.loop-place.invariant in
-    let change = c.in_ok-change.change in
-    let Begins : List ℕ → Type 0 = λ l. BeginsWith (drop (get_or places i 0) l) change in
-    let All : List Change → Type 0 = λ all. BeginAt log (take (i + 1) places) all in
-    record {
-      read = λ told.
-          let one = subst Begins (same g (goal.at.loop-place-preserved g c).After-change_at) (c.in_ok-change.ensures.read (so_far.untouched.telling ∙ told)) in
-          subst All (sym c.in_ok-push.ensures.ok) (begin_more log places i c.loop-place.changes change c.loop-place-test.true (so_far.read told) one);
-      same = ◌∙◌ {b = c.loop-place.self} c.in_ok-change.ensures.after c.loop-place.invariant.same;
-      untouched = search rules;
-      faults_stay = c.in_ok-change.ensures.faults_stay ∙ so_far.faults_stay;
-    }
+    let P : List Change → Type 0 = λ l. BeginAt log c.args.places.now l in
+    subst P (sym (read.1 ∙ ap (λ (l : List Change). l ++ read.0) c.empty-changes.ensures)) read.2

@@ -2,7 +2,6 @@ use Rattle.std.proofs.Common.{◌≡◌, inl, List, sym, ap, ◌∙◌, subst, r
 use Rattle.std.specs.Prelude.{⊤}
 use Rattle.s80_change.specs.declared.change.Change.{Change}
 use Rattle.s80_disk.specs.declared.disk.FileId.TheVariants.{Mark}
-use Rattle.s80_disk.specs.Image.{Image}
 use Rattle.s80_disk.specs.Moments.{LeavesOnly}
 use Rattle.s80_disk.proofs.lemmas.Run.{started, weaker}
 use Rattle.s80_mark.specs.declared.mark.MarkState.{MarkState}
@@ -12,8 +11,10 @@ use Rattle.s80_apply.specs.List.{IsBuilt}
 use Rattle.s80_log.specs.Log.{log_file}
 use Rattle.s80_log.specs.Commit.{LeavesBeside, StandForEither, next_mark}
 use Rattle.s80_keeper.specs.Keeper.{KeeperState, Keeps, pending_of}
+use Rattle.s80_keeper.specs.Renewing.{HasWritten}
 use Rattle.s80_keeper.specs.Standing.{LeavesEither, ReadsForEither}
 use Rattle.s80_keeper.proofs.Keeping.{either_list, elsewhere, images_stand, keeps_all, keeps_unpending, kept_built, leaves_either, reads_either}
+use Rattle.s80_keeper.proofs.KeptWritten.{written_marked}
 use Rattle.s80_keeper.proofs.keeper.Keeper.commit.Goals as goal
 use Rattle.s80_keeper.proofs.keeper.Keeper.commit.Goals.{After-pending, After-commit}
 
@@ -45,7 +46,7 @@ others_stay g c =
     weaker D.moment D.left_since d c.commit.new.disk (HasEither (D.tells d) (D.reads d) (D.may_leave d) (D.beside d).told c.self.inside.mark next) (LeavesBeside (D.may_leave d) (D.beside d).told file (λ e. ⊤)) c.commit.ensures.any_moment
     (λ told e either. elsewhere (D.may_leave d) (D.beside d).told file Mark Anything (λ other no_mark no_log. no_mark) told e either.from)
 
-module _ (g : _) (c : After-commit g) (kept all : List Change) (keeps : Keeps (g.D.Disk.tells c.args.disk.now) (g.D.Disk.reads c.args.disk.now) (g.D.Disk.may_leave c.args.disk.now) c.args.self.now kept all) where
+module _ (g : _) (c : After-commit g) where
   -- the keeper as the code has it
   abbrev keeper : KeeperState
   keeper = record { log = c.self.inside.log; mark = c.self.inside.mark; system = c.self.inside.system; history = c.self.inside.history; count = c.self.inside.count; fault = c.self.inside.fault }
@@ -54,32 +55,33 @@ module _ (g : _) (c : After-commit g) (kept all : List Change) (keeps : Keeps (g
   abbrev next : MarkState
   next = next_mark c.self.inside.mark c.self.inside.log c.self.inside.count
 
-  keeps_inside : Keeps (g.D.Disk.tells c.args.disk.now) (g.D.Disk.reads c.args.disk.now) (g.D.Disk.may_leave c.args.disk.now) keeper kept all
-  keeps_inside =
-      let P : KeeperState → Type 0 = λ k. Keeps (g.D.Disk.tells c.args.disk.now) (g.D.Disk.reads c.args.disk.now) (g.D.Disk.may_leave c.args.disk.now) k kept all in
-      subst P (sym c.self.view_is) keeps
+  module _ (kept all : List Change) (keeps : Keeps (g.D.Disk.tells c.args.disk.now) (g.D.Disk.reads c.args.disk.now) (g.D.Disk.may_leave c.args.disk.now) c.args.self.now kept all) where
+    keeps_inside : Keeps (g.D.Disk.tells c.args.disk.now) (g.D.Disk.reads c.args.disk.now) (g.D.Disk.may_leave c.args.disk.now) keeper kept all
+    keeps_inside =
+        let P : KeeperState → Type 0 = λ k. Keeps (g.D.Disk.tells c.args.disk.now) (g.D.Disk.reads c.args.disk.now) (g.D.Disk.may_leave c.args.disk.now) k kept all in
+        subst P (sym c.self.view_is) keeps
 
-  built_front : IsBuilt kept
-  built_front = kept_built (g.D.Disk.tells c.args.disk.now) (g.D.Disk.reads c.args.disk.now) (g.D.Disk.may_leave c.args.disk.now) keeper kept all keeps_inside
+    built_front : IsBuilt kept
+    built_front = kept_built (g.D.Disk.tells c.args.disk.now) (g.D.Disk.reads c.args.disk.now) (g.D.Disk.may_leave c.args.disk.now) keeper kept all keeps_inside
 
-  run : LeavesOnly g.D.Disk.moment g.D.Disk.left_since c.args.disk.now c.commit.new.disk (LeavesEither (g.D.Disk.beside c.args.disk.now).told kept all)
-  run =
-      let D = g.D.Disk in
-      let d = c.args.disk.now in
-      let was = keeps_inside in
-      let file = log_file c.self.inside.log.number in
-      weaker D.moment D.left_since d c.commit.new.disk (LeavesBeside (D.may_leave d) (D.beside d).told file (StandForEither c.self.inside.mark kept next all)) (LeavesEither (D.beside d).told kept all) (c.commit.ensures.stands kept all was.holds was.count)
-      (leaves_either c.self.inside.mark next kept all was.no_image was.no_image built_front was.built (D.may_leave d) (D.beside d).told file)
+    run : LeavesOnly g.D.Disk.moment g.D.Disk.left_since c.args.disk.now c.commit.new.disk (LeavesEither (g.D.Disk.beside c.args.disk.now).told kept all)
+    run =
+        let D = g.D.Disk in
+        let d = c.args.disk.now in
+        let was = keeps_inside in
+        let file = log_file c.self.inside.log.number in
+        weaker D.moment D.left_since d c.commit.new.disk (LeavesBeside (D.may_leave d) (D.beside d).told file (StandForEither c.self.inside.mark kept next all)) (LeavesEither (D.beside d).told kept all) (c.commit.ensures.stands kept all was.holds was.count)
+        (leaves_either c.self.inside.mark next kept all was.no_image was.no_image built_front was.built (D.may_leave d) (D.beside d).told file)
 
-  broke_off : ReadsForEither (g.D.Disk.tells c.commit.new.disk) (g.D.Disk.reads c.commit.new.disk) (g.D.Disk.may_leave c.commit.new.disk) kept all
-  broke_off =
-      let D = g.D.Disk in
-      let new = c.commit.new.disk in
-      let was = keeps_inside in
-      record {
-        stands = reads_either c.self.inside.mark next kept all was.no_image was.no_image built_front was.built (D.tells new) (D.reads new) (D.may_leave new) (c.commit.ensures.reads kept all was.holds was.count);
-        images = λ e left. either_list c.self.inside.mark next kept all was.no_image was.no_image built_front was.built e (c.commit.ensures.left kept all e was.holds was.count left).here;
-      }
+    broke_off : ReadsForEither (g.D.Disk.tells c.commit.new.disk) (g.D.Disk.reads c.commit.new.disk) (g.D.Disk.may_leave c.commit.new.disk) kept all
+    broke_off =
+        let D = g.D.Disk in
+        let new = c.commit.new.disk in
+        let was = keeps_inside in
+        record {
+          stands = reads_either c.self.inside.mark next kept all was.no_image was.no_image built_front was.built (D.tells new) (D.reads new) (D.may_leave new) (c.commit.ensures.reads kept all was.holds was.count);
+          images = λ e left. either_list c.self.inside.mark next kept all was.no_image was.no_image built_front was.built e (c.commit.ensures.left kept all e was.holds was.count left).here;
+        }
 
 -- ---- where it failed
 
@@ -105,7 +107,16 @@ returns-clause-committed g c = λ kept all keeps.
     let at = (goal.at.returns-clause-committed g c).After-commit in
     let was = keeps_inside g at kept all keeps in
     let done = c.in_default-commit.ensures in
-    keeps_all (D.tells d) (D.reads d) (D.may_leave d) (keeper g at kept all keeps) kept all was (D.tells new) (D.reads new) (D.may_leave new) c.commit.new.self c.commit.new.mark (ap (λ (m : MarkState). m.image) done.mark) (done.committed kept all was.holds was.count)
+    keeps_all (D.tells d) (D.reads d) (D.may_leave d) (keeper g at) kept all was (D.tells new) (D.reads new) (D.may_leave new) c.commit.new.self c.commit.new.mark (ap (λ (m : MarkState). m.image) done.mark) (done.committed kept all was.holds was.count)
+
+pub returns-clause-written : goal.returns-clause-written
+returns-clause-written g c = λ changes written.
+    let D = g.D.Disk in
+    let d = c.args.disk.now in
+    let new = c.commit.new.disk in
+    let at = (goal.at.returns-clause-written g c).After-commit in
+    let Written : KeeperState → Type 0 = λ k. HasWritten (D.tells d) (D.reads d) k changes in
+    written_marked (D.tells d) (D.tells new) (D.reads d) (D.reads new) (keeper g at) c.commit.new.self c.commit.new.mark changes (subst Written (sym c.self.view_is) written) c.commit.ensures.same c.commit.ensures.tells c.commit.ensures.others
 
 pub returns-clause-elsewhere : goal.returns-clause-elsewhere
 returns-clause-elsewhere g c = others_stay g (goal.at.returns-clause-elsewhere g c).After-commit

@@ -1,16 +1,18 @@
-use Rattle.std.proofs.Common.{◌≡◌, ◌∷◌, [], ℕ, List, length, refl, sym, ap, ◌∙◌, subst, arith, rules}
+use Rattle.std.proofs.Common.{◌≡◌, ℕ, List, length, refl, sym, ap, ◌∙◌, subst, arith, rules}
 use Rattle.std.specs.Prelude.{⊤}
 use Rattle.s80_change.specs.declared.change.Change.{Change}
-use Rattle.s80_change.specs.Block.{block, IsLawful}
-use Rattle.s80_disk.specs.Image.{Image, Torn}
+use Rattle.s80_change.specs.Block.{block}
+use Rattle.s80_disk.specs.Image.{Image, Torn, Wrote}
 use Rattle.s80_disk.specs.Moments.{ComesFrom, LeavesOnly}
 use Rattle.s80_disk.proofs.lemmas.Run.{started, weaker}
 use Rattle.s80_log.specs.Log.{log_file}
 use Rattle.s80_log.specs.Standing.{FilesStandFor as StandByMark}
 use Rattle.s80_log.specs.Commit.{LeavesBeside}
 use Rattle.s80_keeper.specs.Keeper.{KeeperState, Keeps}
+use Rattle.s80_keeper.specs.Renewing.{HasWritten}
 use Rattle.s80_keeper.specs.Standing.{LeavesFor}
 use Rattle.s80_keeper.proofs.Keeping.{after_taken, elsewhere, installed_at, kept_built, keeps_later, keeps_still, leaves_kept, noted_kept, stands_by_mark, still_elsewhere}
+use Rattle.s80_keeper.proofs.KeptWritten.{written_later}
 use Rattle.s80_keeper.proofs.keeper.Keeper.keep_later.Goals as goal
 use Rattle.s80_keeper.proofs.keeper.Keeper.keep_later.Goals.{After-append}
 
@@ -18,24 +20,25 @@ use Rattle.s80_keeper.proofs.keeper.Keeper.keep_later.Goals.{After-append}
 is_block : (g : _) (c : After-append g) → c.block.result.now ≡ block c.args.prepared.change
 is_block g c = c.block.ensures
 
-module _ (g : _) (c : After-append g) (kept all : List Change) (keeps : Keeps (g.D.Disk.tells c.args.disk.now) (g.D.Disk.reads c.args.disk.now) (g.D.Disk.may_leave c.args.disk.now) c.args.self.now kept all) where
+module _ (g : _) (c : After-append g) where
   -- the keeper as the code has it
   abbrev keeper : KeeperState
   keeper = record { log = c.self.inside.log; mark = c.self.inside.mark; system = c.self.inside.system; history = c.self.inside.history; count = c.self.inside.count; fault = c.self.inside.fault }
 
-  keeps_inside : Keeps (g.D.Disk.tells c.args.disk.now) (g.D.Disk.reads c.args.disk.now) (g.D.Disk.may_leave c.args.disk.now) keeper kept all
-  keeps_inside =
-      let P : KeeperState → Type 0 = λ k. Keeps (g.D.Disk.tells c.args.disk.now) (g.D.Disk.reads c.args.disk.now) (g.D.Disk.may_leave c.args.disk.now) k kept all in
-      subst P (sym c.self.view_is) keeps
+  module _ (kept all : List Change) (keeps : Keeps (g.D.Disk.tells c.args.disk.now) (g.D.Disk.reads c.args.disk.now) (g.D.Disk.may_leave c.args.disk.now) c.args.self.now kept all) where
+    keeps_inside : Keeps (g.D.Disk.tells c.args.disk.now) (g.D.Disk.reads c.args.disk.now) (g.D.Disk.may_leave c.args.disk.now) keeper kept all
+    keeps_inside =
+        let P : KeeperState → Type 0 = λ k. Keeps (g.D.Disk.tells c.args.disk.now) (g.D.Disk.reads c.args.disk.now) (g.D.Disk.may_leave c.args.disk.now) k kept all in
+        subst P (sym c.self.view_is) keeps
 
-  run : LeavesOnly g.D.Disk.moment g.D.Disk.left_since c.args.disk.now c.append.new.disk (LeavesFor (g.D.Disk.beside c.args.disk.now).told kept)
-  run =
-      let D = g.D.Disk in
-      let d = c.args.disk.now in
-      let was = keeps_inside in
-      let built = kept_built (D.tells d) (D.reads d) (D.may_leave d) keeper kept all was in
-      weaker D.moment D.left_since d c.append.new.disk (LeavesBeside (D.may_leave d) (D.beside d).told (log_file c.self.inside.log.number) (λ e. StandByMark e c.self.inside.mark kept)) (LeavesFor (D.beside d).told kept) (c.append.ensures.stands c.self.inside.mark kept all was.holds)
-      (leaves_kept (D.may_leave d) (D.beside d).told (log_file c.self.inside.log.number) c.self.inside.mark kept was.no_image built)
+    run : LeavesOnly g.D.Disk.moment g.D.Disk.left_since c.args.disk.now c.append.new.disk (LeavesFor (g.D.Disk.beside c.args.disk.now).told kept)
+    run =
+        let D = g.D.Disk in
+        let d = c.args.disk.now in
+        let was = keeps_inside in
+        let built = kept_built (D.tells d) (D.reads d) (D.may_leave d) keeper kept all was in
+        weaker D.moment D.left_since d c.append.new.disk (LeavesBeside (D.may_leave d) (D.beside d).told (log_file c.self.inside.log.number) (λ e. StandByMark e c.self.inside.mark kept)) (LeavesFor (D.beside d).told kept) (c.append.ensures.stands c.self.inside.mark kept all was.holds)
+        (leaves_kept (D.may_leave d) (D.beside d).told (log_file c.self.inside.log.number) c.self.inside.mark kept was.no_image built)
 
 -- whatever the disk stands for, but for the log
 others_stay : (g : _) (c : After-append g) → LeavesOnly g.D.Disk.moment g.D.Disk.left_since c.args.disk.now c.append.new.disk (LeavesBeside (g.D.Disk.may_leave c.args.disk.now) (g.D.Disk.beside c.args.disk.now).told (log_file c.args.self.now.log.number) (λ e. ⊤))
@@ -83,6 +86,20 @@ returns-in-Ok-clause-kept g c = λ kept all keeps lawful ready places.
     c.take_in.ensures.history in
     keeps_later _ _ _ c.args.self.now kept all keeps _ _ _ _ c.args.prepared ready places (returns-in-Ok-clause-after g c) holds noted
 
+pub returns-in-Ok-clause-written : goal.returns-in-Ok-clause-written
+returns-in-Ok-clause-written g c = λ changes written lawful ready places.
+    let at = (goal.at.returns-in-Ok-clause-written g c).After-append in
+    let D = g.D.Disk in
+    let d = c.args.disk.now in
+    let new = c.append.new.disk in
+    let change = c.args.prepared.change in
+    let Written : KeeperState → Type 0 = λ k. HasWritten (D.tells d) (D.reads d) k changes in
+    let Behind : KeeperState → List ℕ → Type 0 = λ k piece. Wrote k.log.end piece (D.reads d (log_file k.log.number)) (D.reads new (log_file k.log.number)) in
+    let was = subst Written (sym c.self.view_is) written in
+    let noted = noted_kept changes change c.self.inside.log.end c.in-Ok.at c.self.inside.history c.take_in.new.history c.in-Ok.ensures.place was.whole was.list.lawful lawful was.made.history c.take_in.ensures.history in
+    written_later (D.tells d) (D.tells new) (D.reads d) (D.reads new) c.args.self.now _ changes c.args.prepared written lawful ready places (returns-in-Ok-clause-after g c) c.in-Ok.ensures.within c.append.ensures.tells
+    (λ told. subst (λ k. Behind k (block change)) c.self.view_is (subst (Behind (keeper g at)) (is_block g at) (c.in-Ok.ensures.written told))) noted
+
 pub returns-in-Err-Disk-clause-any_moment : goal.returns-in-Err-Disk-clause-any_moment
 returns-in-Err-Disk-clause-any_moment g c = run g (goal.at.returns-in-Err-Disk-clause-any_moment g c).After-append
 
@@ -125,4 +142,4 @@ returns-in-Err-Full-clause-kept g c = λ kept all keeps lawful ready places.
     let at = (goal.at.returns-in-Err-Full-clause-kept g c).After-append in
     let D = g.D.Disk in
     let full = (c.in-Err-Full.ensures.full c.in-Err-Full.length).0 (rw c.in-Err-Full.field-0-is refl) in
-    keeps_still D.tells D.reads D.may_leave c.args.disk.now c.append.new.disk (keeper g at kept all keeps) c.append.new.self kept all (c.in-Err-Full.ensures.untouched full.1) c.in-Err-Full.ensures.end (keeps_inside g at kept all keeps)
+    keeps_still D.tells D.reads D.may_leave c.args.disk.now c.append.new.disk (keeper g at) c.append.new.self kept all (c.in-Err-Full.ensures.untouched full.1) c.in-Err-Full.ensures.end (keeps_inside g at kept all keeps)

@@ -1,15 +1,16 @@
-use Rattle.std.proofs.Common.{◌≡◌, ◌⊎◌, Bool, Ok, IsTrue, ap, sym, subst, ◌∙◌}
+use Rattle.std.proofs.Common.{◌≡◌, ◌≤◌, ◌⊎◌, Bool, length, Ok, IfOk, IsTrue, ap, sym, subst, ◌∙◌}
 use Rattle.std.proofs.lemmas.Result.{err_from_is_err_and}
 use Rattle.s80_disk.specs.Image.{Image}
 use Rattle.s80_disk.specs.Moments.{Beside, LeavesOnly}
 use Rattle.s80_disk.proofs.lemmas.Run.{weaker, joined}
 use Rattle.s80_mark.specs.declared.read.Found.{Found}
 use Rattle.s80_mark.specs.Found.{AreLogsEmpty}
+use Rattle.s80_log.specs.Log.{log_file}
 use Rattle.s80_keeper.specs.Standing.{FilesStandFor, ReadsFor, StandsFor, LeavesEither, LeavesFor}
 use Rattle.s80_keeper.specs.Start.{HasMark, IsStart, Started, StartLeaves}
 use Rattle.s80_keeper.specs.Reading.{IsFound}
-use Rattle.s80_keeper.proofs.Starts.{still_left, left_on, synced_on, leaves_for, leaves_killed, none_kept, first_keeps, first_stands, first_start, settled_first, still_empty}
-use Rattle.s80_keeper.proofs.Resumed.{found_started, settled_mark, started_mark}
+use Rattle.s80_keeper.proofs.Starts.{still_left, left_on, synced_on, leaves_for, leaves_killed, none_kept, first_keeps, first_stands, first_start, settled_first, still_empty, whole_first}
+use Rattle.s80_keeper.proofs.Resumed.{found_started, settled_mark, started_mark, whole_mark}
 use Rattle.s80_keeper.proofs.keeper.Keeper.start.Goals as goal
 use Rattle.s80_keeper.proofs.keeper.Keeper.start.Goals.{After-find_mark, After-init_mark, After-resume-in-Mark}
 
@@ -109,6 +110,12 @@ returns-in_ok-boot-in-Fresh-clause-started g c = λ changes is.
 pub returns-in_ok-boot-in-Fresh-clause-settled : goal.returns-in_ok-boot-in-Fresh-clause-settled
 returns-in_ok-boot-in-Fresh-clause-settled g c = settled_first c.resume.result c.in_ok-mark-in-Fresh.mark c.at.result c.in_ok-boot-in-Fresh.field-0 c.empty.result c.resume.ensures c.at.ensures
 
+pub returns-in_ok-boot-in-Fresh-clause-whole : goal.returns-in_ok-boot-in-Fresh-clause-whole
+returns-in_ok-boot-in-Fresh-clause-whole g c = λ told. whole_first (g.D.Disk.reads c.init_mark.new.disk) c.resume.result c.in_ok-mark-in-Fresh.mark c.at.result c.in_ok-boot-in-Fresh.field-0 c.empty.result c.resume.ensures c.at.ensures
+
+pub returns-in_ok-boot-in-Fresh-clause-others : goal.returns-in_ok-boot-in-Fresh-clause-others
+returns-in_ok-boot-in-Fresh-clause-others g c = λ other no_mark. c.init_mark.ensures.others other no_mark ∙ c.find_mark.ensures.untouched.same other
+
 -- there is no memory for the classes
 pub returns-in_err-boot-in-Fresh-clause-any_moment : goal.returns-in_err-boot-in-Fresh-clause-any_moment
 returns-in_err-boot-in-Fresh-clause-any_moment g c = fresh g (goal.at.returns-in_err-boot-in-Fresh-clause-any_moment g c).After-init_mark
@@ -179,3 +186,12 @@ returns-in-Mark-clause-started g c = λ changes is.
 
 pub returns-in-Mark-clause-settled : goal.returns-in-Mark-clause-settled
 returns-in-Mark-clause-settled g c = settled_mark c.resume-in-Mark.result c.in-Mark.mark c.resume-in-Mark.ensures.keeper
+
+pub returns-in-Mark-clause-whole : goal.returns-in-Mark-clause-whole
+returns-in-Mark-clause-whole g c = λ told.
+    let D = g.D.Disk in
+    let run = (goal.at.returns-in-Mark-clause-whole g c).After-resume-in-Mark in
+    let after = c.resume-in-Mark.ensures in
+    let same : D.reads c.args.disk.now ≡ D.reads c.resume-in-Mark.new.disk = λ i file. sym (after.untouched.same file ∙ c.find_mark.ensures.untouched.same file) i in
+    let Whole : Image → Type 0 = λ r. IfOk c.resume-in-Mark.result (λ keeper. keeper.log.end ≤ length (r (log_file keeper.log.number))) in
+    subst Whole same (whole_mark (D.reads c.args.disk.now) c.in-Mark.mark c.resume-in-Mark.result (has g run told) (resumed g run told) after.keeper)
