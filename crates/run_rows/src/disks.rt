@@ -3,6 +3,7 @@ use anyhow::{Context, Result, bail};
 use s80_base::{FixedClock, MemSink, MemSource, OutOfMemory, Source, Text};
 use s80_disk::{Disk, FaultPlan, FileId, MemDisk, MemOutside};
 use s80_keeper::{Keeper, StartFault};
+use s80_mark::{Found, read_mark};
 use s80_program::{Status, st80};
 use s80_rows::bytes;
 use std::alloc::Global;
@@ -54,6 +55,14 @@ pub(crate) fn found(alloc: Global, disk: &mut MemDisk) -> Result<(u64, u64), Sta
     Ok((keeper.count(), keeper.log_length()))
 }
 
+/// The file of the log that counts.
+pub(crate) fn log_that_counts(disk: &mut MemDisk) -> Result<FileId> {
+    match read_mark(disk)? {
+        Found::Mark(mark) if mark.log == 1 => Ok(FileId::Log1),
+        Found::Mark(_) | Found::Fresh => Ok(FileId::Log0),
+    }
+}
+
 /// The plan under which so many calls more are made first.
 fn later(plan: FaultPlan, calls: u64) -> FaultPlan {
     match plan {
@@ -82,9 +91,15 @@ pub(crate) fn planned(
     Ok(disk)
 }
 
-/// An input, and how many bytes of it are given at once.
+/// The words of a program that works its input, and of one that condenses.
+pub(crate) const RUN: &str = "st80|F|run";
+
+pub(crate) const CONDENSE: &str = "st80|F|condense";
+
+/// The words of the program, parted by `|`, its input, and how many bytes of it are given at once.
 #[derive(Drop)]
 pub(crate) struct Input {
+    pub words: &'static str,
     pub text: Text,
     pub piece: usize,
 }
@@ -139,7 +154,7 @@ pub(crate) fn long(alloc: Global, rest: &str) -> Result<Text> {
     let input = bytes::read(alloc, spelled)?;
     let disk = empty(alloc, 1 << 16, FaultPlan::Never)?;
     let source = MemSource::make(alloc, input.bytes(), 4096, &[])?;
-    let ran = run(alloc, disk, source, &[], &words(alloc, "st80|F|run")?)?;
+    let ran = run(alloc, disk, source, &[], &words(alloc, RUN)?)?;
     let written = ran.written.bytes();
     let last = written
         .get(written.len().saturating_sub(count)..)

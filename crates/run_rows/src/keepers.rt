@@ -1,13 +1,15 @@
 // What a keeper has of a folder: the code of its methods, sources where they stand, and the room of its log.
+ghost use Rattle.std.specs.Prelude.{◌≤◌};
 ghost use Rattle.s80_keeper.specs.Keeper.{IsSettled};
 
+use crate::disks::found;
 use anyhow::{Context, Result, bail};
 use s80_apply::System;
 use s80_base::{Side, Text};
 use s80_code::Code;
 use s80_dict::MethodEntry;
 use s80_disk::{Disk, FileId, MemDisk};
-use s80_keeper::{Keeper, read_source, unspelled};
+use s80_keeper::{KeepFault, Keeper, read_source, unspelled};
 use s80_log::{Log, LogFault};
 use s80_rows::bytes;
 use std::alloc::Global;
@@ -20,6 +22,7 @@ pub(crate) fn row(alloc: Global, disk: &MemDisk, word: &str, rest: &str) -> Resu
         "place" => Ok(Some(place(alloc, disk, rest)?)),
         "reread" => Ok(Some(reread(alloc, disk, rest)?)),
         "append" => Ok(Some(append(alloc, disk, rest)?)),
+        "condensed" => Ok(Some(condensed(alloc, disk, rest)?)),
         _ => Ok(None),
     }
 }
@@ -176,4 +179,31 @@ fn append(alloc: Global, disk: &MemDisk, rest: &str) -> Result<Text> {
         Err(LogFault::Full(length)) => format!(in alloc; "full at {length}\n")?,
     };
     Ok(Text::from_bytes(alloc, line.as_bytes())?)
+}
+
+/// How many changes and bytes of log a keeper has once its list is condensed with so many versions, at least one, and how the folder starts.
+fn condensed(alloc: Global, disk: &MemDisk, rest: &str) -> Result<Text> {
+    let keep: u32 = rest.parse().context("no number")?;
+    let mut copy = disk.crash(alloc, 1)?;
+    let line = match condense(alloc, &mut copy, keep.max(1))? {
+        Ok((changes, bytes)) => {
+            let (found, length) = found(alloc, &mut copy)?;
+            format!(in alloc;
+                "{changes} changes, {bytes} bytes; {found} changes, {length} bytes\n"
+            )?
+        }
+        Err(fault) => format!(in alloc; "{fault}\n")?,
+    };
+    Ok(Text::from_bytes(alloc, line.as_bytes())?)
+}
+
+/// How many changes and bytes of log a keeper has that was started and condensed its list, or why it didn't.
+fn condense(alloc: Global, disk: &mut MemDisk, keep: u32) -> Result<Result<(u64, u64), KeepFault>>
+    requires { 1 ≤ keep }
+{
+    let mut keeper = Keeper::start(alloc, disk)?;
+    Ok(match keeper.condense(alloc, disk, keep) {
+        Ok(()) => Ok((keeper.count(), keeper.log_length())),
+        Err(fault) => Err(fault),
+    })
 }

@@ -1,9 +1,9 @@
 // Which lists the files stand for while a run is in one of its calls on the disk, whatever a crash leaves.
-use crate::disks::{Input, contents, found};
+use crate::disks::{Input, contents, found, log_that_counts};
 use crate::sweeps::{CHOICES, stopped};
 use anyhow::{Result, bail};
 use s80_base::Text;
-use s80_disk::{FileId, MemDisk};
+use s80_disk::MemDisk;
 use s80_rows::bytes;
 use std::alloc::Global;
 
@@ -13,7 +13,8 @@ fn list_left(alloc: Global, disk: &MemDisk, room: usize, choice: u64) -> Result<
     let Ok((_, length)) = found(alloc, &mut left) else {
         bail!("no keeper starts");
     };
-    let mut blocks = contents(alloc, &left, room, FileId::Log0)?;
+    let log = log_that_counts(&mut left)?;
+    let mut blocks = contents(alloc, &left, room, log)?;
     blocks.truncate(length as usize);
     Ok(blocks)
 }

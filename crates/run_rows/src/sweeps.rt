@@ -43,7 +43,7 @@ fn run_planned(
     input: &Input,
 ) -> Result<Ran> {
     let disk = planned(alloc, disk, room, plan)?;
-    let asked = words(alloc, "st80|F|run")?;
+    let asked = words(alloc, input.words)?;
     run(alloc, disk, input.source(alloc)?, &[], &asked)
 }
 
@@ -144,7 +144,7 @@ pub(crate) fn faults(
 /// after each crash.
 pub(crate) fn killed(alloc: Global, room: usize, call: u64, input: &Input) -> Result<Text> {
     let disk = empty(alloc, room, FaultPlan::One(call))?;
-    let asked = words(alloc, "st80|F|run")?;
+    let asked = words(alloc, input.words)?;
     let mut ran = run(alloc, disk, input.source(alloc)?, &[], &asked)?;
     ensure!(ran.status == Status::DiskFault, "no call of the disk fails");
     let Ok(keeper) = Keeper::start(alloc, &mut ran.disk) else {

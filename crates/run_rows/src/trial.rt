@@ -2,7 +2,8 @@
 ghost use Rattle.s80_session.specs.Session.{IsResting};
 
 use crate::disks::{
-    Input, Ran, SECONDS, contents, empty, file_named, found, long, planned, run, words,
+    CONDENSE, Input, RUN, Ran, SECONDS, contents, empty, file_named, found, long, planned, run,
+    words,
 };
 use crate::stops::stops;
 use crate::sweeps::{crashes_of, faults, killed, sweep, sweep_again};
@@ -10,6 +11,7 @@ use crate::{keepers, system};
 use anyhow::{Context, Result, bail};
 use s80_base::{FixedClock, MemSink, MemSource, RepeatSource, Text};
 use s80_disk::{Disk, FaultPlan, FileId, MemDisk, MemOutside};
+use s80_model::{Query, SessionItem};
 use s80_program::Status;
 use s80_rows::bytes;
 use s80_session::Session;
@@ -152,7 +154,7 @@ impl Trial {
     /// What a row that runs or looks shows.
     fn shown(&mut self, alloc: Global, word: &str, rest: &str) -> Result<Text> {
         match word {
-            "run" => self.run(alloc, "st80|F|run", rest),
+            "run" => self.run(alloc, RUN, rest),
             "do"
             | "classes"
             | "browse"
@@ -163,6 +165,7 @@ impl Trial {
             | "file-out-class"
             | "file-out-set"
             | "snapshot"
+            | "condense"
             | "recover" => {
                 let asked = format!(in alloc;
                     "st80|F|{word}{}{rest}",
@@ -174,6 +177,7 @@ impl Trial {
             "repeat" => self.repeat(alloc, rest),
             "spaces" => self.spaces(alloc, number(rest)?.0),
             "budget" => self.session(alloc, rest),
+            "keep" => self.condense(alloc, rest),
             "start" => self.start(alloc),
             "show" => self.show(alloc, file_named(rest)?),
             "length" => self.length(alloc, file_named(rest)?),
@@ -188,6 +192,7 @@ impl Trial {
             "sweep" => self.sweep(alloc, rest),
             "resweep" => self.resweep(alloc, rest),
             "stops" => self.stops(alloc, rest),
+            "condensing" => self.condensing(alloc, rest),
             "faults" => self.faults(alloc, rest),
             "killed" => {
                 let (call, spelled) = number(rest)?;
@@ -206,6 +211,7 @@ impl Trial {
     /// An input, given in pieces of the size that the rows set.
     fn input(&self, alloc: Global, spelled: &str) -> Result<Input> {
         Ok(Input {
+            words: RUN,
             text: bytes::read(alloc, spelled)?,
             piece: self.piece,
         })
@@ -243,7 +249,7 @@ impl Trial {
         let (place, spelled) = rest.split_once(' ').context("no place")?;
         let text = repeated(alloc, count, spelled)?;
         match place {
-            "run" => self.run_words(alloc, &words(alloc, "st80|F|run")?, &text),
+            "run" => self.run_words(alloc, &words(alloc, RUN)?, &text),
             "do" => {
                 let mut asked = words(alloc, "st80|F|do")?;
                 asked.push(text)?;
@@ -260,13 +266,7 @@ impl Trial {
     fn spaces(&mut self, alloc: Global, count: u64) -> Result<Text> {
         let disk = planned(alloc, &self.disk, self.room, self.plan)?;
         let source = RepeatSource::make(b' ', count);
-        let ran = run(
-            alloc,
-            disk,
-            source,
-            &self.puts,
-            &words(alloc, "st80|F|run")?,
-        )?;
+        let ran = run(alloc, disk, source, &self.puts, &words(alloc, RUN)?)?;
         self.end(alloc, ran)
     }
 
@@ -283,6 +283,21 @@ impl Trial {
         let mut out = Text::empty(alloc);
         add_lines(alloc, &mut out, sink.bytes())?;
         out.append(ran.as_bytes())?;
+        self.disk = disk;
+        Ok(out)
+    }
+
+    /// A session that keeps so many of the newest versions of each method, which condenses.
+    fn condense(&mut self, alloc: Global, rest: &str) -> Result<Text> {
+        let keep = u32::try_from(number(rest)?.0)?;
+        let disk = planned(alloc, &self.disk, self.room, self.plan)?;
+        let source = MemSource::make(alloc, b"", 1, &[])?;
+        let sink = MemSink::make(alloc, ROOM, &self.puts)?;
+        let mut outside = MemOutside::make(disk, source, sink, FixedClock { seconds: SECONDS });
+        condense(alloc, &mut outside, keep)?;
+        let (disk, _source, sink) = outside.parts();
+        let mut out = Text::empty(alloc);
+        add_lines(alloc, &mut out, sink.bytes())?;
         self.disk = disk;
         Ok(out)
     }
@@ -419,6 +434,18 @@ impl Trial {
         stops(alloc, &self.disk, self.room, (first, last), &input)
     }
 
+    /// Which lists they stand for while the folder's list is condensed.
+    fn condensing(&self, alloc: Global, rest: &str) -> Result<Text> {
+        let (first, rest) = number(rest)?;
+        let (last, _) = number(rest)?;
+        let input = Input {
+            words: CONDENSE,
+            text: Text::empty(alloc),
+            piece: self.piece,
+        };
+        stops(alloc, &self.disk, self.room, (first, last), &input)
+    }
+
     /// The same over each folder that a crash may leave of a run that is stopped at this call.
     fn resweep(&self, alloc: Global, rest: &str) -> Result<Text> {
         let (call, rest) = number(rest)?;
@@ -438,9 +465,22 @@ fn line_of(alloc: Global, swept: (u64, Status)) -> Result<String> {
     )?)
 }
 
+/// How many ticks a doIt may take in a session that evaluates none.
+const NO_TICKS: u64 = 0;
+
+/// A session that keeps so many versions, at least one, and condenses.
+fn condense(alloc: Global, outside: &mut MemOutside<MemSource>, keep: u32) -> Result<()> {
+    let mut session = Session::start(alloc, outside, NO_TICKS, keep.max(1))?;
+    session.step(alloc, SessionItem::Query(Query::Condense), outside)?;
+    Ok(())
+}
+
+/// How many versions a session keeps that doesn't condense.
+const ONE_VERSION: u32 = 1;
+
 /// A session with this budget, which works the whole input.
 fn begin(alloc: Global, outside: &mut MemOutside<MemSource>, budget: u64) -> Result<String> {
-    let mut session = Session::start(alloc, outside, budget)?;
+    let mut session = Session::start(alloc, outside, budget, ONE_VERSION)?;
     work(alloc, &mut session, outside)
 }
 

@@ -31,7 +31,7 @@ use Rattle.s80_form.proofs.lemmas.OneForm.{form_of_text_same, has_same}
 use Rattle.s80_apply.specs.List.{add, state_of}
 use Rattle.s80_doit.specs.Answer.{EvaluatesTo}
 use Rattle.s80_doit.specs.DoIt.{Fits}
-use Rattle.s80_model.specs.Asked.{Ask, refuses, adds, evaluates, opens, refuses_head, adds_source, refuses_source, closes, tells, files, IsRefusedText, AsksPlain, IsRefusedHead, AsksHead, AsksMethod, IsKeptAs, AsksQuery, IsTimed}
+use Rattle.s80_model.specs.Asked.{Ask, refuses, adds, evaluates, condenses, opens, refuses_head, adds_source, refuses_source, closes, tells, files, IsRefusedText, AsksPlain, IsRefusedHead, AsksHead, AsksMethod, IsKeptAs, AsksQuery, IsTimed}
 use Rattle.s80_model.specs.Replies.{AllAsk, AsksIn, IsEvaluated, IsSo, Work, work_after}
 use Rattle.s80_model.specs.Settings.{IsNow, Settings}
 
@@ -120,12 +120,16 @@ one_plain : OneTold → (work : Work) (text : List ℕ) (ask other : Ask) → As
 one_plain one work text (refuses refusal) (refuses again) h so k also = ap refuses (one_reason text again refusal k h)
 one_plain one work text (refuses refusal) (adds change) h so k also = absurd (fits_only text refusal k.0 h)
 one_plain one work text (refuses refusal) (evaluates own told stopped) h so k also = absurd (fits_only text refusal k.0 h)
+one_plain one work text (refuses refusal) condenses h so k also = absurd k
 one_plain one work text (adds change) (refuses refusal) h so k also = absurd (fits_only text refusal h.0 k)
 one_plain one work text (adds change) (adds again) h so k also = ap adds (one_change text again change k.1 h.1)
 one_plain one work text (adds change) (evaluates own told stopped) h so k also = no_doit text change h.1 k.2
+one_plain one work text (adds change) condenses h so k also = absurd k
 one_plain one work text (evaluates own told stopped) (refuses refusal) h so k also = absurd (fits_only text refusal h.0 k)
 one_plain one work text (evaluates own told stopped) (adds change) h so k also = no_doit text change k.1 h.2
 one_plain one work text (evaluates own told stopped) (evaluates again more too) h so k also = evaluates_so one work text own again told more stopped too h.1 k.1 so also
+one_plain one work text (evaluates own told stopped) condenses h so k also = absurd k
+one_plain one work text condenses other h so k also = absurd h
 one_plain one work text (opens head) other h so k also = absurd h
 one_plain one work text (refuses_head refusal) other h so k also = absurd h
 one_plain one work text (adds_source source) other h so k also = absurd h
@@ -194,6 +198,7 @@ one_opening text (refuses_head refusal) (refuses_head other) h k = ap refuses_he
 one_opening text (opens head) (refuses refusal) h k = absurd k
 one_opening text (opens head) (adds change) h k = absurd k
 one_opening text (opens head) (evaluates own told stopped) h k = absurd k
+one_opening text (opens head) condenses h k = absurd k
 one_opening text (opens head) (adds_source source) h k = absurd k
 one_opening text (opens head) (refuses_source other) h k = absurd k
 one_opening text (opens head) closes h k = absurd k
@@ -202,6 +207,7 @@ one_opening text (opens head) (files filed moment) h k = absurd k
 one_opening text (refuses_head refusal) (refuses other) h k = absurd k
 one_opening text (refuses_head refusal) (adds change) h k = absurd k
 one_opening text (refuses_head refusal) (evaluates own told stopped) h k = absurd k
+one_opening text (refuses_head refusal) condenses h k = absurd k
 one_opening text (refuses_head refusal) (adds_source source) h k = absurd k
 one_opening text (refuses_head refusal) (refuses_source other) h k = absurd k
 one_opening text (refuses_head refusal) closes h k = absurd k
@@ -210,6 +216,7 @@ one_opening text (refuses_head refusal) (files filed moment) h k = absurd k
 one_opening text (refuses refusal) other h k = absurd h
 one_opening text (adds change) other h k = absurd h
 one_opening text (evaluates own told stopped) other h k = absurd h
+one_opening text condenses other h k = absurd h
 one_opening text (adds_source source) other h k = absurd h
 one_opening text (refuses_source refusal) other h k = absurd h
 one_opening text closes other h k = absurd h
@@ -224,6 +231,7 @@ method_asks text (adds_source source) h = (source.selector, ap (λ t. adds_sourc
 method_asks text (refuses refusal) h = absurd h
 method_asks text (adds change) h = absurd h
 method_asks text (evaluates own told stopped) h = absurd h
+method_asks text condenses h = absurd h
 method_asks text (opens head) h = absurd h
 method_asks text (refuses_head refusal) h = absurd h
 method_asks text (refuses_source refusal) h = absurd h
@@ -261,6 +269,7 @@ one_query one work (queries.Versions spec selector) ask other timed h so k also 
 one_query one work queries.Changes ask other timed h so k also = k ∙ sym h
 one_query one work (queries.FileOut filed) ask other timed h so k also = one_file one work filed ask other timed h so k also
 one_query one work queries.Snapshot ask other timed h so k also = k ∙ sym h
+one_query one work queries.Condense ask other timed h so k also = k ∙ sym h
 
 -- ---- items
 
@@ -279,6 +288,7 @@ settings_stay : (work : Work) (ask : Ask) → (work_after work ask).settings ≡
 settings_stay work (refuses refusal) = refl
 settings_stay work (adds change) = refl
 settings_stay work (evaluates text told stopped) = refl
+settings_stay work condenses = refl
 settings_stay work (opens head) = refl
 settings_stay work (refuses_head refusal) = refl
 settings_stay work (adds_source source) = refl

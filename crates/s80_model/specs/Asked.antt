@@ -31,6 +31,8 @@ pub data Ask : Type 0 where
   adds : Change → Ask
   -- a doIt of this text is added and evaluated; what it comes to is told so, and it is stopped or not
   evaluates : List ℕ → List ℕ → Bool → Ask
+  -- the condensed list takes the place of the list
+  condenses : Ask
   -- a section of this head begins
   opens : SectionHead → Ask
   -- a section begins whose head is refused so
@@ -95,7 +97,7 @@ ask_of_too_long roles.Plain n = refuses (refusals.TooLarge fits.Chunk n)
 ask_of_too_long roles.Head n = refuses_head (refusals.TooLarge fits.Chunk n)
 ask_of_too_long roles.Method n = refuses_source (refusals.TooLarge fits.Chunk n)
 
--- what a query asks: a snapshot adds its note, a file has a moment, and the others are told something
+-- what a query asks: a snapshot adds its note, a file has a moment, one condenses, and the others are told something
 abbrev pub AsksQuery : SessionQuery → Ask → Type 0
 AsksQuery queries.Recover ask = ask ≡ tells queries.Recover
 AsksQuery queries.Classes ask = ask ≡ tells queries.Classes
@@ -105,6 +107,7 @@ AsksQuery (queries.Versions spec selector) ask = ask ≡ tells (queries.Versions
 AsksQuery queries.Changes ask = ask ≡ tells queries.Changes
 AsksQuery (queries.FileOut filed) ask = (moment : List ℕ) × (ask ≡ files filed moment)
 AsksQuery queries.Snapshot ask = ask ≡ adds (DoIt snapshot_note)
+AsksQuery queries.Condense ask = ask ≡ condenses
 
 abbrev pub Asks : SessionItem → Ask → Type 0
 Asks (Chunk (items.Plain text)) ask = AsksPlain text ask

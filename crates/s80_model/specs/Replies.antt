@@ -1,13 +1,16 @@
 -- The model keeper: what each thing asked changes, and what it is answered.
-use Rattle.std.specs.Prelude.{◌≡◌, ℕ, Bool, true, false, ◌||◌, List, [], ◌∷◌, ◌++◌, codes, Option, Some, None, Result, Ok, Err}
+use Rattle.std.specs.Prelude.{◌≡◌, ℕ, nat_le, if◌then◌else◌, Bool, true, false, ◌||◌, List, [], ◌∷◌, ◌++◌, length, codes, Option, Some, None, Result, Ok, Err}
 use Rattle.s80_change.specs.declared.change.Change.{Change}
 use Rattle.s80_change.specs.declared.change.Change.TheVariants as changes
 use Rattle.s80_change.specs.Source.{SourceParts}
 use Rattle.s80_form.specs.declared.refusal.Refusal.{Refusal}
+use Rattle.s80_form.specs.declared.refusal.Refusal.TheVariants.{LogFull}
+use Rattle.s80_change.specs.Block.{blocks, log_limit}
 use Rattle.s80_change.specs.declared.head.SectionHead.{SectionHead}
 use Rattle.s80_print.specs.Refusal.{refusal_text}
 use Rattle.s80_apply.specs.Accept.{unknown_name}
 use Rattle.s80_apply.specs.List.{classes_of, state_of, add}
+use Rattle.s80_fileout.specs.Condensed.{kept as with_versions}
 use Rattle.s80_model.specs.declared.reply.Answer.{Answer}
 use Rattle.s80_model.specs.declared.reply.Reply.{Reply}
 use Rattle.s80_model.specs.declared.reply.Reply.TheVariants.{Silent, Accepted, Refused, Evaluated, Told}
@@ -18,7 +21,7 @@ use Rattle.s80_model.specs.Settings.{IsNow, Settings}
 use Rattle.s80_model.specs.Told.{file_reply, told}
 use Rattle.s80_model.specs.declared.item.SessionItem.{SessionItem}
 use Rattle.s80_doit.specs.Answer.{EvaluatesTo}
-use Rattle.s80_model.specs.Asked.{Ask, Asks, refuses, adds, evaluates, opens, refuses_head, adds_source, refuses_source, closes, tells, files}
+use Rattle.s80_model.specs.Asked.{Ask, Asks, refuses, adds, evaluates, condenses, opens, refuses_head, adds_source, refuses_source, closes, tells, files}
 
 -- the list of changes, the section in which the next item stands, and the settings
 pub record Work : Type 0 where
@@ -49,6 +52,16 @@ reply_to_evaluating (Err refusal) told stopped = Refused refusal
 abbrev pub IsEvaluated : Result (List Change) Refusal → List ℕ → Settings → List ℕ → Bool → Type 0
 IsEvaluated (Ok changes) text settings told stopped = EvaluatesTo (state_of changes) text settings.budget told stopped
 IsEvaluated (Err refusal) text settings told stopped = (told ≡ []) × (stopped ≡ false)
+
+-- ---- condensing
+
+-- a list whose blocks are no longer than a log may be, or else it is refused with their length
+abbrev pub within_log : List Change → Result (List Change) Refusal
+within_log changes = if nat_le (length (blocks changes)) log_limit then Ok changes else Err (LogFull (length (blocks changes)))
+
+-- the list that takes the place of this one: it makes the same state, with so many of the newest versions of each method
+abbrev pub condensed : List Change → ℕ → Result (List Change) Refusal
+condensed changes count = within_log (with_versions changes count)
 
 -- ---- sections
 
@@ -91,6 +104,7 @@ abbrev pub reply_to : Work → Ask → Reply
 reply_to work (refuses refusal) = Refused refusal
 reply_to work (adds change) = reply_to_adding (add work.changes change)
 reply_to work (evaluates text told stopped) = reply_to_evaluating (add work.changes (changes.DoIt text)) told stopped
+reply_to work condenses = reply_to_adding (condensed work.changes work.settings.kept_versions)
 reply_to work (opens head) = reply_to_head (refusal_of_head work.changes head)
 reply_to work (refuses_head refusal) = Refused refusal
 reply_to work (adds_source source) = reply_to_source work.changes work.section source
@@ -104,6 +118,7 @@ abbrev pub work_after : Work → Ask → Work
 work_after work (refuses refusal) = work
 work_after work (adds change) = record work { changes = list_or (add work.changes change) work.changes }
 work_after work (evaluates text told stopped) = record work { changes = list_or (add work.changes (changes.DoIt text)) work.changes }
+work_after work condenses = record work { changes = list_or (condensed work.changes work.settings.kept_versions) work.changes }
 work_after work (opens head) = record work { section = section_of head (refusal_of_head work.changes head) }
 work_after work (refuses_head refusal) = record work { section = sections.Refused }
 work_after work (adds_source source) = record work { changes = list_after_source work.changes work.section source }

@@ -2,7 +2,7 @@
 use Rattle.std.specs.Prelude.{ℕ, List, Option, Some, None}
 use Rattle.s80_fileout.specs.Moment.{IsMoment}
 
--- how many ticks a doIt may take, how many versions of each method a shortened log keeps, and the seconds of the clock, where it tells them
+-- how many ticks a doIt may take, how many versions of each method a condensed list keeps, and the seconds of the clock, where it tells them
 pub record Settings : Type 0 where
   pub budget : ℕ
   pub kept_versions : ℕ

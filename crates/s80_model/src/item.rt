@@ -32,6 +32,8 @@ pub enum Query {
     FileOut(Filed),
     /// Not a question: a snapshot is asked for, and its note is kept.
     Snapshot,
+    /// Nor is this: the condensed list takes the place of the list. It makes the same classes and methods.
+    Condense,
 }
 
 /// An item of the input, the rest of an input that ends within an item, or a query.

@@ -3,7 +3,7 @@ use Rattle.std.proofs.Common.{◌≡◌, ℕ, List, [], ◌∷◌, Option, Some,
 use Rattle.std.specs.Prelude.{codes, drop, if◌then◌else◌}
 use Rattle.std.specs.Str.{bytes_eq}
 use Rattle.s80_model.specs.declared.item.Filed.TheVariants.{All, Class, Set}
-use Rattle.s80_model.specs.declared.item.Query.TheVariants.{Recover, Classes, Browse, Source, Versions, Changes, FileOut, Snapshot}
+use Rattle.s80_model.specs.declared.item.Query.TheVariants.{Recover, Classes, Browse, Source, Versions, Changes, Condense, FileOut, Snapshot}
 use Rattle.s80_program.specs.Command.{Command, Run, Do, Tell, command_word, arguments_of}
 use Rattle.s80_program.specs.Words.{Asks}
 
@@ -16,7 +16,8 @@ command_from (word ∷ []) =
     else (if bytes_eq word (codes "classes") then Some (Tell Classes)
     else (if bytes_eq word (codes "changes") then Some (Tell Changes)
     else (if bytes_eq word (codes "file-out") then Some (Tell (FileOut All))
-    else (if bytes_eq word (codes "file-out-set") then Some (Tell (FileOut Set)) else Some (Tell Snapshot))))))
+    else (if bytes_eq word (codes "file-out-set") then Some (Tell (FileOut Set))
+    else (if bytes_eq word (codes "condense") then Some (Tell Condense) else Some (Tell Snapshot)))))))
 command_from (word ∷ name ∷ []) =
     if bytes_eq word (codes "do") then Some (Do name)
     else (if bytes_eq word (codes "file-out-class") then Some (Tell (FileOut (Class name))) else Some (Tell (Browse name)))
@@ -35,6 +36,7 @@ from_words (Tell (FileOut All)) = refl
 from_words (Tell (FileOut (Class name))) = refl
 from_words (Tell (FileOut Set)) = refl
 from_words (Tell Snapshot) = refl
+from_words (Tell Condense) = refl
 
 same_some : (one other : Command) → Some one ≡ Some other → one ≡ other
 same_some one other is = cc is

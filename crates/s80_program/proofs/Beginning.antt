@@ -4,6 +4,7 @@ use Rattle.std.specs.Prelude.{◌==◌, if◌then◌else◌}
 use Rattle.std.proofs.lemmas.List.{append-nil}
 use Rattle.s80_chunk.specs.Chunks.Reads.{stop}
 use Rattle.s80_change.specs.declared.change.Change.{Change}
+use Rattle.s80_apply.specs.List.{IsBuilt}
 use Rattle.s80_disk.specs.Image.{Image}
 use Rattle.s80_disk.specs.Moments.{LeavesOnly}
 use Rattle.s80_disk.proofs.lemmas.Run.{joined, weaker}
@@ -168,6 +169,11 @@ damage_found files ends.TooLong is h = absurd h
 -- where each file reads as before, nothing that is shown changes
 pub unchanged : (old mid now : Shown) → mid ≡ old → now ≡ record mid { files = now.files } → ((file : FileId) → now.files file ≡ mid.files file) → now ≡ old
 unchanged old mid now chosen is same = is ∙ (λ i. record mid { files = λ file. same file i }) ∙ chosen
+
+-- the list for which files stand was built
+pub stands_built : (files : Image) (changes : List Change) → FilesStandFor files changes → IsBuilt changes
+stands_built files changes (inl (empty, is)) = subst IsBuilt (sym is) tt
+stands_built files changes (inr (mark, stands, none, built)) = built
 
 -- what the files have of the keeper's log, where the mark alone was written
 log_or_log : (b : Bool) → (if b then Log0 else Log1) ≢ Mark

@@ -113,6 +113,7 @@ item_counts T (Query (queries.FileOut filed.All)) r before now h = run_counts T 
 item_counts T (Query (queries.FileOut (filed.Class name))) r before now h = run_counts T r before now h
 item_counts T (Query (queries.FileOut filed.Set)) r before now h = h
 item_counts T (Query queries.Snapshot) r before now h = run_counts T r before now h
+item_counts T (Query queries.Condense) r before now h = h
 item_counts T (Chunk item) r before now h = run_counts T r before now h
 item_counts T Unended r before now h = run_counts T r before now h
 

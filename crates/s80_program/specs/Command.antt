@@ -7,7 +7,7 @@ use Rattle.s80_chunk.specs.declared.item.Role.TheVariants.{Plain}
 use Rattle.s80_model.specs.Asked.{IsTimed}
 use Rattle.s80_model.specs.declared.item.Filed.TheVariants.{All, Class, Set}
 use Rattle.s80_model.specs.declared.item.Query.{Query as SessionQuery}
-use Rattle.s80_model.specs.declared.item.Query.TheVariants.{Recover, Classes, Browse, Source, Versions, Changes, FileOut, Snapshot}
+use Rattle.s80_model.specs.declared.item.Query.TheVariants.{Recover, Classes, Browse, Source, Versions, Changes, Condense, FileOut, Snapshot}
 use Rattle.s80_model.specs.declared.item.SessionItem.{SessionItem}
 use Rattle.s80_model.specs.declared.item.SessionItem.TheVariants.{Chunk, Query}
 use Rattle.s80_model.specs.Settings.{Settings}
@@ -33,6 +33,7 @@ command_word (Tell (FileOut All)) = codes "file-out"
 command_word (Tell (FileOut (Class name))) = codes "file-out-class"
 command_word (Tell (FileOut Set)) = codes "file-out-set"
 command_word (Tell Snapshot) = codes "snapshot"
+command_word (Tell Condense) = codes "condense"
 
 abbrev pub arguments_of : Command → List (List ℕ)
 arguments_of Run = []
@@ -47,6 +48,7 @@ arguments_of (Tell (FileOut All)) = []
 arguments_of (Tell (FileOut (Class name))) = name ∷ []
 arguments_of (Tell (FileOut Set)) = []
 arguments_of (Tell Snapshot) = []
+arguments_of (Tell Condense) = []
 
 -- what stands behind the separators at a text's beginning
 abbrev pub behind_separators : List ℕ → List ℕ

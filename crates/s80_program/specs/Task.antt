@@ -1,6 +1,6 @@
 -- The command that a task is.
 use Rattle.s80_model.specs.declared.item.Filed.TheVariants.{All, Class, Set}
-use Rattle.s80_model.specs.declared.item.Query.TheVariants.{Recover, Classes, Browse, Source, Versions, Changes, FileOut, Snapshot}
+use Rattle.s80_model.specs.declared.item.Query.TheVariants.{Recover, Classes, Browse, Source, Versions, Changes, Condense, FileOut, Snapshot}
 use Rattle.s80_program.specs.declared.words.Task.{Task}
 use Rattle.s80_program.specs.declared.words.Task.TheVariants as tasks
 use Rattle.s80_program.specs.Command.{Command, Run, Do, Tell}
@@ -18,3 +18,4 @@ command_of tasks.FileOut = Tell (FileOut All)
 command_of (tasks.FileOutClass name) = Tell (FileOut (Class name.now))
 command_of tasks.FileOutSet = Tell (FileOut Set)
 command_of tasks.Snapshot = Tell Snapshot
+command_of tasks.Condense = Tell Condense

@@ -1,5 +1,6 @@
 // What the program does with its words.
 ghost use Rattle.std.specs.Prelude.{◌≡◌, ◌≢◌, ◌⊎◌, ◌<◌, ◌++◌, ℕ, List, [], length, IsTrue, false, None, Some, IfOk, IfErr, IfSome};
+ghost use Rattle.s80_apply.specs.List.{IsBuilt};
 ghost use Rattle.s80_change.specs.declared.change.Change.{Change};
 ghost use Rattle.s80_chunk.specs.Chunks.{item_of};
 ghost use Rattle.s80_disk.specs.declared.disk.FileId.{FileId};
@@ -36,11 +37,15 @@ use std::alloc::Global;
 /// How many ticks a doIt may take.
 const DEFAULT_BUDGET: u64 = 1_000_000;
 
+/// How many of the newest versions of each method a condensed list keeps.
+const DEFAULT_KEEP: u32 = 1;
+
 /// Does what the words ask for: the program's name, a folder and a command. `run` keeps each chunk of the input that is a change of classes, a
 /// method or a doIt in the folder, on the disk, and then answers it: a doIt with what it wrote and what it comes to, and else by a line.
 /// `do TEXT` does so with one text; `classes` names all classes, `browse NAME` shows one, `source SPEC SELECTOR` shows a method and
 /// `versions SPEC SELECTOR` all that it has been, `changes` lists the change set, `recover` says how much there is, and `snapshot` keeps a note.
-/// `file-out`, `file-out-class NAME` and `file-out-set` write all classes, one and the change set as a file that `run` takes.
+/// `file-out`, `file-out-class NAME` and `file-out-set` write all classes, one and the change set as a file that `run` takes. `condense` has a
+/// list take the place of the folder's that makes the same classes and methods, and has the newest version of each method alone.
 pub fn st80<O: Outside>(alloc: Global, words: &[Text], outside: &mut O) -> Status
     // Bad usage is answered exactly where the words ask for nothing, and then the outside isn't called.
     ensures usage { result ≡ Status.Usage
@@ -142,7 +147,7 @@ fn work<O: Outside>(
     ensures useful { status_after result ≢ Status.Usage }
 {
     open_folder(outside, folder)?;
-    let mut session = Session::start(alloc, outside, DEFAULT_BUDGET)?;
+    let mut session = Session::start(alloc, outside, DEFAULT_BUDGET, DEFAULT_KEEP)?;
     do_task(&mut session, alloc, task, outside)
 }
 
@@ -176,7 +181,8 @@ fn do_task<O: Outside>(
         → IsAt (O.may_leave outside.old) (O.shown outside.old) session.old (beginning (O.shown outside.old).seconds changes) before
         → LeavesOnly O.moment O.left_since outside.old outside.new (CommandKeeps (command_of task.entry) (beginning (O.shown outside.old).seconds changes) input before) }
     ensures asked { IsAskingCommand (command_of task.entry) → (file : FileId) → (O.shown outside.new).files file ≡ (O.shown outside.old).files file }
-    ensures sound { IsTrue (O.shown outside.old).tells → (changes : List Change) → Knows (O.shown outside.old).files (keeper_of session.old) changes → MeetsNoDamage result }
+    ensures sound { IsTrue (O.shown outside.old).tells → (changes : List Change) → IsBuilt changes
+        → Knows (O.shown outside.old).files (keeper_of session.old) changes → MeetsNoDamage result }
     ensures counts { SourceCounts (O.faults outside.old) (O.faults outside.new) result }
 {
     match item_for(alloc, task)? {
@@ -204,6 +210,7 @@ fn item_for(alloc: Global, task: Task<'_>) -> Result<Option<SessionItem>, OutOfM
         Task::FileOutClass(name) => Query::FileOut(Filed::Class(name.copy(alloc)?)),
         Task::FileOutSet => Query::FileOut(Filed::Set),
         Task::Snapshot => Query::Snapshot,
+        Task::Condense => Query::Condense,
     };
     Ok(Some(SessionItem::Query(query)))
 }
@@ -261,7 +268,8 @@ fn answer_item<O: Outside>(
         → LeavesOnly O.moment O.left_since outside.old outside.new (StepLeaves (beginning (O.shown outside.old).seconds changes) before item) }
     ensures asked { IsAsking item → (file : FileId) → (O.shown outside.new).files file ≡ (O.shown outside.old).files file }
     ensures left { (O.shown outside.new).left ≡ (O.shown outside.old).left }
-    ensures sound { IsTrue (O.shown outside.old).tells → (changes : List Change) → Knows (O.shown outside.old).files (keeper_of session.old) changes → MeetsNoDamage result }
+    ensures sound { IsTrue (O.shown outside.old).tells → (changes : List Change) → IsBuilt changes
+        → Knows (O.shown outside.old).files (keeper_of session.old) changes → MeetsNoDamage result }
     ensures counts { SourceCounts (O.faults outside.old) (O.faults outside.new) result }
 {
     session.step(alloc, item, outside)?;

@@ -33,6 +33,8 @@ pub(crate) enum Task<'w> {
     FileOutSet,
     /// Keeps the note of a snapshot.
     Snapshot,
+    /// Has the condensed list take the place of the list.
+    Condense,
 }
 
 /// A task, and the folder that it is for.
@@ -93,6 +95,9 @@ fn task_alone(word: &Text) -> Option<Task<'_>>
     }
     if bytes == b"snapshot".as_slice() {
         return Some(Task::Snapshot);
+    }
+    if bytes == b"condense".as_slice() {
+        return Some(Task::Condense);
     }
     None
 }

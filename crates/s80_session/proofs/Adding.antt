@@ -20,7 +20,7 @@ use Rattle.s80_keeper.proofs.lemmas.Standing.{reads_so}
 use Rattle.s80_model.specs.declared.reply.Reply.TheVariants.{Accepted, Refused}
 use Rattle.s80_model.specs.Replies.{Work, reply_to_adding}
 use Rattle.s80_session.specs.declared.session.Session.{Session}
-use Rattle.s80_session.specs.Session.{budget_of, held_of, keeper_of, section_of}
+use Rattle.s80_session.specs.Session.{budget_of, held_of, keeper_of, kept_versions_of, section_of}
 use Rattle.s80_session.specs.Working.{Ground, IsAmid, IsLawfulFor, IsLost, adding}
 use Rattle.s80_session.proofs.lemmas.Keeping.{keeps_prepared}
 
@@ -44,6 +44,7 @@ module _ (may_leave : Image → Type 0) (o : Shown) (before now : Session) (work
     section = ap section_of rest ∙ at.section;
     brief = at.brief;
     budget = ap budget_of rest ∙ at.budget;
+    kept_versions = ap kept_versions_of rest ∙ at.kept_versions;
     moment = at.moment;
     taken = at.taken;
     told = at.told;
@@ -79,6 +80,7 @@ stands_on was may_leave o now before session work basis front all keeps rest sho
   section = ap section_of rest ∙ at.section;
   brief = at.brief;
   budget = ap budget_of rest ∙ at.budget;
+  kept_versions = ap kept_versions_of rest ∙ at.kept_versions;
   moment = at.moment ∙ sym (ap (λ (s : Shown). s.seconds) shown);
   taken = ap (λ (s : Shown). s.taken) shown ∙ at.taken;
   told = ap (λ (s : Shown). s.told) shown ∙ at.told;

@@ -56,6 +56,7 @@ done_on {T} {U} item a m b value other same h =
     by_item (Query (queries.FileOut (contents.Class name))) h = record { later = h.later; reason = h.reason }
     by_item (Query (queries.FileOut contents.Set)) h = record { later = h.later; reason = h.reason }
     by_item (Query queries.Snapshot) h = record { later = h.later; reason = h.reason }
+    by_item (Query queries.Condense) h = record { later = h.later; reason = h.reason }
 
 source_broke : (T U : Type 0) (a b : Faults) (end : SessionEnd) → SourceCounts {T = T} a b (Err end) → SourceCounts {T = U} a b (Err end)
 source_broke T U a b ends.Memory h = record { later = h.later; reason = h.reason }
@@ -84,6 +85,7 @@ broke_on T U item a m b end same h =
     by_item (Query (queries.FileOut (contents.Class name))) h = record { later = h.later; reason = h.reason }
     by_item (Query (queries.FileOut contents.Set)) h = source_broke T U m b end h
     by_item (Query queries.Snapshot) h = record { later = h.later; reason = h.reason }
+    by_item (Query queries.Condense) h = source_broke T U m b end h
 
 pub err_counts : (T U : Type 0) (a b : Faults) (end : SessionEnd) → Counts {T = T} a b (Err end) → Counts {T = U} a b (Err end)
 err_counts T U a b end h = record { later = h.later; reason = h.reason }
@@ -133,6 +135,7 @@ counts_memory T (Query (queries.FileOut contents.All)) a b h = h.reason
 counts_memory T (Query (queries.FileOut (contents.Class name))) a b h = h.reason
 counts_memory T (Query (queries.FileOut contents.Set)) a b h = h.reason
 counts_memory T (Query queries.Snapshot) a b h = h.reason
+counts_memory T (Query queries.Condense) a b h = h.reason
 
 pub memory_only : (T U P : Type 0) (end : SessionEnd) → OnOkOrMemory {T = U} (Err end) P → OnOkOrMemory {T = T} (Err end) P
 memory_only T U P ends.Memory h = h

@@ -10,7 +10,7 @@ use Rattle.s80_model.specs.declared.item.Query.{Query as SessionQuery}
 use Rattle.s80_model.specs.declared.item.Query.TheVariants as queries
 use Rattle.s80_model.specs.declared.item.SessionItem.{SessionItem}
 use Rattle.s80_model.specs.declared.item.SessionItem.TheVariants.{Chunk, Unended, Query}
-use Rattle.s80_model.specs.Asked.{Ask, Asks, refuses, adds, evaluates, opens, refuses_head, adds_source, refuses_source, closes, tells, files, ask_of_too_long, AsksQuery}
+use Rattle.s80_model.specs.Asked.{Ask, Asks, refuses, adds, evaluates, condenses, opens, refuses_head, adds_source, refuses_source, closes, tells, files, ask_of_too_long, AsksQuery}
 use Rattle.s80_model.specs.Replies.{Work, refusal_of_head, section_of, work_after}
 use Rattle.s80_model.specs.Section.{IsBriefSection}
 
@@ -28,6 +28,7 @@ no_question (queries.Versions spec selector) head e = cc
 no_question queries.Changes head e = cc
 no_question (queries.FileOut filed) head (moment, e) = cc
 no_question queries.Snapshot head e = cc
+no_question queries.Condense head e = cc
 
 -- a head that a text is has the name and the category of its tree
 brief_head : (item : SessionItem) (head : SectionHead) → Asks item (opens head) → IsBriefHead head
@@ -50,6 +51,7 @@ brief_after work item closes asks brief = tt
 brief_after work item (refuses refusal) asks brief = brief
 brief_after work item (adds change) asks brief = brief
 brief_after work item (evaluates text told stopped) asks brief = brief
+brief_after work item condenses asks brief = brief
 brief_after work item (adds_source source) asks brief = brief
 brief_after work item (refuses_source refusal) asks brief = brief
 brief_after work item (tells query) asks brief = brief

@@ -26,7 +26,7 @@ use Rattle.s80_model.specs.Replies.{Work, AsksIn, IsEvaluated, list_or, reply_to
 use Rattle.s80_model.specs.Settings.{Settings}
 use Rattle.s80_session.specs.declared.session.Session.{Session}
 use Rattle.s80_session.specs.LastRun.{RunBehindAdding}
-use Rattle.s80_session.specs.Session.{Was, budget_of, held_of, keeper_of, last_run_of, section_of}
+use Rattle.s80_session.specs.Session.{Was, budget_of, held_of, keeper_of, kept_versions_of, last_run_of, section_of}
 use Rattle.s80_session.specs.Working.{Ground, IsAmid, IsUnevaluated, Kept, Evaluates, Replied, adding}
 
 -- ---- what a doIt asks
@@ -93,6 +93,7 @@ module _ (may_leave : Image → Type 0) (now : Shown) (mid session : Session) (w
     section = ap section_of rest ∙ h.1.section;
     brief = h.1.brief;
     budget = ap budget_of rest ∙ h.1.budget;
+    kept_versions = ap kept_versions_of rest ∙ h.1.kept_versions;
     moment = h.1.moment;
     taken = h.1.taken;
     told = h.1.told;

@@ -24,7 +24,7 @@ use Rattle.s80_session.specs.declared.session.Session.{Session}
 use Rattle.s80_session.specs.Ending.{HasReason, IsWriteEnd}
 use Rattle.s80_session.specs.Ends.{refusal_at_fault}
 use Rattle.s80_session.specs.Run.{HasKept}
-use Rattle.s80_session.specs.Session.{HasMarked, keeper_of, held_of, section_of, budget_of}
+use Rattle.s80_session.specs.Session.{HasMarked, keeper_of, kept_versions_of, held_of, section_of, budget_of}
 use Rattle.s80_session.specs.Working.{Ground, IsAmid, IsAt, IsPut, HeldPut, Committed, Flushed, EndsForMemory, CommitLeaves, FlushLeaves}
 use Rattle.s80_session.proofs.Adding.{not_both}
 use Rattle.s80_session.proofs.lemmas.Elsewhere.{no_mark}
@@ -109,6 +109,7 @@ put_at was may_leave mid now before session work basis put less rest none shown 
   section = ap section_of rest ∙ at.section;
   brief = at.brief;
   budget = ap budget_of rest ∙ at.budget;
+  kept_versions = ap kept_versions_of rest ∙ at.kept_versions;
   moment = at.moment ∙ sym (ap (λ (s : Shown). s.seconds) shown);
   taken = is_put.0;
   told = is_put.1;

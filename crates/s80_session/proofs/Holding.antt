@@ -22,8 +22,8 @@ use Rattle.s80_model.specs.declared.reply.Reply.TheVariants.{Silent, Accepted, R
 use Rattle.s80_model.specs.declared.section.Section.{Section}
 use Rattle.s80_model.specs.declared.section.Section.TheVariants as sections
 use Rattle.s80_machine.specs.Came.{RanValue}
-use Rattle.s80_model.specs.Asked.{Ask, refuses, adds, evaluates, opens, refuses_head, adds_source, refuses_source, closes, tells, files, ask_of_too_long}
-use Rattle.s80_model.specs.Replies.{IsAnswer, Work, AsksIn, list_or, list_after_source, method_in, reply_to, reply_in_section, reply_to_adding, reply_to_evaluating, reply_to_source, reply_text, is_trouble, work_after}
+use Rattle.s80_model.specs.Asked.{Ask, refuses, adds, evaluates, condenses, opens, refuses_head, adds_source, refuses_source, closes, tells, files, ask_of_too_long}
+use Rattle.s80_model.specs.Replies.{IsAnswer, Work, AsksIn, condensed, list_or, list_after_source, method_in, reply_to, reply_in_section, reply_to_adding, reply_to_evaluating, reply_to_source, reply_text, is_trouble, work_after}
 use Rattle.s80_model.specs.Section.{section_or}
 use Rattle.s80_session.specs.declared.end.SessionEnd.{SessionEnd}
 use Rattle.s80_session.specs.declared.end.SessionEnd.TheVariants as ends
@@ -32,7 +32,7 @@ use Rattle.s80_session.specs.Ending.{Counts, CountsFor, SourceCounts}
 use Rattle.s80_session.specs.Ends.{reply_to_keeping}
 use Rattle.s80_session.specs.LastRun.{RunBehind}
 use Rattle.s80_session.specs.Replies.{HasRoom, HasRoomFor, LacksRoom}
-use Rattle.s80_session.specs.Session.{Was, budget_of, held_of, keeper_of, last_run_of, section_of, troubled_of, HasHeld, HasRun, IsEvaluation, RunAfterReply}
+use Rattle.s80_session.specs.Session.{Was, budget_of, held_of, keeper_of, kept_versions_of, last_run_of, section_of, troubled_of, HasHeld, HasRun, IsEvaluation, RunAfterReply}
 use Rattle.s80_session.specs.Working.{Ground, IsAmid, GoesOn, Answers, ItemWorked, flushed, holding, staying}
 use Rattle.s80_session.proofs.Breaking.{no_fewer}
 use Rattle.s80_session.proofs.Brief.{brief_after}
@@ -41,13 +41,14 @@ use Rattle.s80_session.proofs.Stepping.{head_lists, IsStaying}
 
 -- ---- what else a session holds is no matter
 
--- a session with the same keeper, section and budget, and as much held
-pub amid_alike : (may_leave : Image → Type 0) (now : Shown) (mid session : Session) (work : Work) (basis : Ground) → keeper_of session ≡ keeper_of mid → section_of session ≡ section_of mid → budget_of session ≡ budget_of mid → held_of session ≡ held_of mid → IsAmid may_leave now mid work basis → IsAmid may_leave now session work basis
-amid_alike may_leave now mid session work basis keeper section budget held h = record {
+-- a session with the same keeper, section, budget and versions to keep, and as much held
+pub amid_alike : (may_leave : Image → Type 0) (now : Shown) (mid session : Session) (work : Work) (basis : Ground) → keeper_of session ≡ keeper_of mid → section_of session ≡ section_of mid → budget_of session ≡ budget_of mid → kept_versions_of session ≡ kept_versions_of mid → held_of session ≡ held_of mid → IsAmid may_leave now mid work basis → IsAmid may_leave now session work basis
+amid_alike may_leave now mid session work basis keeper section budget versions held h = record {
   keeps = let P : KeeperState → Type 0 = λ k. Keeps now.tells now.files may_leave k basis.kept work.changes in subst P (sym keeper) h.keeps;
   section = section ∙ h.section;
   brief = h.brief;
   budget = budget ∙ h.budget;
+  kept_versions = versions ∙ h.kept_versions;
   moment = h.moment;
   taken = h.taken;
   told = h.told;
@@ -57,13 +58,14 @@ amid_alike may_leave now mid session work basis keeper section budget held h = r
 -- ---- the reply is held, and the section entered
 
 -- what becomes of a session on its basis
-module _ (may_leave : Image → Type 0) (now : Shown) (mid session : Session) (work : Work) (item : SessionItem) (answer : Answer) (keeper : keeper_of session ≡ keeper_of mid) (budget : budget_of session ≡ budget_of mid) (section : section_of session ≡ section_or answer.section (section_of mid)) (held : held_of session ≡ held_of mid ++ reply_text answer.reply) where
+module _ (may_leave : Image → Type 0) (now : Shown) (mid session : Session) (work : Work) (item : SessionItem) (answer : Answer) (keeper : keeper_of session ≡ keeper_of mid) (budget : budget_of session ≡ budget_of mid) (versions : kept_versions_of session ≡ kept_versions_of mid) (section : section_of session ≡ section_or answer.section (section_of mid)) (held : held_of session ≡ held_of mid ++ reply_text answer.reply) where
   held_on : (basis : Ground) (ask : Ask) → AsksIn work item ask → IsAnswer work ask answer → IsAmid may_leave now mid (staying work ask) basis → IsAmid may_leave now session (work_after work ask) (holding basis (reply_text (reply_to work ask)))
   held_on basis ask asks is h = record {
     keeps = let P : KeeperState → Type 0 = λ k. Keeps now.tells now.files may_leave k basis.kept (work_after work ask).changes in subst P (sym keeper) h.keeps;
     section = section ∙ ap (section_or answer.section) h.section ∙ is.1;
     brief = brief_after work item ask asks.0 h.brief;
     budget = budget ∙ h.budget;
+    kept_versions = versions ∙ h.kept_versions;
     moment = h.moment;
     taken = h.taken;
     told = h.told;
@@ -122,6 +124,7 @@ refused_stays : (work : Work) (ask : Ask) (refusal : Refusal) → reply_to work 
 refused_stays work (refuses other) refusal e = refl
 refused_stays work (adds change) refusal e = ap (λ l. record work { changes = l }) (adding_refused (add work.changes change) work.changes refusal e)
 refused_stays work (evaluates text told stopped) refusal e = ap (λ l. record work { changes = l }) (evaluating_refused (add work.changes (DoIt text)) work.changes told stopped refusal e)
+refused_stays work condenses refusal e = ap (λ l. record work { changes = l }) (adding_refused (condensed work.changes work.settings.kept_versions) work.changes refusal e)
 refused_stays work (opens head) refusal e = refl
 refused_stays work (refuses_head other) refusal e = refl
 refused_stays work (adds_source source) refusal e = ap (λ l. record work { changes = l }) (source_refused work.changes work.section source refusal e)
@@ -135,6 +138,7 @@ told_stays : (work : Work) (ask : Ask) (text : List ℕ) → reply_to work ask �
 told_stays work (refuses other) text e = refl
 told_stays work (adds change) text e = ap (λ l. record work { changes = l }) (adding_told (add work.changes change) work.changes text e)
 told_stays work (evaluates own told stopped) text e = ap (λ l. record work { changes = l }) (evaluating_told (add work.changes (DoIt own)) work.changes told stopped text e)
+told_stays work condenses text e = ap (λ l. record work { changes = l }) (adding_told (condensed work.changes work.settings.kept_versions) work.changes text e)
 told_stays work (opens head) text e = refl
 told_stays work (refuses_head other) text e = refl
 told_stays work (adds_source source) text e = ap (λ l. record work { changes = l }) (source_told work.changes work.section source text e)
@@ -162,11 +166,11 @@ item_stays work Unended ask reply room asks is has lacks = unheld_stays work ask
 item_stays work (Query query) ask reply room asks is has lacks = unheld_stays work ask reply room is has lacks
 
 -- so all goes on as if the item weren't there
-pub unheld : (may_leave : Image → Type 0) (now : Shown) (mid session : Session) (was : Was) (work : Work) (basis : Ground) (item : SessionItem) (answer : Answer) (room : ℕ) → keeper_of session ≡ keeper_of mid → section_of session ≡ section_of mid → budget_of session ≡ budget_of mid → held_of session ≡ held_of mid → HasRoomFor item answer.reply room → LacksRoom answer.reply room → Answers (Ok answer) may_leave now mid was work basis item
+pub unheld : (may_leave : Image → Type 0) (now : Shown) (mid session : Session) (was : Was) (work : Work) (basis : Ground) (item : SessionItem) (answer : Answer) (room : ℕ) → keeper_of session ≡ keeper_of mid → section_of session ≡ section_of mid → budget_of session ≡ budget_of mid → kept_versions_of session ≡ kept_versions_of mid → held_of session ≡ held_of mid → HasRoomFor item answer.reply room → LacksRoom answer.reply room → Answers (Ok answer) may_leave now mid was work basis item
     → GoesOn may_leave now session work basis
-unheld may_leave now mid session was work basis item answer room keeper section budget held has lacks (ask, asks, is, behind, goes) =
+unheld may_leave now mid session was work basis item answer room keeper section budget versions held has lacks (ask, asks, is, behind, goes) =
     let P : Work → Type 0 = λ w. GoesOn may_leave now session w basis in
-    subst P (item_stays work item ask answer.reply room asks is.0 has lacks) (⊎_elim (λ here. inl (amid_alike may_leave now mid session (staying work ask) basis keeper section budget held here)) (λ flushed_here. inr (amid_alike may_leave now mid session (staying work ask) (flushed (staying work ask) basis) keeper section budget held flushed_here)) goes)
+    subst P (item_stays work item ask answer.reply room asks is.0 has lacks) (⊎_elim (λ here. inl (amid_alike may_leave now mid session (staying work ask) basis keeper section budget versions held here)) (λ flushed_here. inr (amid_alike may_leave now mid session (staying work ask) (flushed (staying work ask) basis) keeper section budget versions held flushed_here)) goes)
 
 -- and the last run is the one before
 evaluation_held : (reply : Reply) (room : ℕ) → HasRoom reply room → LacksRoom reply room → IsEvaluation reply → ⊥
@@ -208,9 +212,10 @@ counts_then (Query (queries.FileOut contents.All)) a m b value r behind h = (beh
 counts_then (Query (queries.FileOut (contents.Class name))) a m b value r behind h = (behind h.reason).0
 counts_then (Query (queries.FileOut contents.Set)) a m b value r behind h = (behind h.reason).1
 counts_then (Query queries.Snapshot) a m b value r behind h = (behind h.reason).0
+counts_then (Query queries.Condense) a m b value r behind h = (behind h.reason).1
 
 -- no damage is met
-source_counts : {U : Type 0} (a b : Faults) (r : Result U SessionEnd) → Counts a b r → SourceCounts a b r
+pub source_counts : {U : Type 0} (a b : Faults) (r : Result U SessionEnd) → Counts a b r → SourceCounts a b r
 source_counts a b (Ok value) h = record { later = h.later; reason = h.reason }
 source_counts a b (Err ends.Memory) h = record { later = h.later; reason = h.reason }
 source_counts a b (Err (ends.Read failed)) h = record { later = h.later; reason = h.reason }
@@ -233,6 +238,7 @@ any_counts (Query (queries.FileOut contents.All)) a b r h = h
 any_counts (Query (queries.FileOut (contents.Class name))) a b r h = h
 any_counts (Query (queries.FileOut contents.Set)) a b r h = source_counts a b r h
 any_counts (Query queries.Snapshot) a b r h = h
+any_counts (Query queries.Condense) a b r h = source_counts a b r h
 
 -- what follows what met no fault
 pub counts_on : {U : Type 0} (a m b : Faults) (r : Result U SessionEnd) → Counts m b r → m ≡ a → Counts a b r × SourceCounts a b r

@@ -4,6 +4,7 @@ pub mod Answering
 pub mod Asking
 pub mod Breaking
 pub mod Brief
+pub mod Condensing
 pub mod Evaluating
 pub mod Finishing
 pub mod Flushing

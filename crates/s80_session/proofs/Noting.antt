@@ -29,7 +29,7 @@ use Rattle.s80_session.specs.declared.end.SessionEnd.{SessionEnd}
 use Rattle.s80_session.specs.declared.end.SessionEnd.TheVariants as ends
 use Rattle.s80_session.specs.declared.session.Session.{Session}
 use Rattle.s80_session.specs.Run.{HasKept}
-use Rattle.s80_session.specs.Working.{Ground, Committed, Flushed, IsPast, Noted, Unworked, adding, flushed, CommitLeaves, FlushLeaves, WorkLeaves}
+use Rattle.s80_session.specs.Working.{Ground, Committed, IsPast, Unworked, adding, flushed, CommitLeaves, FlushLeaves, WorkedAlone, WorkLeaves}
 use Rattle.s80_session.proofs.Stepping.{lost_among}
 use Rattle.s80_session.proofs.lemmas.Grounds.{flushed_works, work_still}
 
@@ -83,17 +83,8 @@ note_lawful = (note_plain, no_form_text snapshot_note nothing note_tree no_form)
 
 -- ---- what keeping it leaves
 
--- the flush before it failed
-pub flush_unnoted : (end : SessionEnd) (may_leave : Image → Type 0) (now : Shown) (session : Session) (work : Work) (basis : Ground) (item : SessionItem) → Flushed {T = Unit {0}} (Err end) may_leave now session work basis → Noted (Err end) may_leave now session work basis item
-flush_unnoted ends.Memory may_leave now session work basis item h = absurd h
-flush_unnoted (ends.Disk failed) may_leave now session work basis item h = inl (lost_among may_leave now basis.put (λ list. (list ≡ basis.kept) ⊎ (list ≡ work.changes)) (λ list. (list ≡ basis.kept) ⊎ IsPast work item list) (λ list. ⊎_elim (λ same. inl same) (λ same. inr (inl same))) h)
-flush_unnoted (ends.Write failed) may_leave now session work basis item h = h
-flush_unnoted (ends.Read failed) may_leave now session work basis item h = h
-flush_unnoted ends.TooLong may_leave now session work basis item h = h
-flush_unnoted (ends.Damaged damage) may_leave now session work basis item h = h
-
 -- it wasn't kept
-pub unkept_unnoted : (end : SessionEnd) (may_leave : Image → Type 0) (now : Shown) (session : Session) (work : Work) (basis : Ground) (item : SessionItem) → Unworked end may_leave now session work (flushed work basis) → Noted (Err end) may_leave now session work basis item
+pub unkept_unnoted : (end : SessionEnd) (may_leave : Image → Type 0) (now : Shown) (session : Session) (work : Work) (basis : Ground) (item : SessionItem) → Unworked end may_leave now session work (flushed work basis) → WorkedAlone (Err end) may_leave now session work basis item (adds (DoIt snapshot_note))
 unkept_unnoted ends.Memory may_leave now session work basis item h = inr h
 unkept_unnoted (ends.Disk failed) may_leave now session work basis item h = inr (lost_among may_leave now (basis.put ++ basis.held) (λ list. list ≡ work.changes) (IsPast work item) (λ list same. inl same) h)
 unkept_unnoted (ends.Write failed) may_leave now session work basis item h = absurd h
@@ -102,7 +93,7 @@ unkept_unnoted ends.TooLong may_leave now session work basis item h = h
 unkept_unnoted (ends.Damaged damage) may_leave now session work basis item h = h
 
 -- or it wasn't committed
-pub uncommitted_unnoted : (end : SessionEnd) (may_leave : Image → Type 0) (now : Shown) (session : Session) (work : Work) (basis : Ground) (item : SessionItem) → Asks item (adds (DoIt snapshot_note)) → Committed {T = Unit {0}} (Err end) may_leave now session (adding work (DoIt snapshot_note)) (flushed work basis) → Noted (Err end) may_leave now session work basis item
+pub uncommitted_unnoted : (end : SessionEnd) (may_leave : Image → Type 0) (now : Shown) (session : Session) (work : Work) (basis : Ground) (item : SessionItem) → Asks item (adds (DoIt snapshot_note)) → Committed {T = Unit {0}} (Err end) may_leave now session (adding work (DoIt snapshot_note)) (flushed work basis) → WorkedAlone (Err end) may_leave now session work basis item (adds (DoIt snapshot_note))
 uncommitted_unnoted (ends.Disk failed) may_leave now session work basis item asks h =
     let w : Work = adding work (DoIt snapshot_note) in
     inr (lost_among may_leave now (basis.put ++ basis.held) (λ list. (list ≡ work.changes) ⊎ (list ≡ w.changes)) (IsPast work item) (λ list. ⊎_elim (λ same. inl same) (λ same. inr (adds (DoIt snapshot_note), (asks, tt), same))) h)

@@ -18,7 +18,7 @@ use Rattle.s80_model.specs.Replies.{Work}
 use Rattle.s80_session.specs.declared.session.Session.{Session}
 use Rattle.s80_session.specs.Ending.{EndsForReasonOrDamage, HasReason, IsKeepEnd, OnOkOrMemory}
 use Rattle.s80_session.specs.Ends.{refusal_at_fault}
-use Rattle.s80_session.specs.Session.{Was, budget_of, held_of, keeper_of, section_of}
+use Rattle.s80_session.specs.Session.{Was, budget_of, held_of, keeper_of, kept_versions_of, section_of}
 use Rattle.s80_session.specs.Working.{Ground, IsAmid, IsAt, IsLost, IsPast, QueryWorked, Unworked}
 use Rattle.s80_session.proofs.Adding.{lost_keeping, not_both}
 use Rattle.s80_session.proofs.lemmas.Keeping.{keeps_less, keeps_stands}
@@ -118,6 +118,7 @@ at_read was may_leave o now before session work put keeper rest less is at =
       section = ap section_of rest ∙ at.section;
       brief = at.brief;
       budget = ap budget_of rest ∙ at.budget;
+      kept_versions = ap kept_versions_of rest ∙ at.kept_versions;
       moment = at.moment;
       taken = at.taken;
       told = at.told;

@@ -6,7 +6,6 @@ use Rattle.s80_chunk.specs.declared.item.Role.{Role}
 use Rattle.s80_chunk.specs.declared.item.Role.TheVariants as roles
 use Rattle.s80_chunk.specs.declared.item.Item.TheVariants as items
 use Rattle.s80_change.specs.declared.change.Change.{Change}
-use Rattle.s80_change.specs.declared.change.Change.TheVariants.{DoIt}
 use Rattle.s80_change.specs.Source.{SourceParts}
 use Rattle.s80_form.specs.declared.refusal.Refusal.{Refusal}
 use Rattle.s80_disk.specs.Image.{Image}
@@ -28,7 +27,7 @@ use Rattle.s80_model.specs.declared.reply.Reply.TheVariants.{Silent, Refused}
 use Rattle.s80_model.specs.declared.section.Section.{Section}
 use Rattle.s80_model.specs.declared.section.Section.TheVariants as sections
 use Rattle.s80_machine.specs.Came.{RanValue}
-use Rattle.s80_model.specs.Asked.{Ask, refuses, adds, evaluates, opens, refuses_head, adds_source, refuses_source, closes, tells, files, ask_of_too_long, snapshot_note, Asks, AsksPlain, AsksHead, AsksMethod, AsksQuery}
+use Rattle.s80_model.specs.Asked.{Ask, refuses, adds, evaluates, condenses, opens, refuses_head, adds_source, refuses_source, closes, tells, files, ask_of_too_long, Asks, AsksPlain, AsksHead, AsksMethod, AsksQuery}
 use Rattle.s80_model.specs.Replies.{IsAnswer, Work, AsksIn, IsSo, list_after_source, method_in, reply_to, reply_to_adding, reply_to_source, work_after}
 use Rattle.s80_model.specs.Settings.{IsNow, Settings}
 use Rattle.s80_model.specs.Section.{section_or, IsBriefSection}
@@ -40,7 +39,7 @@ use Rattle.s80_session.specs.Ends.{end_of_start, reply_to_keeping}
 use Rattle.s80_session.specs.LastRun.{RunBehind}
 use Rattle.s80_session.specs.Replies.{TellsFile}
 use Rattle.s80_session.specs.Session.{Was, last_run_of}
-use Rattle.s80_session.specs.Working.{Ground, IsAmid, IsAt, GoesOn, IsLost, IsPast, Kept, Noted, QueryWorked, Replied, Answers, Flushed, Unreplied, Unworked, Starts, adding, at_rest, flushed, staying}
+use Rattle.s80_session.specs.Working.{Ground, IsAmid, IsAt, GoesOn, IsLost, IsPast, Kept, QueryWorked, Replied, Answers, Flushed, Unreplied, Unworked, Starts, WorkedAlone, adding, at_rest, flushed, staying}
 
 -- ---- texts that are kept
 
@@ -61,15 +60,15 @@ unreplied (ends.Damaged damage) may_leave now session work basis item h = h
 pub replied_change : (may_leave : Image → Type 0) (now : Shown) (session : Session) (was : Was) (work : Work) (basis : Ground) (item : SessionItem) (change : Change) (refusal : Option Refusal) (reply : Reply) → last_run_of session ≡ was.last_run → Asks item (adds change) → reply ≡ reply_to_keeping refusal → Kept (Ok refusal) may_leave now session work basis change → Replied (Ok reply) may_leave now session was work basis item
 replied_change may_leave now session was work basis item change refusal reply same is reply_is h = (adds change, (is, tt), reply_is ∙ h.0, same, inl h.1)
 
--- the same of the note of a snapshot, behind a flush
-pub replied_note : (result : Result Reply SessionEnd) (may_leave : Image → Type 0) (now : Shown) (session : Session) (was : Was) (work : Work) (basis : Ground) (item : SessionItem) → last_run_of session ≡ was.last_run → Asks item (adds (DoIt snapshot_note)) → Noted result may_leave now session work basis item → Replied result may_leave now session was work basis item
-replied_note (Ok reply) may_leave now session was work basis item same is h = (adds (DoIt snapshot_note), (is, tt), h.0, same, inr h.1)
-replied_note (Err ends.Memory) may_leave now session was work basis item same is h = inl h
-replied_note (Err (ends.Disk failed)) may_leave now session was work basis item same is h = h
-replied_note (Err (ends.Write failed)) may_leave now session was work basis item same is h = h
-replied_note (Err (ends.Read failed)) may_leave now session was work basis item same is h = h
-replied_note (Err ends.TooLong) may_leave now session was work basis item same is h = h
-replied_note (Err (ends.Damaged damage)) may_leave now session was work basis item same is h = h
+-- the same of what is worked by itself, behind a flush
+pub replied_alone : (result : Result Reply SessionEnd) (may_leave : Image → Type 0) (now : Shown) (session : Session) (was : Was) (work : Work) (basis : Ground) (item : SessionItem) (ask : Ask) → AsksIn work item ask → RunBehind work ask was.last_run (last_run_of session) → WorkedAlone result may_leave now session work basis item ask → Replied result may_leave now session was work basis item
+replied_alone (Ok reply) may_leave now session was work basis item ask asks run h = (ask, asks, h.0, run, inr h.1)
+replied_alone (Err ends.Memory) may_leave now session was work basis item ask asks run h = inl h
+replied_alone (Err (ends.Disk failed)) may_leave now session was work basis item ask asks run h = h
+replied_alone (Err (ends.Write failed)) may_leave now session was work basis item ask asks run h = h
+replied_alone (Err (ends.Read failed)) may_leave now session was work basis item ask asks run h = h
+replied_alone (Err ends.TooLong) may_leave now session was work basis item ask asks run h = h
+replied_alone (Err (ends.Damaged damage)) may_leave now session was work basis item ask asks run h = h
 
 -- a text that is none of them is refused
 pub replied_refusal : (may_leave : Image → Type 0) (now : Shown) (session : Session) (was : Was) (work : Work) (basis : Ground) (text : List ℕ) (refusal : Refusal) → last_run_of session ≡ was.last_run → AsksPlain text (refuses refusal) → IsAmid may_leave now session work basis → Replied (Ok (Refused refusal)) may_leave now session was work basis (Chunk (items.Plain text))
@@ -109,6 +108,7 @@ plain_stays : (work : Work) (text : List ℕ) (ask : Ask) → AsksPlain text ask
 plain_stays work text (refuses refusal) h = refl
 plain_stays work text (adds change) h = refl
 plain_stays work text (evaluates own told stopped) h = refl
+plain_stays work text condenses h = absurd h
 plain_stays work text (opens head) h = absurd h
 plain_stays work text (refuses_head refusal) h = absurd h
 plain_stays work text (adds_source source) h = absurd h
@@ -122,6 +122,7 @@ method_stays work text (adds_source source) h = refl
 method_stays work text (refuses refusal) h = absurd h
 method_stays work text (adds change) h = absurd h
 method_stays work text (evaluates own told stopped) h = absurd h
+method_stays work text condenses h = absurd h
 method_stays work text (opens head) h = absurd h
 method_stays work text (refuses_head refusal) h = absurd h
 method_stays work text (refuses_source refusal) h = absurd h
@@ -131,7 +132,7 @@ method_stays work text (files filed moment) h = absurd h
 
 -- the section stays
 staying_at : (may_leave : Image → Type 0) (now : Shown) (session : Session) (work : Work) (basis : Ground) (ask : Ask) → (work_after work ask).section ≡ work.section → IsAmid may_leave now session (work_after work ask) basis → IsAmid may_leave now session (staying work ask) basis
-staying_at may_leave now session work basis ask stays h = record { keeps = h.keeps; section = h.section ∙ stays; brief = subst IsBriefSection stays h.brief; budget = h.budget; moment = h.moment; taken = h.taken; told = h.told; held = h.held }
+staying_at may_leave now session work basis ask stays h = record { keeps = h.keeps; section = h.section ∙ stays; brief = subst IsBriefSection stays h.brief; budget = h.budget; kept_versions = h.kept_versions; moment = h.moment; taken = h.taken; told = h.told; held = h.held }
 
 -- a reply to an item that leaves the section is its answer
 stays_there : (may_leave : Image → Type 0) (now : Shown) (session : Session) (was : Was) (work : Work) (basis : Ground) (item : SessionItem) (ask : Ask) (answer : Answer) → AsksIn work item ask → (work_after work ask).section ≡ work.section → answer.reply ≡ reply_to work ask → section_or answer.section work.section ≡ work.section → RunBehind work ask was.last_run (last_run_of session) → GoesOn may_leave now session (work_after work ask) basis → Answers (Ok answer) may_leave now session was work basis item
@@ -159,6 +160,7 @@ query_stays work (queries.Versions spec selector) ask is = ap (λ (a : Ask). (wo
 query_stays work queries.Changes ask is = ap (λ (a : Ask). (work_after work a).section) is
 query_stays work (queries.FileOut filed) ask is = ap (λ (a : Ask). (work_after work a).section) is.1
 query_stays work queries.Snapshot ask is = ap (λ (a : Ask). (work_after work a).section) is
+query_stays work queries.Condense ask is = ap (λ (a : Ask). (work_after work a).section) is
 
 pub worked_query : (may_leave : Image → Type 0) (now : Shown) (session : Session) (was : Was) (work : Work) (basis : Ground) (query : SessionQuery) (reply : Reply) (answer : Answer) → IsStaying reply answer → QueryWorked (Ok reply) may_leave now session was work (basis.put ++ basis.held) (Query query) → Answers (Ok answer) may_leave now session was work basis (Query query)
 worked_query may_leave now session was work basis query reply answer is h =
@@ -182,12 +184,22 @@ flush_err (ends.Read failed) may_leave now session work basis item h = h
 flush_err ends.TooLong may_leave now session work basis item h = h
 flush_err (ends.Damaged damage) may_leave now session work basis item h = h
 
+-- or before what is worked by itself
+pub flush_alone : (end : SessionEnd) (may_leave : Image → Type 0) (now : Shown) (session : Session) (work : Work) (basis : Ground) (item : SessionItem) (ask : Ask) → Flushed {T = Unit {0}} (Err end) may_leave now session work basis → WorkedAlone (Err end) may_leave now session work basis item ask
+flush_alone ends.Memory may_leave now session work basis item ask h = absurd h
+flush_alone (ends.Disk failed) may_leave now session work basis item ask h = flush_err (ends.Disk failed) may_leave now session work basis item h
+flush_alone (ends.Write failed) may_leave now session work basis item ask h = h
+flush_alone (ends.Read failed) may_leave now session work basis item ask h = h
+flush_alone ends.TooLong may_leave now session work basis item ask h = h
+flush_alone (ends.Damaged damage) may_leave now session work basis item ask h = h
+
 pub head_lists : (work : Work) (text : List ℕ) (ask : Ask) → AsksHead text ask → staying work ask ≡ work
 head_lists work text (opens head) h = refl
 head_lists work text (refuses_head refusal) h = refl
 head_lists work text (refuses refusal) h = absurd h
 head_lists work text (adds change) h = absurd h
 head_lists work text (evaluates own told stopped) h = absurd h
+head_lists work text condenses h = absurd h
 head_lists work text (adds_source source) h = absurd h
 head_lists work text (refuses_source refusal) h = absurd h
 head_lists work text closes h = absurd h
@@ -200,6 +212,7 @@ head_so work text (refuses_head refusal) h = tt
 head_so work text (refuses refusal) h = absurd h
 head_so work text (adds change) h = absurd h
 head_so work text (evaluates own told stopped) h = absurd h
+head_so work text condenses h = absurd h
 head_so work text (adds_source source) h = absurd h
 head_so work text (refuses_source refusal) h = absurd h
 head_so work text closes h = absurd h
@@ -213,6 +226,7 @@ head_runs work text (refuses_head refusal) before now h same = same
 head_runs work text (refuses refusal) before now h same = absurd h
 head_runs work text (adds change) before now h same = absurd h
 head_runs work text (evaluates own told stopped) before now h same = absurd h
+head_runs work text condenses before now h same = absurd h
 head_runs work text (adds_source source) before now h same = absurd h
 head_runs work text (refuses_source refusal) before now h same = absurd h
 head_runs work text closes before now h same = absurd h
@@ -266,20 +280,20 @@ replied_file may_leave now session was work put filed asked seconds reply same a
     let P : Filed → Type 0 = λ f. QueryWorked (Ok reply) may_leave now session was work put (Query (queries.FileOut f)) in
     subst P (sym asks) (files asked moment, ((moment, refl), is_now now.seconds work.settings.moment seconds moment h.moment told is), reply_is, same, h)
 
--- the note of a snapshot at rest
+-- what is worked by itself, at rest
 at_end : (may_leave : Image → Type 0) (now : Shown) (session : Session) (work : Work) (put : List ℕ) → IsAt may_leave now session work (put ++ []) → IsAt may_leave now session work put
 at_end may_leave now session work put h = let P : List ℕ → Type 0 = λ l. IsAt may_leave now session work l in subst P (append-nil put) h
 
-pub queried_note : (result : Result Reply SessionEnd) (may_leave : Image → Type 0) (now : Shown) (session : Session) (was : Was) (work : Work) (put : List ℕ) (item : SessionItem) → last_run_of session ≡ was.last_run → Asks item (adds (DoIt snapshot_note)) → Noted result may_leave now session work (at_rest work put) item → QueryWorked result may_leave now session was work put item
-queried_note (Ok reply) may_leave now session was work put item same is h = (adds (DoIt snapshot_note), (is, tt), h.0, same, at_end may_leave now session (adding work (DoIt snapshot_note)) put h.1)
-queried_note (Err ends.Memory) may_leave now session was work put item same is h = ⊎_elim (λ here. here) (at_end may_leave now session work put) h
-queried_note (Err (ends.Disk failed)) may_leave now session was work put item same is h =
+pub queried_alone : (result : Result Reply SessionEnd) (may_leave : Image → Type 0) (now : Shown) (session : Session) (was : Was) (work : Work) (put : List ℕ) (item : SessionItem) (ask : Ask) → AsksIn work item ask → RunBehind work ask was.last_run (last_run_of session) → WorkedAlone result may_leave now session work (at_rest work put) item ask → QueryWorked result may_leave now session was work put item
+queried_alone (Ok reply) may_leave now session was work put item ask asks run h = (ask, asks, h.0, run, at_end may_leave now session (work_after work ask) put h.1)
+queried_alone (Err ends.Memory) may_leave now session was work put item ask asks run h = ⊎_elim (λ here. here) (at_end may_leave now session work put) h
+queried_alone (Err (ends.Disk failed)) may_leave now session was work put item ask asks run h =
     let P : List ℕ → Type 0 = λ l. IsLost may_leave now l (IsPast work item) in
     ⊎_elim (lost_among may_leave now put (λ list. (list ≡ work.changes) ⊎ IsPast work item list) (IsPast work item) (λ list. ⊎_elim (λ same. inl same) (λ past. past))) (λ behind. subst P (append-nil put) behind) h
-queried_note (Err (ends.Write failed)) may_leave now session was work put item same is h = absurd (omega (arith, h.1))
-queried_note (Err (ends.Read failed)) may_leave now session was work put item same is h = h
-queried_note (Err ends.TooLong) may_leave now session was work put item same is h = h
-queried_note (Err (ends.Damaged damage)) may_leave now session was work put item same is h = h
+queried_alone (Err (ends.Write failed)) may_leave now session was work put item ask asks run h = absurd (omega (arith, h.1))
+queried_alone (Err (ends.Read failed)) may_leave now session was work put item ask asks run h = h
+queried_alone (Err ends.TooLong) may_leave now session was work put item ask asks run h = h
+queried_alone (Err (ends.Damaged damage)) may_leave now session was work put item ask asks run h = h
 
 -- how a start that fails ends the session
 pub starts_err : (fault : StartFault) (may_leave : Image → Type 0) (now : Shown) (settings : Settings) (changes : List Change) (put : List ℕ) → now.taken ≡ Some put → Started (Err fault) now.tells now.files may_leave changes → Starts (Err (end_of_start fault)) may_leave now settings changes put

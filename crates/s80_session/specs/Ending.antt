@@ -3,7 +3,7 @@ use Rattle.std.specs.Prelude.{◌≡◌, ◌≤◌, Result, Ok, Err}
 use Rattle.s80_base.specs.Causes.{Rose}
 use Rattle.s80_disk.specs.Shown.{Faults}
 use Rattle.s80_model.specs.declared.item.Filed.TheVariants.{Set}
-use Rattle.s80_model.specs.declared.item.Query.TheVariants.{Changes, FileOut, Source, Versions}
+use Rattle.s80_model.specs.declared.item.Query.TheVariants.{Changes, Condense, FileOut, Source, Versions}
 use Rattle.s80_model.specs.declared.item.SessionItem.{SessionItem}
 use Rattle.s80_model.specs.declared.item.SessionItem.TheVariants.{Query}
 use Rattle.s80_session.specs.declared.end.SessionEnd.{SessionEnd}
@@ -92,6 +92,7 @@ CountsFor (Query (Source spec selector)) before now result = SourceCounts before
 CountsFor (Query (Versions spec selector)) before now result = SourceCounts before now result
 CountsFor (Query Changes) before now result = SourceCounts before now result
 CountsFor (Query (FileOut Set)) before now result = SourceCounts before now result
+CountsFor (Query Condense) before now result = SourceCounts before now result
 CountsFor item before now result = Counts before now result
 
 -- the same for a start: it meets no fault of the input or the output

@@ -1,5 +1,6 @@
 -- What a session holds.
 use Rattle.std.specs.Prelude.{◌≡◌, ◌⊎◌, ◌<◌, ◌||◌, ◌++◌, ℕ, Bool, List, [], length, Option, None, Some, Result, Ok, Err, take}
+use Rattle.std.specs.Int.NonZero.{non_zero_u32_get}
 use Rattle.std.specs.Io.KnownBytes.{Appends}
 use Rattle.s80_form.specs.Form.{IsNoFormText}
 use Rattle.s80_chunk.specs.declared.item.Item.TheVariants as items
@@ -31,6 +32,10 @@ section_of session = session.section
 abbrev pub budget_of : Session → ℕ
 budget_of session = session.budget
 
+-- how many versions of each method a condensed list keeps
+abbrev pub kept_versions_of : Session → ℕ
+kept_versions_of session = non_zero_u32_get session.kept_versions
+
 -- the run of the doIt that was evaluated last
 abbrev pub last_run_of : Session → Option RanValue
 last_run_of session = session.last_run
@@ -59,11 +64,12 @@ was_of session = record { troubled = session.troubled; last_run = session.last_r
 abbrev pub IsFaultless : Session → Type 0
 IsFaultless session = session.keeper.fault ≡ None
 
--- its section, budget, last run and trouble are as before
+-- its section, budget, versions to keep, last run and trouble are as before
 pub record HasSameRest (before now : Session) : Type 0 where
   pub section : section_of now ≡ section_of before
   pub troubled : troubled_of now ≡ troubled_of before
   pub budget : budget_of now ≡ budget_of before
+  pub kept_versions : kept_versions_of now ≡ kept_versions_of before
   pub last_run : last_run_of now ≡ last_run_of before
 
 -- with so many bytes pending or held they are flushed
@@ -92,10 +98,11 @@ HasMarked (Err (ends.Read failed)) before now = ⊥
 HasMarked (Err (ends.Damaged damage)) before now = ⊥
 HasMarked (Err ends.TooLong) before now = ⊥
 
--- it stands at the top level of its input, a doIt may take so many ticks in it, and none was evaluated yet
-pub record HasBegun (ticks : ℕ) (session : Session) : Type 0 where
+-- it stands at the top level of its input, a doIt may take so many ticks in it, and none was evaluated yet; so many versions it is to keep
+pub record HasBegun (ticks versions : ℕ) (session : Session) : Type 0 where
   pub section : section_of session ≡ Top
   pub budget : budget_of session ≡ ticks
+  pub kept_versions : kept_versions_of session ≡ versions
   pub last_run : last_run_of session ≡ None
 
 -- this item is a doIt, and its text's run among these classes and methods is this

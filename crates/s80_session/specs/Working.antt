@@ -35,7 +35,7 @@ use Rattle.s80_session.specs.declared.end.SessionEnd.TheVariants as ends
 use Rattle.s80_form.specs.declared.refusal.Refusal.{Refusal}
 use Rattle.s80_session.specs.Ends.{reply_to_keeping}
 use Rattle.s80_session.specs.LastRun.{RunBehind, RunBehindAll}
-use Rattle.s80_session.specs.Session.{Was, budget_of, held_of, keeper_of, last_run_of, section_of, troubled_of, was_of}
+use Rattle.s80_session.specs.Session.{Was, budget_of, held_of, keeper_of, kept_versions_of, last_run_of, section_of, troubled_of, was_of}
 use Rattle.s80_session.specs.Run.{AsksOf, ShownFor, HasKept, chunks, input_limit, Ends, IsOneGroup}
 
 -- What a session stands on: the list that is kept on the disk, the bytes that were put, and the replies that are held until what they answer
@@ -46,12 +46,13 @@ pub record Ground : Type 0 where
   pub held : List ℕ
 
 -- the session is at work behind this list, of which a front is kept on its disk, in this section, whose head is brief; these bytes were put, and
--- those are held; and the settings have its budget, and the moment that the clock tells
+-- those are held; and the settings have its budget and how many versions it keeps, and the moment that the clock tells
 pub record IsAmid (may_leave : Image → Type 0) (o : Shown) (session : Session) (work : Work) (basis : Ground) : Type 0 where
   pub keeps : Keeps o.tells o.files may_leave (keeper_of session) basis.kept work.changes
   pub section : section_of session ≡ work.section
   pub brief : IsBriefSection work.section
   pub budget : budget_of session ≡ work.settings.budget
+  pub kept_versions : kept_versions_of session ≡ work.settings.kept_versions
   pub moment : work.settings.moment ≡ o.seconds
   pub taken : o.taken ≡ Some basis.put
   pub told : o.told ≡ length basis.put
@@ -183,17 +184,16 @@ Unreplied (ends.Read failed) may_leave now session work basis item = ⊥
 Unreplied (ends.Damaged damage) may_leave now session work basis item = ⊥
 Unreplied ends.TooLong may_leave now session work basis item = ⊥
 
--- after the note of a snapshot was to be kept, behind a flush
-abbrev pub Noted : Result Reply SessionEnd → (Image → Type 0) → Shown → Session → Work → Ground → SessionItem → Type 0
-Noted (Ok reply) may_leave now session work basis item =
-    (reply ≡ reply_to_adding (add work.changes (changes.DoIt snapshot_note)))
-    × IsAmid may_leave now session (adding work (changes.DoIt snapshot_note)) (flushed (adding work (changes.DoIt snapshot_note)) basis)
-Noted (Err ends.Memory) may_leave now session work basis item = GoesOn may_leave now session work basis
-Noted (Err (ends.Disk failed)) may_leave now session work basis item = IsLostAt may_leave now work basis item
-Noted (Err (ends.Write failed)) may_leave now session work basis item = (count : ℕ) × (count < length basis.held) × IsAt may_leave now session work (basis.put ++ take count basis.held)
-Noted (Err (ends.Read failed)) may_leave now session work basis item = ⊥
-Noted (Err (ends.Damaged damage)) may_leave now session work basis item = ⊥
-Noted (Err ends.TooLong) may_leave now session work basis item = ⊥
+-- after what an item asks was to be worked by itself, behind a flush: it is, and all is kept
+abbrev pub WorkedAlone : Result Reply SessionEnd → (Image → Type 0) → Shown → Session → Work → Ground → SessionItem → Ask → Type 0
+WorkedAlone (Ok reply) may_leave now session work basis item ask =
+    (reply ≡ reply_to work ask) × IsAmid may_leave now session (work_after work ask) (flushed (work_after work ask) basis)
+WorkedAlone (Err ends.Memory) may_leave now session work basis item ask = GoesOn may_leave now session work basis
+WorkedAlone (Err (ends.Disk failed)) may_leave now session work basis item ask = IsLostAt may_leave now work basis item
+WorkedAlone (Err (ends.Write failed)) may_leave now session work basis item ask = (count : ℕ) × (count < length basis.held) × IsAt may_leave now session work (basis.put ++ take count basis.held)
+WorkedAlone (Err (ends.Read failed)) may_leave now session work basis item ask = ⊥
+WorkedAlone (Err (ends.Damaged damage)) may_leave now session work basis item ask = ⊥
+WorkedAlone (Err ends.TooLong) may_leave now session work basis item ask = ⊥
 
 -- after a query was worked, at rest
 abbrev pub QueryWorked : Result Reply SessionEnd → (Image → Type 0) → Shown → Session → Was → Work → List ℕ → SessionItem → Type 0

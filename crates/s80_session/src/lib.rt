@@ -1,6 +1,7 @@
 //! A session: it works the items of an input one after another, and answers them in groups, each once what it changes is on the disk.
 #![tactic(auto)]
 
+mod condense;
 mod end;
 mod files;
 mod input;

@@ -1,6 +1,7 @@
 // The calls on the outside that a run makes, each with all that it leaves.
-ghost use Rattle.std.specs.Prelude.{◌≡◌, ◌≢◌, ◌⊎◌, ◌↔◌, ◌≤◌, ◌<◌, ◌+◌, ◌∷◌, [], ◌++◌, ℕ, List, length, map as list_map, option_map, Some, None, Ok, Err, IsTrue, IfOk, IfSome, OnErr, OnOk, ⊤};
+ghost use Rattle.std.specs.Prelude.{◌≡◌, ◌≢◌, ◌⊎◌, ◌↔◌, ◌≤◌, ◌<◌, ◌+◌, ◌-◌, ◌∷◌, [], ◌++◌, ℕ, List, length, map as list_map, option_map, Some, None, Ok, Err, IsTrue, IfOk, IfSome, OnErr, OnOk, ⊤};
 ghost use Rattle.std.specs.FinMap as map;
+ghost use Rattle.std.specs.Int.NonZero.{non_zero_u32_get};
 ghost use Rattle.std.specs.Io.{ReadsAtMost};
 ghost use Rattle.std.specs.Io.KnownBytes.{ReadConsumes};
 ghost use Rattle.s80_base.specs.Causes.{HasCause, Rose};
@@ -13,12 +14,15 @@ ghost use Rattle.s80_disk.specs.declared.disk.FileId.{FileId};
 ghost use Rattle.s80_disk.specs.declared.disk.FileId.TheVariants.{Mark};
 ghost use Rattle.s80_disk.specs.Moments.{LeavesOnly};
 ghost use Rattle.s80_mark.specs.Found.{longer_log};
+ghost use Rattle.s80_keeper.specs.Condensing.{AfterCondensing, Condensed, IfReplaced};
+ghost use Rattle.s80_keeper.specs.Renewing.{HasWritten};
 ghost use Rattle.s80_keeper.specs.Keeper.{pending_of, IsSettled, Keeps, Knows};
 ghost use Rattle.s80_keeper.specs.Standing.{FilesStandFor, LeavesEither, ReadsFor};
 ghost use Rattle.s80_keeper.specs.Start.{IsStart, Started, StartLeaves, IfStartDisk, UnlessStartDisk};
 ghost use Rattle.s80_keeper.specs.Answers.{AfterCommit, AfterKeepingLater, CanKeep, Committed, IfKeepDisk, IsFor, KeptLater, PlacesFor, UnlessKeepDisk};
 ghost use Rattle.s80_keeper.specs.Source.{IsThis, after_reading};
-ghost use Rattle.s80_apply.specs.List.{state_of};
+ghost use Rattle.s80_apply.specs.List.{IsBuilt, state_of};
+ghost use Rattle.s80_fileout.specs.Condensed.{kept};
 ghost use Rattle.s80_apply.specs.Placed.{placed_of};
 ghost use Rattle.s80_history.specs.Lists.{set_of, versions_of};
 ghost use Rattle.s80_log.specs.Commit.{LeavesBeside};
@@ -31,6 +35,7 @@ use s80_change::Changes;
 use s80_disk::{Outside, put_output, take_input, time_now};
 use s80_keeper::{KeepFault, Keeper, Prepared, StartFault};
 use std::alloc::Global;
+use std::num::NonZeroU32;
 
 /// Starts a keeper of the list for which the files stand.
 pub(crate) fn start_keeper<O: Outside>(alloc: Global, outside: &mut O) -> Result<Keeper, StartFault>
@@ -112,6 +117,39 @@ pub(crate) fn commit<O: Outside>(keeper: &mut Keeper, outside: &mut O) -> Result
     ensures faults_stay { UnlessKeepDisk result ((O.faults outside.new).disk ≡ (O.faults outside.old).disk) }
 {
     keeper.commit(outside)
+}
+
+/// Has a keeper replace its list by one that makes the same state, with so many of the newest versions of each method.
+pub(crate) fn condense<O: Outside>(
+    keeper: &mut Keeper,
+    alloc: Global,
+    outside: &mut O,
+    keep: NonZeroU32,
+) -> Result<(), KeepFault>
+    requires { IsSettled keeper.old }
+    ensures after { AfterCondensing result keeper.old keeper.new }
+    ensures condensed { (changes : List Change)
+        → Keeps (O.shown outside.old).tells (O.shown outside.old).files (O.may_leave outside.old) keeper.old changes changes
+        → Condensed result (O.shown outside.new).tells (O.shown outside.new).files (O.may_leave outside.new) keeper.new changes (kept changes (non_zero_u32_get keep)) }
+    ensures any_moment { (changes : List Change)
+        → Keeps (O.shown outside.old).tells (O.shown outside.old).files (O.may_leave outside.old) keeper.old changes changes
+        → LeavesOnly O.moment O.left_since outside.old outside.new (LeavesEither (O.shown outside.old).told changes (kept changes (non_zero_u32_get keep))) }
+    // Whatever a crash may leave.
+    ensures known { IsTrue (O.shown outside.old).tells → (changes : List Change) → IsBuilt changes → Knows (O.shown outside.old).files keeper.old changes
+        → IfReplaced result (HasWritten (O.shown outside.new).tells (O.shown outside.new).files keeper.new (kept changes (non_zero_u32_get keep))) }
+    // Whatever the disk stands for.
+    ensures elsewhere { LeavesOnly O.moment O.left_since outside.old outside.new
+        (LeavesBeside (O.may_leave outside.old) (O.shown outside.old).told (log_file (1 - keeper.old.log.number)) (λ c. ⊤)) }
+    ensures others { (other : FileId) → other ≢ Mark → other ≢ log_file (1 - keeper.old.log.number)
+        → (O.shown outside.new).files other ≡ (O.shown outside.old).files other }
+    ensures closed { (failed : Failed) → (result ≡ Err (KeepFault.Closed failed)) ↔ (keeper.old.fault ≡ Some failed) }
+    ensures shown { O.shown outside.new ≡ record (O.shown outside.old) { files = (O.shown outside.new).files } }
+    ensures faults { O.faults outside.new ≡ record (O.faults outside.old) { disk = (O.faults outside.new).disk } }
+    ensures later { (O.faults outside.old).disk ≤ (O.faults outside.new).disk }
+    ensures cause { IfKeepDisk result (λ failed. Rose (O.faults outside.old).disk (O.faults outside.new).disk) }
+    ensures faults_stay { UnlessKeepDisk result ((O.faults outside.new).disk ≡ (O.faults outside.old).disk) }
+{
+    keeper.condense(alloc, outside, keep.get())
 }
 
 /// The source of a method, read by a keeper. It changes no file, and a crash leaves what it might have left before.

@@ -1,14 +1,16 @@
 // A session answers queries.
 ghost use Rattle.std.specs.Prelude.{◌≡◌, ◌≢◌, ◌≤◌, ℕ, List, length, IsTrue, IfErr, IfOk};
+ghost use Rattle.s80_apply.specs.List.{IsBuilt};
 ghost use Rattle.s80_change.specs.declared.change.Change.{Change};
 ghost use Rattle.s80_disk.specs.declared.disk.FileId.{FileId};
 ghost use Rattle.s80_disk.specs.declared.disk.FileId.TheVariants.{Mark};
 ghost use Rattle.s80_disk.specs.Moments.{LeavesOnly};
 ghost use Rattle.s80_log.specs.Log.{log_file};
 ghost use Rattle.s80_keeper.specs.Keeper.{pending_of, Knows};
+ghost use Rattle.s80_model.specs.Asked.{condenses, Asks};
 ghost use Rattle.s80_model.specs.Replies.{Work};
 ghost use Rattle.s80_session.specs.Ending.{CountsFor, MeetsNoDamage, OnOkOrMemory, SourceCounts};
-ghost use Rattle.s80_session.specs.Files.{IsAsLeft, IsElsewhere, IsQuestion};
+ghost use Rattle.s80_session.specs.Files.{IsAsLeft, IsElsewhere, IsQuestion, IsUnwritten, LogAfter};
 ghost use Rattle.s80_session.specs.Replies.{HasRoom};
 ghost use Rattle.s80_session.specs.Run.{HasKept};
 
@@ -28,7 +30,7 @@ impl Session {
     ghost use Rattle.s80_session.specs.Session.{budget_of, held_of, keeper_of, last_run_of, room_of, troubled_of, was_of, IsFaultless, IsResting};
     ghost use Rattle.s80_session.specs.Working.{at_rest, IsAt, QueryWorked, WorkLeaves};
 
-    /// Works a query: keeps the note of a snapshot, and tells what any other query asks for.
+    /// Works a query: keeps the note of a snapshot, condenses, or tells what is asked for.
     pub(crate) fn work_query<O: Outside>(
         &mut self,
         alloc: Global,
@@ -42,14 +44,15 @@ impl Session {
         ensures any_moment { (work : Work) (put : List ℕ)
             → IsAt (O.may_leave outside.old) (O.shown outside.old) self.old work put
             → LeavesOnly O.moment O.left_since outside.old outside.new (WorkLeaves work (at_rest work put) (SessionItem.Query query)) }
-        // Whatever the disk stands for, but for the mark and the log the files stay, in what is read and at any moment.
-        ensures others { (other : FileId) → other ≢ Mark → other ≢ log_file (keeper_of self.old).log.number → (O.shown outside.new).files other ≡ (O.shown outside.old).files other }
-        ensures elsewhere { LeavesOnly O.moment O.left_since outside.old outside.new (IsElsewhere (O.may_leave outside.old) (log_file (keeper_of self.old).log.number)) }
+        // Whatever the disk stands for, files that the query doesn't write stay, in what is read and at any moment.
+        ensures others { (other : FileId) → IsUnwritten (SessionItem.Query query) (keeper_of self.old).log.number other → (O.shown outside.new).files other ≡ (O.shown outside.old).files other }
+        ensures elsewhere { LeavesOnly O.moment O.left_since outside.old outside.new (IsElsewhere (O.may_leave outside.old) (IsUnwritten (SessionItem.Query query) (keeper_of self.old).log.number)) }
         // A question changes no file, and at any moment a crash leaves what it might have left before.
         ensures asked { IsQuestion query → (file : FileId) → (O.shown outside.new).files file ≡ (O.shown outside.old).files file }
         ensures images { IsQuestion query → (c : FileId → List ℕ) → O.may_leave outside.new c → O.may_leave outside.old c }
         ensures no_more { IsQuestion query → LeavesOnly O.moment O.left_since outside.old outside.new (IsAsLeft (O.may_leave outside.old)) }
-        ensures sound { IsTrue (O.shown outside.old).tells → (changes : List Change) → Knows (O.shown outside.old).files (keeper_of self.old) changes → MeetsNoDamage result }
+        ensures sound { IsTrue (O.shown outside.old).tells → (changes : List Change) → Knows (O.shown outside.old).files (keeper_of self.old) changes
+            → (Asks (SessionItem.Query query) condenses → IsBuilt changes) → MeetsNoDamage result }
         ensures troubled { troubled_of self.new ≡ troubled_of self.old }
         ensures last_run { last_run_of self.new ≡ last_run_of self.old }
         ensures budget { budget_of self.new ≡ budget_of self.old }
@@ -59,7 +62,7 @@ impl Session {
         ensures held { held_of self.new ≡ held_of self.old }
         ensures room { 3 ≤ room_of self.old → IfOk result (λ reply. HasRoom reply (room_of self.new)) }
         ensures settled { IsQuestion query → pending_of (keeper_of self.new) ≡ 0 }
-        ensures log { (keeper_of self.new).log.number ≡ (keeper_of self.old).log.number }
+        ensures log { LogAfter (SessionItem.Query query) (keeper_of self.old).log.number (keeper_of self.new).log.number }
         ensures ends { IfErr result IsKeepEnd }
         ensures counts { CountsFor (SessionItem.Query query) (O.faults outside.old) (O.faults outside.new) result }
     {
@@ -75,6 +78,7 @@ impl Session {
             Query::Changes => self.tell_changes(alloc, outside),
             Query::FileOut(filed) => self.file_out(alloc, filed, outside),
             Query::Snapshot => self.keep_note(alloc, outside),
+            Query::Condense => self.condense(alloc, outside),
         }
     }
 

@@ -1,5 +1,6 @@
 // A session works items: it keeps what they change, and answers them.
 ghost use Rattle.std.specs.Prelude.{◌≡◌, ◌≢◌, ◌⊎◌, ◌||◌, ◌<◌, ◌≤◌, ℕ, false, List, [], ◌++◌, length, option_map, Some, Ok, IsTrue, IfErr, IfOk, OnErr, OnOk};
+ghost use Rattle.s80_apply.specs.List.{IsBuilt};
 ghost use Rattle.s80_change.specs.declared.change.Change.{Change};
 ghost use Rattle.s80_chunk.specs.declared.item.Item.TheVariants as items;
 ghost use Rattle.s80_disk.specs.declared.disk.FileId.{FileId};
@@ -10,12 +11,12 @@ ghost use Rattle.s80_log.specs.Log.{log_file};
 ghost use Rattle.s80_keeper.specs.Keeper.{pending_of, Knows};
 ghost use Rattle.s80_keeper.specs.Standing.{FilesStandFor, LeavesEither, ReadsFor};
 ghost use Rattle.s80_keeper.specs.Start.{StartLeaves};
-ghost use Rattle.s80_model.specs.Asked.{adds, snapshot_note, Asks};
+ghost use Rattle.s80_model.specs.Asked.{adds, condenses, snapshot_note, Asks};
 ghost use Rattle.s80_model.specs.Replies.{is_trouble, reply_text, Work};
 ghost use Rattle.s80_model.specs.Section.{section_or};
 ghost use Rattle.s80_model.specs.Settings.{Settings};
 ghost use Rattle.s80_session.specs.Ending.{Counts, CountsFor, MeetsNoDamage, NoFewer, OnOkOrMemory, StartsForReason};
-ghost use Rattle.s80_session.specs.Files.{IsAsking, IsAsLeft, IsElsewhere};
+ghost use Rattle.s80_session.specs.Files.{IsAsking, IsAsLeft, IsElsewhere, IsOther, IsUnwritten, LogAfter};
 ghost use Rattle.s80_session.specs.Putting.{IsAsBefore};
 ghost use Rattle.s80_session.specs.Replies.{HasRoom, HasRoomFor, LacksRoom};
 ghost use Rattle.s80_session.specs.Run.{HasKept, ShownFor};
@@ -40,6 +41,7 @@ use s80_model::{
 use s80_syntax::MethodTree;
 use s80_verify::Verified;
 use std::alloc::Global;
+use std::num::NonZeroU32;
 
 /// A session at work on a folder.
 #[derive(Debug, Drop)]
@@ -51,6 +53,8 @@ pub struct Session {
     pub(crate) troubled: bool,
     /// How many ticks a doIt may take.
     pub(crate) budget: u64,
+    /// How many of the newest versions of each method a condensed list keeps.
+    pub(crate) kept_versions: NonZeroU32,
     /// The run of the doIt that was evaluated last.
     pub(crate) last_run: Option<Ran>,
     /// The replies to items whose changes aren't committed yet.
@@ -63,17 +67,20 @@ impl Session {
     ghost use Rattle.s80_doit.specs.DoIt.{IsDoItCode, IsMethodOfDoIt};
     ghost use Rattle.s80_session.specs.Ending.{IsDiskEnd, IsFlushEnd, IsKeepEnd, IsWorkEnd, IsWriteEnd};
     ghost use Rattle.s80_session.specs.Session.{budget_of, held_of, keeper_of, last_run_of, room_of, section_of, troubled_of, was_of, HasBegun, HasMarked, HasSameRest, IsFaultless, IsResting, RunAfter, RunAfterText, RunAfterWork, TakesHeld, TroubleAfter, TroubleWhile};
-    ghost use Rattle.s80_session.specs.Working.{at_rest, Answers, Committed, CommitLeaves, EndsForMemory, Evaluates, Flushed, FlushLeaves, Ground, HeldPut, IsAmid, IsAt, IsGrouped, IsLawfulFor, IsReadable, IsSessionStart, ItemWorked, Kept, Noted, Replied, Starts, Stepped, StepLeaves, Worked, WorkLeaves};
+    ghost use Rattle.s80_session.specs.Working.{at_rest, Answers, Committed, CommitLeaves, EndsForMemory, Evaluates, Flushed, FlushLeaves, Ground, HeldPut, IsAmid, IsAt, IsGrouped, IsLawfulFor, IsReadable, IsSessionStart, ItemWorked, Kept, Replied, Starts, Stepped, StepLeaves, Worked, WorkedAlone, WorkLeaves};
 
-    /// A session on the folder that was attached, at the top level of its input. A doIt may take at most `budget` ticks.
+    /// A session on the folder that was attached, at the top level of its input. A doIt may take at most `budget` ticks, and a condensed list
+    /// keeps the `keep` newest versions of each method.
     pub fn start<O: Outside>(
         alloc: Global,
         outside: &mut O,
         budget: u64,
+        keep: u32,
     ) -> Result<Session, SessionEnd>
+        requires keep { 1 ≤ keep }
         ensures answer { IsTrue (O.shown outside.old).tells → IsSessionStart (O.shown outside.old).files result }
         ensures started { (settings : Settings) (changes : List Change) (put : List ℕ) → settings.budget ≡ budget
-            → settings.moment ≡ (O.shown outside.old).seconds
+            → settings.kept_versions ≡ keep → settings.moment ≡ (O.shown outside.old).seconds
             → ReadsFor (O.shown outside.old).tells (O.shown outside.old).files (O.may_leave outside.old) changes
             → (O.shown outside.old).taken ≡ Some put → (O.shown outside.old).told ≡ length put
             → Starts result (O.may_leave outside.new) (O.shown outside.new) settings changes put }
@@ -94,7 +101,7 @@ impl Session {
         ensures shown { O.shown outside.new ≡ record (O.shown outside.old) { files = (O.shown outside.new).files } }
         ensures resting { IfOk result IsResting }
         ensures untroubled { IfOk result (λ session. troubled_of session ≡ false) }
-        ensures begun { IfOk result (HasBegun budget) }
+        ensures begun { IfOk result (HasBegun budget keep) }
         ensures later { NoFewer (O.faults outside.old) (O.faults outside.new) }
         ensures reason { StartsForReason (O.faults outside.old) (O.faults outside.new) result }
     {
@@ -104,6 +111,7 @@ impl Session {
             section: Section::Top,
             troubled: false,
             budget,
+            kept_versions: NonZeroU32::new(keep).unwrap(),
             last_run: None,
             held: Replies::none(alloc),
         })
@@ -137,14 +145,15 @@ impl Session {
         ensures any_moment { (work : Work) (put : List ℕ) → IsReadable item
             → IsAt (O.may_leave outside.old) (O.shown outside.old) self.old work put
             → LeavesOnly O.moment O.left_since outside.old outside.new (StepLeaves work put item) }
-        // Whatever the disk stands for, but for the mark and the log the files stay, in what is read and at any moment.
-        ensures others { (other : FileId) → other ≢ Mark → other ≢ log_file (keeper_of self.old).log.number → (O.shown outside.new).files other ≡ (O.shown outside.old).files other }
-        ensures elsewhere { LeavesOnly O.moment O.left_since outside.old outside.new (IsElsewhere (O.may_leave outside.old) (log_file (keeper_of self.old).log.number)) }
+        // Whatever the disk stands for, files that the item doesn't write stay, in what is read and at any moment.
+        ensures others { (other : FileId) → IsUnwritten item (keeper_of self.old).log.number other → (O.shown outside.new).files other ≡ (O.shown outside.old).files other }
+        ensures elsewhere { LeavesOnly O.moment O.left_since outside.old outside.new (IsElsewhere (O.may_leave outside.old) (IsUnwritten item (keeper_of self.old).log.number)) }
         // A query changes no file, and at any moment a crash leaves what it might have left before.
         ensures asked { IsAsking item → (file : FileId) → (O.shown outside.new).files file ≡ (O.shown outside.old).files file }
         ensures images { IsAsking item → (c : FileId → List ℕ) → O.may_leave outside.new c → O.may_leave outside.old c }
         ensures no_more { IsAsking item → LeavesOnly O.moment O.left_since outside.old outside.new (IsAsLeft (O.may_leave outside.old)) }
-        ensures sound { IsTrue (O.shown outside.old).tells → (changes : List Change) → Knows (O.shown outside.old).files (keeper_of self.old) changes → MeetsNoDamage result }
+        ensures sound { IsTrue (O.shown outside.old).tells → (changes : List Change) → Knows (O.shown outside.old).files (keeper_of self.old) changes
+            → (Asks item condenses → IsBuilt changes) → MeetsNoDamage result }
         ensures troubled { TroubleAfter result (O.shown outside.old).taken (O.shown outside.new).taken self.old self.new }
         ensures last_run { RunAfter result item self.old self.new }
         ensures budget { budget_of self.new ≡ budget_of self.old }
@@ -178,19 +187,20 @@ impl Session {
             → OnOk result (LeavesOnly O.moment O.left_since outside.old outside.new (HasKept basis.kept (length basis.put))) }
         ensures unmarked { IsReadable item → IsGrouped item → OnOk result ((O.shown outside.new).files Mark ≡ (O.shown outside.old).files Mark) }
         ensures silent { IsReadable item → IsGrouped item → OnOk result ((O.shown outside.new).taken ≡ (O.shown outside.old).taken) }
-        // Whatever the disk stands for, but for the mark and the log the files stay, in what is read and at any moment.
-        ensures others { (other : FileId) → other ≢ Mark → other ≢ log_file (keeper_of self.old).log.number → (O.shown outside.new).files other ≡ (O.shown outside.old).files other }
-        ensures elsewhere { LeavesOnly O.moment O.left_since outside.old outside.new (IsElsewhere (O.may_leave outside.old) (log_file (keeper_of self.old).log.number)) }
+        // Whatever the disk stands for, files that the item doesn't write stay, in what is read and at any moment.
+        ensures others { (other : FileId) → IsUnwritten item (keeper_of self.old).log.number other → (O.shown outside.new).files other ≡ (O.shown outside.old).files other }
+        ensures elsewhere { LeavesOnly O.moment O.left_since outside.old outside.new (IsElsewhere (O.may_leave outside.old) (IsUnwritten item (keeper_of self.old).log.number)) }
         // At rest a query changes no file, and at any moment a crash leaves what it might have left before.
         ensures asked { IsAsking item → IsResting self.old → (file : FileId) → (O.shown outside.new).files file ≡ (O.shown outside.old).files file }
         ensures images { IsAsking item → IsResting self.old → (c : FileId → List ℕ) → O.may_leave outside.new c → O.may_leave outside.old c }
         ensures no_more { IsAsking item → IsResting self.old → LeavesOnly O.moment O.left_since outside.old outside.new (IsAsLeft (O.may_leave outside.old)) }
-        ensures sound { IsTrue (O.shown outside.old).tells → (changes : List Change) → Knows (O.shown outside.old).files (keeper_of self.old) changes → MeetsNoDamage result }
+        ensures sound { IsTrue (O.shown outside.old).tells → (changes : List Change) → Knows (O.shown outside.old).files (keeper_of self.old) changes
+            → (Asks item condenses → IsBuilt changes) → MeetsNoDamage result }
         ensures troubled { TroubleWhile result self.old self.new }
         ensures last_run { RunAfter result item self.old self.new }
         ensures budget { budget_of self.new ≡ budget_of self.old }
         ensures faultless { OnOk result (IsFaultless self.new) }
-        ensures log { (keeper_of self.new).log.number ≡ (keeper_of self.old).log.number }
+        ensures log { LogAfter item (keeper_of self.old).log.number (keeper_of self.new).log.number }
         ensures unput { IsResting self.old → (O.shown outside.new).taken ≡ (O.shown outside.old).taken }
         ensures settled { IsAsking item → IsResting self.old → OnOk result (pending_of (keeper_of self.new) ≡ 0) }
         ensures left { (O.shown outside.new).left ≡ (O.shown outside.old).left }
@@ -216,7 +226,7 @@ impl Session {
             → LeavesOnly O.moment O.left_since outside.old outside.new (FlushLeaves work basis) }
         // Whatever the disk stands for, but for the mark the files stay, in what is read and at any moment.
         ensures others { (other : FileId) → other ≢ Mark → (O.shown outside.new).files other ≡ (O.shown outside.old).files other }
-        ensures elsewhere { LeavesOnly O.moment O.left_since outside.old outside.new (IsElsewhere (O.may_leave outside.old) (log_file (keeper_of self.old).log.number)) }
+        ensures elsewhere { LeavesOnly O.moment O.left_since outside.old outside.new (IsElsewhere (O.may_leave outside.old) (IsOther (keeper_of self.old).log.number)) }
         ensures idle { IsResting self.old → (outside.new ≡ outside.old) × (result ≡ SessionEnd.Memory) }
         ensures rest { HasSameRest self.old self.new }
         ensures log { (keeper_of self.new).log ≡ (keeper_of self.old).log }
@@ -244,7 +254,7 @@ impl Session {
         ensures put { TakesHeld result (O.shown outside.old).taken (O.shown outside.new).taken (held_of self.old) }
         // Whatever the disk stands for, but for the mark the files stay, in what is read and at any moment.
         ensures others { (other : FileId) → other ≢ Mark → (O.shown outside.new).files other ≡ (O.shown outside.old).files other }
-        ensures elsewhere { LeavesOnly O.moment O.left_since outside.old outside.new (IsElsewhere (O.may_leave outside.old) (log_file (keeper_of self.old).log.number)) }
+        ensures elsewhere { LeavesOnly O.moment O.left_since outside.old outside.new (IsElsewhere (O.may_leave outside.old) (IsOther (keeper_of self.old).log.number)) }
         // At rest no call is made.
         ensures idle { IsResting self.old → (outside.new ≡ outside.old) × (result ≡ Ok tt) }
         ensures unheld { held_of self.old ≡ [] → (O.shown outside.new).taken ≡ (O.shown outside.old).taken }
@@ -279,7 +289,7 @@ impl Session {
         ensures one_mark { HasMarked result (keeper_of self.old) (keeper_of self.new) }
         // Whatever the disk stands for, but for the mark the files stay, in what is read and at any moment.
         ensures others { (other : FileId) → other ≢ Mark → (O.shown outside.new).files other ≡ (O.shown outside.old).files other }
-        ensures elsewhere { LeavesOnly O.moment O.left_since outside.old outside.new (IsElsewhere (O.may_leave outside.old) (log_file (keeper_of self.old).log.number)) }
+        ensures elsewhere { LeavesOnly O.moment O.left_since outside.old outside.new (IsElsewhere (O.may_leave outside.old) (IsOther (keeper_of self.old).log.number)) }
         ensures idle { pending_of (keeper_of self.old) ≡ 0 → (outside.new ≡ outside.old) × (result ≡ Ok tt) }
         ensures rest { self.new ≡ record self.old { keeper = keeper_of self.new } }
         ensures log { (keeper_of self.new).log ≡ (keeper_of self.old).log }
@@ -339,19 +349,20 @@ impl Session {
             → LeavesOnly O.moment O.left_since outside.old outside.new (HasKept basis.kept (length basis.put)) }
         ensures unmarked { IsReadable item → IsGrouped item → (O.shown outside.new).files Mark ≡ (O.shown outside.old).files Mark }
         ensures silent { IsReadable item → IsGrouped item → (O.shown outside.new).taken ≡ (O.shown outside.old).taken }
-        // Whatever the disk stands for, but for the mark and the log the files stay, in what is read and at any moment.
-        ensures others { (other : FileId) → other ≢ Mark → other ≢ log_file (keeper_of self.old).log.number → (O.shown outside.new).files other ≡ (O.shown outside.old).files other }
-        ensures elsewhere { LeavesOnly O.moment O.left_since outside.old outside.new (IsElsewhere (O.may_leave outside.old) (log_file (keeper_of self.old).log.number)) }
+        // Whatever the disk stands for, files that the item doesn't write stay, in what is read and at any moment.
+        ensures others { (other : FileId) → IsUnwritten item (keeper_of self.old).log.number other → (O.shown outside.new).files other ≡ (O.shown outside.old).files other }
+        ensures elsewhere { LeavesOnly O.moment O.left_since outside.old outside.new (IsElsewhere (O.may_leave outside.old) (IsUnwritten item (keeper_of self.old).log.number)) }
         // At rest a query changes no file, and at any moment a crash leaves what it might have left before.
         ensures asked { IsAsking item → IsResting self.old → (file : FileId) → (O.shown outside.new).files file ≡ (O.shown outside.old).files file }
         ensures images { IsAsking item → IsResting self.old → (c : FileId → List ℕ) → O.may_leave outside.new c → O.may_leave outside.old c }
         ensures no_more { IsAsking item → IsResting self.old → LeavesOnly O.moment O.left_since outside.old outside.new (IsAsLeft (O.may_leave outside.old)) }
-        ensures sound { IsTrue (O.shown outside.old).tells → (changes : List Change) → Knows (O.shown outside.old).files (keeper_of self.old) changes → MeetsNoDamage result }
+        ensures sound { IsTrue (O.shown outside.old).tells → (changes : List Change) → Knows (O.shown outside.old).files (keeper_of self.old) changes
+            → (Asks item condenses → IsBuilt changes) → MeetsNoDamage result }
         ensures troubled { TroubleWhile result self.old self.new }
         ensures last_run { RunAfter result item self.old self.new }
         ensures budget { budget_of self.new ≡ budget_of self.old }
         ensures faultless { OnOkOrMemory result (IsFaultless self.new) }
-        ensures log { (keeper_of self.new).log.number ≡ (keeper_of self.old).log.number }
+        ensures log { LogAfter item (keeper_of self.old).log.number (keeper_of self.new).log.number }
         ensures unput { IsResting self.old → (O.shown outside.new).taken ≡ (O.shown outside.old).taken }
         ensures unheld { IsResting self.old → OnErr result (held_of self.new ≡ []) }
         ensures settled { IsAsking item → IsResting self.old → OnOkOrMemory result (pending_of (keeper_of self.new) ≡ 0) }
@@ -420,21 +431,22 @@ impl Session {
             → LeavesOnly O.moment O.left_since outside.old outside.new (HasKept basis.kept (length basis.put)) }
         ensures unmarked { IsReadable item → IsGrouped item → (O.shown outside.new).files Mark ≡ (O.shown outside.old).files Mark }
         ensures silent { IsReadable item → IsGrouped item → ((O.shown outside.new).taken ≡ (O.shown outside.old).taken) × (held_of self.new ≡ held_of self.old) }
-        // Whatever the disk stands for, but for the mark and the log the files stay, in what is read and at any moment.
-        ensures others { (other : FileId) → other ≢ Mark → other ≢ log_file (keeper_of self.old).log.number → (O.shown outside.new).files other ≡ (O.shown outside.old).files other }
-        ensures elsewhere { LeavesOnly O.moment O.left_since outside.old outside.new (IsElsewhere (O.may_leave outside.old) (log_file (keeper_of self.old).log.number)) }
+        // Whatever the disk stands for, files that the item doesn't write stay, in what is read and at any moment.
+        ensures others { (other : FileId) → IsUnwritten item (keeper_of self.old).log.number other → (O.shown outside.new).files other ≡ (O.shown outside.old).files other }
+        ensures elsewhere { LeavesOnly O.moment O.left_since outside.old outside.new (IsElsewhere (O.may_leave outside.old) (IsUnwritten item (keeper_of self.old).log.number)) }
         // At rest a query changes no file, and at any moment a crash leaves what it might have left before.
         ensures asked { IsAsking item → IsResting self.old → (file : FileId) → (O.shown outside.new).files file ≡ (O.shown outside.old).files file }
         ensures images { IsAsking item → IsResting self.old → (c : FileId → List ℕ) → O.may_leave outside.new c → O.may_leave outside.old c }
         ensures no_more { IsAsking item → IsResting self.old → LeavesOnly O.moment O.left_since outside.old outside.new (IsAsLeft (O.may_leave outside.old)) }
-        ensures sound { IsTrue (O.shown outside.old).tells → (changes : List Change) → Knows (O.shown outside.old).files (keeper_of self.old) changes → MeetsNoDamage result }
+        ensures sound { IsTrue (O.shown outside.old).tells → (changes : List Change) → Knows (O.shown outside.old).files (keeper_of self.old) changes
+            → (Asks item condenses → IsBuilt changes) → MeetsNoDamage result }
         ensures troubled { troubled_of self.new ≡ troubled_of self.old }
         ensures held { (held_of self.new ≡ held_of self.old) ⊎ (held_of self.new ≡ []) }
         ensures room { 3 ≤ room_of self.old → IfOk result (λ answer. HasRoomFor item answer.reply (room_of self.new)) }
         ensures last_run { RunAfterWork result item self.old self.new }
         ensures budget { budget_of self.new ≡ budget_of self.old }
         ensures faultless { OnOkOrMemory result (IsFaultless self.new) }
-        ensures log { (keeper_of self.new).log.number ≡ (keeper_of self.old).log.number }
+        ensures log { LogAfter item (keeper_of self.old).log.number (keeper_of self.new).log.number }
         ensures unput { IsResting self.old → (O.shown outside.new).taken ≡ (O.shown outside.old).taken }
         ensures settled { IsAsking item → IsResting self.old → OnOkOrMemory result (pending_of (keeper_of self.new) ≡ 0) }
         ensures left { (O.shown outside.new).left ≡ (O.shown outside.old).left }
@@ -489,7 +501,7 @@ impl Session {
             → ((O.shown outside.new).taken ≡ (O.shown outside.old).taken) × (held_of self.new ≡ held_of self.old) }
         // Whatever the disk stands for, but for the mark and the log the files stay, in what is read and at any moment.
         ensures others { (other : FileId) → other ≢ Mark → other ≢ log_file (keeper_of self.old).log.number → (O.shown outside.new).files other ≡ (O.shown outside.old).files other }
-        ensures elsewhere { LeavesOnly O.moment O.left_since outside.old outside.new (IsElsewhere (O.may_leave outside.old) (log_file (keeper_of self.old).log.number)) }
+        ensures elsewhere { LeavesOnly O.moment O.left_since outside.old outside.new (IsElsewhere (O.may_leave outside.old) (IsOther (keeper_of self.old).log.number)) }
         ensures troubled { troubled_of self.new ≡ troubled_of self.old }
         ensures last_run { RunAfterText result (SessionItem.Chunk (items.Plain text)) self.old self.new }
         ensures budget { budget_of self.new ≡ budget_of self.old }
@@ -538,7 +550,7 @@ impl Session {
             → LeavesOnly O.moment O.left_since outside.old outside.new (HasKept basis.kept (length basis.put)) }
         // Whatever the disk stands for, but for the log the files stay, and at any moment but for the mark and the log.
         ensures others { (other : FileId) → other ≢ log_file (keeper_of self.old).log.number → (O.shown outside.new).files other ≡ (O.shown outside.old).files other }
-        ensures elsewhere { LeavesOnly O.moment O.left_since outside.old outside.new (IsElsewhere (O.may_leave outside.old) (log_file (keeper_of self.old).log.number)) }
+        ensures elsewhere { LeavesOnly O.moment O.left_since outside.old outside.new (IsElsewhere (O.may_leave outside.old) (IsOther (keeper_of self.old).log.number)) }
         ensures troubled { troubled_of self.new ≡ troubled_of self.old }
         ensures last_run { IsNoFormText text → RunAfterText result (SessionItem.Chunk (items.Plain text)) self.old self.new }
         ensures budget { budget_of self.new ≡ budget_of self.old }
@@ -592,7 +604,7 @@ impl Session {
             → LeavesOnly O.moment O.left_since outside.old outside.new (HasKept basis.kept (length basis.put)) }
         // Whatever the disk stands for, but for the log the files stay, and at any moment but for the mark and the log.
         ensures others { (other : FileId) → other ≢ log_file (keeper_of self.old).log.number → (O.shown outside.new).files other ≡ (O.shown outside.old).files other }
-        ensures elsewhere { LeavesOnly O.moment O.left_since outside.old outside.new (IsElsewhere (O.may_leave outside.old) (log_file (keeper_of self.old).log.number)) }
+        ensures elsewhere { LeavesOnly O.moment O.left_since outside.old outside.new (IsElsewhere (O.may_leave outside.old) (IsOther (keeper_of self.old).log.number)) }
         ensures troubled { troubled_of self.new ≡ troubled_of self.old }
         ensures last_run { last_run_of self.new ≡ last_run_of self.old }
         ensures budget { budget_of self.new ≡ budget_of self.old }
@@ -631,13 +643,13 @@ impl Session {
         requires faultless { IsFaultless self.old }
         ensures noted { (work : Work) (basis : Ground) (item : SessionItem) → Asks item (adds (Change.DoIt snapshot_note))
             → IsAmid (O.may_leave outside.old) (O.shown outside.old) self.old work basis
-            → Noted result (O.may_leave outside.new) (O.shown outside.new) self.new work basis item }
+            → WorkedAlone result (O.may_leave outside.new) (O.shown outside.new) self.new work basis item (adds (Change.DoIt snapshot_note)) }
         ensures any_moment { (work : Work) (basis : Ground) (item : SessionItem) → Asks item (adds (Change.DoIt snapshot_note))
             → IsAmid (O.may_leave outside.old) (O.shown outside.old) self.old work basis
             → LeavesOnly O.moment O.left_since outside.old outside.new (WorkLeaves work basis item) }
         // Whatever the disk stands for, but for the mark and the log the files stay, in what is read and at any moment.
         ensures others { (other : FileId) → other ≢ Mark → other ≢ log_file (keeper_of self.old).log.number → (O.shown outside.new).files other ≡ (O.shown outside.old).files other }
-        ensures elsewhere { LeavesOnly O.moment O.left_since outside.old outside.new (IsElsewhere (O.may_leave outside.old) (log_file (keeper_of self.old).log.number)) }
+        ensures elsewhere { LeavesOnly O.moment O.left_since outside.old outside.new (IsElsewhere (O.may_leave outside.old) (IsOther (keeper_of self.old).log.number)) }
         ensures rest { HasSameRest self.old self.new }
         ensures unput { IsResting self.old → (O.shown outside.new).taken ≡ (O.shown outside.old).taken }
         ensures held { (held_of self.new ≡ held_of self.old) ⊎ (held_of self.new ≡ []) }
@@ -672,7 +684,7 @@ impl Session {
             → LeavesOnly O.moment O.left_since outside.old outside.new (HasKept basis.kept (length basis.put)) }
         // Whatever the disk stands for, but for the log the files stay, and at any moment but for the mark and the log.
         ensures others { (other : FileId) → other ≢ log_file (keeper_of self.old).log.number → (O.shown outside.new).files other ≡ (O.shown outside.old).files other }
-        ensures elsewhere { LeavesOnly O.moment O.left_since outside.old outside.new (IsElsewhere (O.may_leave outside.old) (log_file (keeper_of self.old).log.number)) }
+        ensures elsewhere { LeavesOnly O.moment O.left_since outside.old outside.new (IsElsewhere (O.may_leave outside.old) (IsOther (keeper_of self.old).log.number)) }
         ensures rest { self.new ≡ record self.old { keeper = keeper_of self.new } }
         ensures faultless { OnOkOrMemory result (IsFaultless self.new) }
         ensures left { (O.shown outside.new).left ≡ (O.shown outside.old).left }

@@ -25,6 +25,7 @@ amid_later was_left may_leave mid now session work basis same fewer h =
       section = h.section;
       brief = h.brief;
       budget = h.budget;
+      kept_versions = h.kept_versions;
       moment = h.moment;
       taken = h.taken;
       told = h.told;

@@ -21,9 +21,9 @@ pub returns-in_err-step-clause-any_moment : goal.returns-in_err-step-clause-any_
 returns-in_err-step-clause-any_moment g c = λ changes before at. c.step.ensures.any_moment (beginning (g.O.Outside.shown c.args.outside.now).seconds changes) before c.requires.readable at
 
 pub returns-in_err-step-clause-sound : goal.returns-in_err-step-clause-sound
-returns-in_err-step-clause-sound g c = λ tells changes knows.
+returns-in_err-step-clause-sound g c = λ tells changes built knows.
     let p = err_from_is_err_and c.from_residual.result c.from_residual.ensures.1 in
-    rw (p.1, p.2) (no_damage_err (Unit {0}) Bool _ (c.in_err-step.ensures.sound tells changes knows))
+    rw (p.1, p.2) (no_damage_err (Unit {0}) Bool _ (c.in_err-step.ensures.sound tells changes knows (λ asks. built)))
 
 pub returns-in_err-step-clause-counts : goal.returns-in_err-step-clause-counts
 returns-in_err-step-clause-counts g c =

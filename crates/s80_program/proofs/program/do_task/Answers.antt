@@ -43,7 +43,7 @@ returns-in-Some-clause-any_moment g c = λ changes input before left at.
     subst P (sym c.in-Some.is ∙ c.in_ok-item_for.ensures.item) (c.answer_item.ensures.any_moment changes before at)
 
 pub returns-in-None-clause-sound : goal.returns-in-None-clause-sound
-returns-in-None-clause-sound g c = λ tells changes knows. no_damage _ _ _ _ c.run_input.ensures.counts
+returns-in-None-clause-sound g c = λ tells changes built knows. no_damage _ _ _ _ c.run_input.ensures.counts
 
 pub returns-in-None-clause-counts : goal.returns-in-None-clause-counts
 returns-in-None-clause-counts g c = run_counts _ _ _ _ c.run_input.ensures.counts

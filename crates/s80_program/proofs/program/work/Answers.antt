@@ -13,7 +13,7 @@ use Rattle.s80_program.specs.Command.{default_settings, item_for}
 use Rattle.s80_program.specs.Leaves.{CommandKeeps, KeepsFor, KilledKeeps, Leaves, StartsWith, beginning}
 use Rattle.s80_program.specs.Ending.{status_after}
 use Rattle.s80_program.specs.Task.{command_of}
-use Rattle.s80_program.proofs.Beginning.{starts_on, stands_on, reads_on, lost_at_start, no_session, chosen, chosen_either, goes_on, goes_on_either, session_begins, begins_either, damaged_lasts, tells_damage, damage_found, knows_on, unchanged}
+use Rattle.s80_program.proofs.Beginning.{starts_on, stands_on, reads_on, lost_at_start, no_session, chosen, chosen_either, goes_on, goes_on_either, session_begins, begins_either, damaged_lasts, tells_damage, damage_found, knows_on, stands_built, unchanged}
 use Rattle.s80_program.proofs.Ends.{reason_err, later_reason, starts_reason, undamaged, never_usage, disk_undamaged, disk_tells}
 use Rattle.s80_program.proofs.program.work.Goals as goal
 use Rattle.s80_program.proofs.program.work.Goals.{After-open_folder, After-start}
@@ -88,7 +88,7 @@ returns-in_err-session-clause-worked g c = λ changes input before start.
     let p = err_from_is_err_and c.from_residual-in_err-session.result c.from_residual-in_err-session.ensures.1 in
     let at = starts_mid g (goal.at.returns-in_err-session-clause-worked g c).After-start changes input before start in
     let same = c.start.ensures.shown in
-    rw (p.1, p.2) (no_session (item_for (command_of c.args.task)) _ (g.O.Disk.may_leave c.start.new.outside) (g.O.Outside.shown c.start.new.outside) (default_settings (g.O.Outside.shown c.args.outside.now).seconds) changes input before (c.in_err-session.ensures.started (default_settings (g.O.Outside.shown c.args.outside.now).seconds) changes before refl (sym (ap (λ (o : Shown). o.seconds) c.open_folder.ensures.shown)) at.reads at.taken at.told) (ap (λ (o : Shown). o.left) same ∙ at.left) (ap (λ (o : Shown). o.taken) same ∙ at.taken))
+    rw (p.1, p.2) (no_session (item_for (command_of c.args.task)) _ (g.O.Disk.may_leave c.start.new.outside) (g.O.Outside.shown c.start.new.outside) (default_settings (g.O.Outside.shown c.args.outside.now).seconds) changes input before (c.in_err-session.ensures.started (default_settings (g.O.Outside.shown c.args.outside.now).seconds) changes before refl refl (sym (ap (λ (o : Shown). o.seconds) c.open_folder.ensures.shown)) at.reads at.taken at.told) (ap (λ (o : Shown). o.left) same ∙ at.left) (ap (λ (o : Shown). o.taken) same ∙ at.taken))
 
 pub returns-in_err-session-clause-any_moment : goal.returns-in_err-session-clause-any_moment
 returns-in_err-session-clause-any_moment g c = started g (goal.at.returns-in_err-session-clause-any_moment g c).After-start
@@ -124,7 +124,7 @@ returns-clause-worked g c = λ changes input before start.
     let same = c.start.ensures.shown in
     let seconds = ap (λ (o : Shown). o.seconds) same in
     let P : Option ℕ → Type 0 = λ m. Leaves (command_of c.args.task) (status_after c.do_task.result) (g.O.Disk.may_leave c.do_task.new.outside) (g.O.Outside.shown c.do_task.new.outside) (beginning m changes) input before in
-    subst P (same_time g after) (c.do_task.ensures.worked changes input before (ap (λ (o : Shown). o.left) same ∙ at.left) c.in_ok-session.ensures.untroubled c.in_ok-session.ensures.begun.last_run (c.in_ok-session.ensures.started (default_settings (g.O.Outside.shown c.start.new.outside).seconds) changes before refl seconds at.reads at.taken at.told))
+    subst P (same_time g after) (c.do_task.ensures.worked changes input before (ap (λ (o : Shown). o.left) same ∙ at.left) c.in_ok-session.ensures.untroubled c.in_ok-session.ensures.begun.last_run (c.in_ok-session.ensures.started (default_settings (g.O.Outside.shown c.start.new.outside).seconds) changes before refl refl seconds at.reads at.taken at.told))
 
 pub returns-clause-any_moment : goal.returns-clause-any_moment
 returns-clause-any_moment g c = λ changes input before start stands.
@@ -134,7 +134,7 @@ returns-clause-any_moment g c = λ changes input before start stands.
     let seconds = ap (λ (o : Shown). o.seconds) same in
     let P : Option ℕ → Type 0 = λ m. LeavesOnly g.O.Disk.moment g.O.Disk.left_since c.start.new.outside c.do_task.new.outside (CommandKeeps (command_of c.args.task) (beginning m changes) input before) in
     goes_on g.O.Disk.moment g.O.Disk.left_since (item_for (command_of c.args.task)) (beginning (g.O.Outside.shown c.args.outside.now).seconds changes) input before c.args.outside.now c.start.new.outside c.do_task.new.outside (started g after changes input before start stands)
-    (subst P (same_time g after) (c.do_task.ensures.any_moment changes input before (ap (λ (o : Shown). o.left) same ∙ at.left) (c.in_ok-session.ensures.started (default_settings (g.O.Outside.shown c.start.new.outside).seconds) changes before refl seconds at.reads at.taken at.told)))
+    (subst P (same_time g after) (c.do_task.ensures.any_moment changes input before (ap (λ (o : Shown). o.left) same ∙ at.left) (c.in_ok-session.ensures.started (default_settings (g.O.Outside.shown c.start.new.outside).seconds) changes before refl refl seconds at.reads at.taken at.told)))
 
 pub returns-clause-killed : goal.returns-clause-killed
 returns-clause-killed g c = λ changes was input before start either.
@@ -144,7 +144,7 @@ returns-clause-killed g c = λ changes was input before start either.
     let seconds = ap (λ (o : Shown). o.seconds) same in
     let P : Option ℕ → Type 0 = λ m. LeavesOnly g.O.Disk.moment g.O.Disk.left_since c.start.new.outside c.do_task.new.outside (CommandKeeps (command_of c.args.task) (beginning m changes) input before) in
     goes_on_either g.O.Disk.moment g.O.Disk.left_since (item_for (command_of c.args.task)) (beginning (g.O.Outside.shown c.args.outside.now).seconds changes) was input before c.args.outside.now c.start.new.outside c.do_task.new.outside (started_either g after changes was input before start either)
-    (subst P (same_time g after) (c.do_task.ensures.any_moment changes input before (ap (λ (o : Shown). o.left) same ∙ at.left) (c.in_ok-session.ensures.started (default_settings (g.O.Outside.shown c.start.new.outside).seconds) changes before refl seconds at.reads at.taken at.told)))
+    (subst P (same_time g after) (c.do_task.ensures.any_moment changes input before (ap (λ (o : Shown). o.left) same ∙ at.left) (c.in_ok-session.ensures.started (default_settings (g.O.Outside.shown c.start.new.outside).seconds) changes before refl refl seconds at.reads at.taken at.told)))
 
 pub returns-clause-found : goal.returns-clause-found
 returns-clause-found g c = λ is tells.
@@ -152,7 +152,7 @@ returns-clause-found g c = λ is tells.
     let begins = c.in_ok-session in
     let found = begins.ensures.answer (ap (λ (o : Shown). o.tells) chosen ∙ tells) in
     let knows = knows_on (g.O.Outside.shown c.open_folder.new.outside).files (g.O.Outside.shown c.start.new.outside).files _ found.0 c.start.ensures.others found.2 in
-    absurd (undamaged c.do_task.result (c.do_task.ensures.sound (ap (λ (o : Shown). o.tells) c.start.ensures.shown ∙ ap (λ (o : Shown). o.tells) chosen ∙ tells) found.0 knows) is)
+    absurd (undamaged c.do_task.result (c.do_task.ensures.sound (ap (λ (o : Shown). o.tells) c.start.ensures.shown ∙ ap (λ (o : Shown). o.tells) chosen ∙ tells) found.0 (stands_built (g.O.Outside.shown c.open_folder.new.outside).files found.0 found.1) knows) is)
 
 pub returns-clause-damaged : goal.returns-clause-damaged
 returns-clause-damaged g c = λ damage tells h.

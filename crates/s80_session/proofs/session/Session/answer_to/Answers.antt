@@ -1,5 +1,5 @@
 use Rattle.std.proofs.Common.{◌≡◌, ◌⊎◌, ◌++◌, inl, inr, ⊎_elim, ℕ, List, [], subst, sym, ap, ◌∙◌, refl, Ok, Err, Some, arith}
-use Rattle.std.specs.Prelude.{◌≢◌, IsTrue}
+use Rattle.std.specs.Prelude.{IsTrue}
 use Rattle.std.proofs.lemmas.Result.{err_from_is_err_and}
 use Rattle.s80_chunk.specs.declared.item.Item.TheVariants as items
 use Rattle.s80_form.specs.declared.refusal.Refusal.TheVariants as refusals
@@ -8,7 +8,8 @@ use Rattle.s80_disk.specs.declared.disk.FileId.TheVariants.{Mark}
 use Rattle.s80_disk.specs.Moments.{LeavesOnly}
 use Rattle.s80_disk.specs.Shown.{Shown}
 use Rattle.s80_disk.proofs.lemmas.Showing.{told_beside}
-use Rattle.s80_log.specs.Log.{LogEnd, log_file}
+use Rattle.s80_log.specs.Log.{LogEnd}
+use Rattle.s80_apply.specs.List.{IsBuilt}
 use Rattle.s80_apply.specs.System.{SystemState}
 use Rattle.s80_model.specs.declared.item.SessionItem.{SessionItem}
 use Rattle.s80_model.specs.declared.item.SessionItem.TheVariants.{Chunk, Unended, Query}
@@ -16,18 +17,18 @@ use Rattle.s80_model.specs.declared.reply.Answer.{Answer}
 use Rattle.s80_model.specs.declared.reply.Reply.{Reply}
 use Rattle.s80_model.specs.declared.reply.Reply.TheVariants.{Silent, Refused}
 use Rattle.s80_model.specs.declared.section.Section.TheVariants.{Top}
-use Rattle.s80_model.specs.Asked.{refuses, closes}
+use Rattle.s80_model.specs.Asked.{refuses, condenses, closes, Asks}
 use Rattle.s80_model.specs.Replies.{Work}
 use Rattle.s80_model.specs.Section.{section_or}
 use Rattle.s80_session.specs.Ending.{CountsFor}
-use Rattle.s80_session.specs.Files.{IsAsking, IsAsLeft, IsElsewhere, IsQuestion}
+use Rattle.s80_session.specs.Files.{IsAsking, IsAsLeft, IsElsewhere, IsOther, IsQuestion, IsUnwritten, LogAfter}
 use Rattle.s80_session.specs.Replies.{HasRoomFor}
 use Rattle.s80_session.specs.Session.{Was, held_of, keeper_of, room_of, was_of, IsResting, RunAfterWork}
 use Rattle.s80_session.specs.Working.{Ground, IsAmid, IsGrouped, IsReadable, Answers, Unreplied, WorkLeaves}
 use Rattle.s80_session.proofs.Breaking.{broke_on, calm_anyway, done_on, err_counts, flush_end_calm, flush_end_works, keep_end_works}
 use Rattle.s80_session.proofs.Flushing.{knows_committed}
 use Rattle.s80_session.proofs.Holding.{any_counts, any_room, staying_room, too_long_room}
-use Rattle.s80_session.proofs.lemmas.Elsewhere.{elsewhere_then, left_on, no_log}
+use Rattle.s80_session.proofs.lemmas.Elsewhere.{elsewhere_fewer, elsewhere_then, left_on, no_log}
 use Rattle.s80_session.proofs.lemmas.Grounds.{flush_works, flushed_works, nothing_happens, work_still}
 use Rattle.s80_session.proofs.Marking.{run_answered}
 use Rattle.s80_session.proofs.Stepping.{flush_err, queried_err, worked_plain, worked_method, worked_query, worked_head, worked_so, worked_too_long}
@@ -235,17 +236,34 @@ module _ (g : _) (c : After-work_query g) where
   same_log : (keeper_of c.flush.new.self).log.number ≡ (keeper_of c.args.self.now).log.number
   same_log = ap (λ (l : LogEnd). l.number) c.flush.ensures.log
 
-  query_others : (other : FileId) → other ≢ Mark → other ≢ log_file (keeper_of c.args.self.now).log.number → (g.O.Outside.shown c.work_query.new.outside).files other ≡ (g.O.Outside.shown c.args.outside.now).files other
-  query_others other no_mark no_log =
-      let P : ℕ → Type 0 = λ n. other ≢ log_file n in
-      c.work_query.ensures.others other no_mark (subst P (sym same_log) no_log) ∙ c.flush.ensures.others other no_mark
+  -- what the item doesn't write, the query doesn't
+  unwritten : (other : FileId) → IsUnwritten c.args.item (keeper_of c.args.self.now).log.number other → IsUnwritten (Query c.in-Query.query) (keeper_of c.flush.new.self).log.number other
+  unwritten other is =
+      let P : SessionItem → Type 0 = λ i. IsUnwritten i (keeper_of c.flush.new.self).log.number other in
+      let Q : ℕ → Type 0 = λ n. IsUnwritten c.args.item n other in
+      subst P c.in-Query.is (subst Q (sym same_log) is)
 
-  query_elsewhere : LeavesOnly g.O.Disk.moment g.O.Disk.left_since c.args.outside.now c.work_query.new.outside (IsElsewhere (g.O.Disk.may_leave c.args.outside.now) (log_file (keeper_of c.args.self.now).log.number))
+  query_others : (other : FileId) → IsUnwritten c.args.item (keeper_of c.args.self.now).log.number other → (g.O.Outside.shown c.work_query.new.outside).files other ≡ (g.O.Outside.shown c.args.outside.now).files other
+  query_others other is = c.work_query.ensures.others other (unwritten other is) ∙ c.flush.ensures.others other is.other.no_mark
+
+  query_elsewhere : LeavesOnly g.O.Disk.moment g.O.Disk.left_since c.args.outside.now c.work_query.new.outside (IsElsewhere (g.O.Disk.may_leave c.args.outside.now) (IsUnwritten c.args.item (keeper_of c.args.self.now).log.number))
   query_elsewhere =
       let D = g.O.Disk in
+      let o = c.args.outside.now in
       let mid = c.flush.new.outside in
-      let P : ℕ → Type 0 = λ n. LeavesOnly D.moment D.left_since mid c.work_query.new.outside (IsElsewhere (D.may_leave mid) (log_file n)) in
-      elsewhere_then D.moment D.left_since c.args.outside.now mid c.work_query.new.outside (D.may_leave c.args.outside.now) (D.may_leave mid) (D.beside mid).told (log_file (keeper_of c.args.self.now).log.number) (g.met.O.Disk.counts_now mid) c.flush.ensures.elsewhere (subst P same_log c.work_query.ensures.elsewhere)
+      let new = c.work_query.new.outside in
+      let number = (keeper_of c.args.self.now).log.number in
+      let Stays : FileId → Type 0 = IsUnwritten c.args.item number in
+      let first = elsewhere_fewer D.moment D.left_since o mid (D.may_leave o) (IsOther number) Stays (λ other is. is.other) c.flush.ensures.elsewhere in
+      let second = elsewhere_fewer D.moment D.left_since mid new (D.may_leave mid) (IsUnwritten (Query c.in-Query.query) (keeper_of c.flush.new.self).log.number) Stays unwritten c.work_query.ensures.elsewhere in
+      elsewhere_then D.moment D.left_since o mid new (D.may_leave o) (D.may_leave mid) (D.beside mid).told Stays (g.met.O.Disk.counts_now mid) first second
+
+  query_log : LogAfter c.args.item (keeper_of c.args.self.now).log.number (keeper_of c.work_query.new.self).log.number
+  query_log =
+      let now = (keeper_of c.work_query.new.self).log.number in
+      let P : SessionItem → Type 0 = λ i. LogAfter i (keeper_of c.flush.new.self).log.number now in
+      let Q : ℕ → Type 0 = λ n. LogAfter c.args.item n now in
+      subst Q same_log (subst P (sym c.in-Query.is) c.work_query.ensures.log)
 
   question : IsAsking c.args.item → IsQuestion c.in-Query.query
   question asking = subst IsAsking c.in-Query.is asking
@@ -289,7 +307,7 @@ pub returns-in_ok-work_query-in-Query-clause-held : goal.returns-in_ok-work_quer
 returns-in_ok-work_query-in-Query-clause-held g c = query_held g (goal.at.returns-in_ok-work_query-in-Query-clause-held g c).After-work_query
 
 pub returns-in_ok-work_query-in-Query-clause-log : goal.returns-in_ok-work_query-in-Query-clause-log
-returns-in_ok-work_query-in-Query-clause-log g c = c.work_query.ensures.log ∙ same_log g (goal.at.returns-in_ok-work_query-in-Query-clause-log g c).After-work_query
+returns-in_ok-work_query-in-Query-clause-log g c = query_log g (goal.at.returns-in_ok-work_query-in-Query-clause-log g c).After-work_query
 
 pub returns-in_err-work_query-in-Query-clause-others : goal.returns-in_err-work_query-in-Query-clause-others
 returns-in_err-work_query-in-Query-clause-others g c = query_others g (goal.at.returns-in_err-work_query-in-Query-clause-others g c).After-work_query
@@ -313,7 +331,7 @@ pub returns-in_err-work_query-in-Query-clause-held : goal.returns-in_err-work_qu
 returns-in_err-work_query-in-Query-clause-held g c = query_held g (goal.at.returns-in_err-work_query-in-Query-clause-held g c).After-work_query
 
 pub returns-in_err-work_query-in-Query-clause-log : goal.returns-in_err-work_query-in-Query-clause-log
-returns-in_err-work_query-in-Query-clause-log g c = c.work_query.ensures.log ∙ same_log g (goal.at.returns-in_err-work_query-in-Query-clause-log g c).After-work_query
+returns-in_err-work_query-in-Query-clause-log g c = query_log g (goal.at.returns-in_err-work_query-in-Query-clause-log g c).After-work_query
 
 pub returns-in_ok-work_query-in-Query-clause-settled : goal.returns-in_ok-work_query-in-Query-clause-settled
 returns-in_ok-work_query-in-Query-clause-settled g c = λ asking resting. c.work_query.ensures.settled (question g (goal.at.returns-in_ok-work_query-in-Query-clause-settled g c).After-work_query asking)
@@ -329,10 +347,11 @@ returns-in_err-flush-in-Query-clause-settled g c = λ asking resting.
     rw (p.1, p.2) (flush_end_calm Answer _ c.in_err-flush-in-Query.field-0.0 c.in_err-flush-in-Query.ensures.ends)
 
 pub returns-in_err-work_query-in-Query-clause-sound : goal.returns-in_err-work_query-in-Query-clause-sound
-returns-in_err-work_query-in-Query-clause-sound g c = λ tells changes knows.
+returns-in_err-work_query-in-Query-clause-sound g c = λ tells changes knows built.
     let p = err_from_is_err_and c.from_residual-in_err-work_query-in-Query.result c.from_residual-in_err-work_query-in-Query.ensures.1 in
     let known = knows_committed (g.O.Outside.shown c.args.outside.now).files (g.O.Outside.shown c.flush.new.outside).files (keeper_of c.args.self.now) (keeper_of c.flush.new.self) changes c.in_ok-flush-in-Query.ensures.one_mark c.flush.ensures.others knows in
-    rw (p.1, p.2) (c.in_err-work_query-in-Query.ensures.sound (subst IsTrue (sym (ap (λ (o : Shown). o.tells) c.flush.ensures.shown)) tells) changes known)
+    let P : SessionItem → Type 0 = λ i. Asks i condenses → IsBuilt changes in
+    rw (p.1, p.2) (c.in_err-work_query-in-Query.ensures.sound (subst IsTrue (sym (ap (λ (o : Shown). o.tells) c.flush.ensures.shown)) tells) changes known (subst P c.in-Query.is built))
 
 -- the counts of faults
 pub returns-in_ok-work_query-in-Query-clause-counts : goal.returns-in_ok-work_query-in-Query-clause-counts
@@ -474,3 +493,66 @@ returns-in_err-flush-in-Query-clause-unmarked g c = λ readable grouped. absurd 
 
 pub returns-in_err-flush-in-Query-clause-silent : goal.returns-in_err-flush-in-Query-clause-silent
 returns-in_err-flush-in-Query-clause-silent g c = λ readable grouped. absurd (subst IsGrouped c.in-Query.is grouped)
+
+-- ---- what a chunk leaves of the files, and of the log
+
+pub returns-in_ok-keep_text-in-Chunk-Plain-clause-elsewhere : goal.returns-in_ok-keep_text-in-Chunk-Plain-clause-elsewhere
+returns-in_ok-keep_text-in-Chunk-Plain-clause-elsewhere g c =
+    let o = c.args.outside.now in
+    let number = (keeper_of c.args.self.now).log.number in
+    elsewhere_fewer g.O.Disk.moment g.O.Disk.left_since o c.keep_text.new.outside (g.O.Disk.may_leave o) (IsOther number) (IsUnwritten c.args.item number) (λ other is. is.other) c.keep_text.ensures.elsewhere
+
+pub returns-in_ok-keep_text-in-Chunk-Plain-clause-others : goal.returns-in_ok-keep_text-in-Chunk-Plain-clause-others
+returns-in_ok-keep_text-in-Chunk-Plain-clause-others g c = λ other is. c.keep_text.ensures.others other is.other.no_mark is.other.no_log
+
+pub returns-in_ok-keep_text-in-Chunk-Plain-clause-log : goal.returns-in_ok-keep_text-in-Chunk-Plain-clause-log
+returns-in_ok-keep_text-in-Chunk-Plain-clause-log g c = inl c.keep_text.ensures.log
+
+pub returns-in_ok-keep_method-in-Chunk-Method-clause-elsewhere : goal.returns-in_ok-keep_method-in-Chunk-Method-clause-elsewhere
+returns-in_ok-keep_method-in-Chunk-Method-clause-elsewhere g c =
+    let o = c.args.outside.now in
+    let number = (keeper_of c.args.self.now).log.number in
+    elsewhere_fewer g.O.Disk.moment g.O.Disk.left_since o c.keep_method.new.outside (g.O.Disk.may_leave o) (IsOther number) (IsUnwritten c.args.item number) (λ other is. is.other) c.keep_method.ensures.elsewhere
+
+pub returns-in_ok-keep_method-in-Chunk-Method-clause-others : goal.returns-in_ok-keep_method-in-Chunk-Method-clause-others
+returns-in_ok-keep_method-in-Chunk-Method-clause-others g c = λ other is. c.keep_method.ensures.others other is.other.no_log
+
+pub returns-in_ok-keep_method-in-Chunk-Method-clause-log : goal.returns-in_ok-keep_method-in-Chunk-Method-clause-log
+returns-in_ok-keep_method-in-Chunk-Method-clause-log g c = inl c.keep_method.ensures.log
+
+pub returns-in_err-keep_text-in-Chunk-Plain-clause-elsewhere : goal.returns-in_err-keep_text-in-Chunk-Plain-clause-elsewhere
+returns-in_err-keep_text-in-Chunk-Plain-clause-elsewhere g c =
+    let o = c.args.outside.now in
+    let number = (keeper_of c.args.self.now).log.number in
+    elsewhere_fewer g.O.Disk.moment g.O.Disk.left_since o c.keep_text.new.outside (g.O.Disk.may_leave o) (IsOther number) (IsUnwritten c.args.item number) (λ other is. is.other) c.keep_text.ensures.elsewhere
+
+pub returns-in_err-keep_text-in-Chunk-Plain-clause-others : goal.returns-in_err-keep_text-in-Chunk-Plain-clause-others
+returns-in_err-keep_text-in-Chunk-Plain-clause-others g c = λ other is. c.keep_text.ensures.others other is.other.no_mark is.other.no_log
+
+pub returns-in_err-keep_text-in-Chunk-Plain-clause-log : goal.returns-in_err-keep_text-in-Chunk-Plain-clause-log
+returns-in_err-keep_text-in-Chunk-Plain-clause-log g c = inl c.keep_text.ensures.log
+
+pub returns-in_err-keep_method-in-Chunk-Method-clause-elsewhere : goal.returns-in_err-keep_method-in-Chunk-Method-clause-elsewhere
+returns-in_err-keep_method-in-Chunk-Method-clause-elsewhere g c =
+    let o = c.args.outside.now in
+    let number = (keeper_of c.args.self.now).log.number in
+    elsewhere_fewer g.O.Disk.moment g.O.Disk.left_since o c.keep_method.new.outside (g.O.Disk.may_leave o) (IsOther number) (IsUnwritten c.args.item number) (λ other is. is.other) c.keep_method.ensures.elsewhere
+
+pub returns-in_err-keep_method-in-Chunk-Method-clause-others : goal.returns-in_err-keep_method-in-Chunk-Method-clause-others
+returns-in_err-keep_method-in-Chunk-Method-clause-others g c = λ other is. c.keep_method.ensures.others other is.other.no_log
+
+pub returns-in_err-keep_method-in-Chunk-Method-clause-log : goal.returns-in_err-keep_method-in-Chunk-Method-clause-log
+returns-in_err-keep_method-in-Chunk-Method-clause-log g c = inl c.keep_method.ensures.log
+
+-- a flush before a query broke off
+pub returns-in_err-flush-in-Query-clause-elsewhere : goal.returns-in_err-flush-in-Query-clause-elsewhere
+returns-in_err-flush-in-Query-clause-elsewhere g c =
+    let o = c.args.outside.now in
+    let number = (keeper_of c.args.self.now).log.number in
+    elsewhere_fewer g.O.Disk.moment g.O.Disk.left_since o c.flush.new.outside (g.O.Disk.may_leave o) (IsOther number) (IsUnwritten c.args.item number) (λ other is. is.other) c.flush.ensures.elsewhere
+
+pub returns-in_err-flush-in-Query-clause-others : goal.returns-in_err-flush-in-Query-clause-others
+returns-in_err-flush-in-Query-clause-others g c = λ other is. c.flush.ensures.others other is.other.no_mark
+
+pub returns-in_err-flush-in-Query-clause-log : goal.returns-in_err-flush-in-Query-clause-log
+returns-in_err-flush-in-Query-clause-log g c = inl (ap (λ (l : LogEnd). l.number) c.flush.ensures.log)

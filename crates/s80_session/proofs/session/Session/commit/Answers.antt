@@ -1,16 +1,19 @@
 use Rattle.std.proofs.Common.{refl, ◌≡◌, Result, Err, sym, ap, subst, ◌∙◌, arith}
-use Rattle.std.specs.Prelude.{IfErr}
+use Rattle.std.specs.Prelude.{IfErr, ⊤}
 use Rattle.std.proofs.lemmas.Result.{err_from_is_err_and}
 use Rattle.s80_base.specs.declared.outside.Failed.{Failed}
 use Rattle.s80_form.specs.declared.refusal.Refusal.{Refusal}
 use Rattle.s80_disk.specs.Shown.{Faults}
+use Rattle.s80_log.specs.Log.{log_file}
 use Rattle.s80_keeper.specs.declared.keep.KeepFault.TheVariants as faults
 use Rattle.s80_session.specs.declared.end.SessionEnd.{SessionEnd}
 use Rattle.s80_session.specs.Ending.{HasReason, NoFewer}
+use Rattle.s80_session.specs.Files.{IsOther}
 use Rattle.s80_session.specs.Session.{HasMarked, keeper_of}
 use Rattle.s80_session.specs.Working.{Committed}
 use Rattle.s80_session.proofs.Adding.{stands_on}
 use Rattle.s80_session.proofs.Flushing.{commit_fault, commit_lasts, commit_lost, commit_marks, commit_reason, not_refused}
+use Rattle.s80_session.proofs.lemmas.Elsewhere.{elsewhere_beside}
 use Rattle.s80_session.proofs.session.Session.commit.Goals as goal
 use Rattle.s80_session.proofs.session.Session.commit.Goals.{In-Err}
 
@@ -78,3 +81,10 @@ returns-in_default-clause-committed g c = λ work basis at.
 pub returns-in_default-clause-any_moment : goal.returns-in_default-clause-any_moment
 returns-in_default-clause-any_moment g c = λ work basis at.
     commit_lasts g.O.Disk.moment g.O.Disk.left_since c.args.outside.now c.commit.new.outside work basis (g.O.Outside.shown c.args.outside.now).told at.told (c.commit.ensures.any_moment basis.kept work.changes at.keeps)
+
+-- but for the mark the files stay
+pub returns-in_ok-refusal_at_fault-clause-elsewhere : goal.returns-in_ok-refusal_at_fault-clause-elsewhere
+returns-in_ok-refusal_at_fault-clause-elsewhere g c =
+    let o = c.args.outside.now in
+    let number = (keeper_of c.args.self.now).log.number in
+    elsewhere_beside g.O.Disk.moment g.O.Disk.left_since o c.commit.new.outside (g.O.Disk.may_leave o) (g.O.Outside.shown o).told (log_file number) (λ image. ⊤) (IsOther number) (λ other is. (is.no_mark, is.no_log)) c.commit.ensures.elsewhere

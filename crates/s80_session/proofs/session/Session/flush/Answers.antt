@@ -2,8 +2,7 @@ use Rattle.std.proofs.Common.{ℕ, List, Option, length, ap, sym, subst, ◌∙�
 use Rattle.std.proofs.lemmas.Result.{err_from_is_err_and}
 use Rattle.s80_disk.specs.Shown.{Shown}
 use Rattle.s80_disk.specs.Moments.{LeavesOnly}
-use Rattle.s80_log.specs.Log.{log_file}
-use Rattle.s80_session.specs.Files.{IsAsLeft}
+use Rattle.s80_session.specs.Files.{IsAsLeft, IsOther}
 use Rattle.s80_session.specs.Putting.{IsAsBefore}
 use Rattle.s80_session.specs.Session.{HasMarked, held_of, keeper_of, TakesHeld}
 use Rattle.s80_session.proofs.Flushing.{commit_last, flush_last, flush_marks, flushed_so, uncommitted}
@@ -56,7 +55,7 @@ pub returns-clause-elsewhere : goal.returns-clause-elsewhere
 returns-clause-elsewhere g c =
     let D = g.O.Disk in
     let mid = c.commit.new.outside in
-    elsewhere_on D.moment D.left_since c.args.outside.now mid c.put_held.new.outside (D.may_leave c.args.outside.now) (D.may_leave mid) (D.beside mid).told (log_file (keeper_of c.args.self.now).log.number) (g.met.O.Disk.counts_now mid) c.commit.ensures.elsewhere (left_as_before D.moment D.left_since mid c.put_held.new.outside (D.may_leave mid) (g.O.Outside.shown mid).told (length (held_of c.commit.new.self)) c.put_held.ensures.any_moment)
+    elsewhere_on D.moment D.left_since c.args.outside.now mid c.put_held.new.outside (D.may_leave c.args.outside.now) (D.may_leave mid) (D.beside mid).told (IsOther (keeper_of c.args.self.now).log.number) (g.met.O.Disk.counts_now mid) c.commit.ensures.elsewhere (left_as_before D.moment D.left_since mid c.put_held.new.outside (D.may_leave mid) (g.O.Outside.shown mid).told (length (held_of c.commit.new.self)) c.put_held.ensures.any_moment)
 
 -- with nothing pending the commit makes no call
 

@@ -19,7 +19,7 @@ use Rattle.s80_model.specs.Replies.{Work}
 use Rattle.s80_session.specs.declared.end.SessionEnd.{SessionEnd}
 use Rattle.s80_session.specs.declared.session.Session.{Session}
 use Rattle.s80_session.specs.Ending.{HasReason, IsKeepEnd, NoFewer, OnOkOrMemory}
-use Rattle.s80_session.specs.Files.{IsElsewhere}
+use Rattle.s80_session.specs.Files.{IsElsewhere, IsOther}
 use Rattle.s80_session.specs.Session.{keeper_of}
 use Rattle.s80_session.specs.Run.{HasKept}
 use Rattle.s80_session.specs.Working.{Ground, IsAmid, IsLawfulFor, Unworked}
@@ -143,11 +143,11 @@ module _ (g : _) (c : After-keep_later g) where
   same_log : c.prepare.new.self.log.number ≡ (keeper_of c.args.self.now).log.number
   same_log = ap (λ (k : KeeperState). k.log.number) c.prepare.ensures.same
 
-  elsewhere : LeavesOnly g.O.Disk.moment g.O.Disk.left_since c.args.outside.now c.keep_later.new.outside (IsElsewhere (g.O.Disk.may_leave c.args.outside.now) (log_file (keeper_of c.args.self.now).log.number))
+  elsewhere : LeavesOnly g.O.Disk.moment g.O.Disk.left_since c.args.outside.now c.keep_later.new.outside (IsElsewhere (g.O.Disk.may_leave c.args.outside.now) (IsOther (keeper_of c.args.self.now).log.number))
   elsewhere =
       let o = c.args.outside.now in
-      let P : ℕ → Type 0 = λ n. LeavesOnly g.O.Disk.moment g.O.Disk.left_since o c.keep_later.new.outside (IsElsewhere (g.O.Disk.may_leave o) (log_file n)) in
-      subst P same_log (elsewhere_beside g.O.Disk.moment g.O.Disk.left_since o c.keep_later.new.outside (g.O.Disk.may_leave o) (g.O.Outside.shown o).told (log_file c.prepare.new.self.log.number) (λ image. ⊤) c.keep_later.ensures.elsewhere)
+      let P : ℕ → Type 0 = λ n. LeavesOnly g.O.Disk.moment g.O.Disk.left_since o c.keep_later.new.outside (IsElsewhere (g.O.Disk.may_leave o) (IsOther n)) in
+      subst P same_log (elsewhere_beside g.O.Disk.moment g.O.Disk.left_since o c.keep_later.new.outside (g.O.Disk.may_leave o) (g.O.Outside.shown o).told (log_file c.prepare.new.self.log.number) (λ image. ⊤) (IsOther c.prepare.new.self.log.number) (λ other is. (is.no_mark, is.no_log)) c.keep_later.ensures.elsewhere)
 
   others : (other : FileId) → other ≢ log_file (keeper_of c.args.self.now).log.number → (g.O.Outside.shown c.keep_later.new.outside).files other ≡ (g.O.Outside.shown c.args.outside.now).files other
   others =

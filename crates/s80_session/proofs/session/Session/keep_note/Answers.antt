@@ -6,17 +6,18 @@ use Rattle.s80_change.specs.Block.{IsLawful}
 use Rattle.s80_form.specs.declared.refusal.Refusal.{Refusal}
 use Rattle.s80_disk.specs.Moments.{LeavesOnly}
 use Rattle.s80_disk.specs.Shown.{Shown}
-use Rattle.s80_log.specs.Log.{LogEnd, log_file}
-use Rattle.s80_model.specs.Asked.{snapshot_note}
+use Rattle.s80_log.specs.Log.{LogEnd}
+use Rattle.s80_model.specs.Asked.{adds, snapshot_note}
 use Rattle.s80_model.specs.declared.reply.Reply.{Reply}
 use Rattle.s80_model.specs.Replies.{Work}
-use Rattle.s80_session.specs.Files.{IsElsewhere}
+use Rattle.s80_session.specs.Files.{IsElsewhere, IsOther}
 use Rattle.s80_session.specs.Run.{HasKept}
 use Rattle.s80_session.specs.Session.{held_of, keeper_of, room_of, IsResting}
 use Rattle.s80_session.specs.Working.{Ground, IsAmid, IsLawfulFor, Kept, adding, flushed}
-use Rattle.s80_session.proofs.Noting.{flush_unnoted, keeping_lasts, note_lawful, noting_lasts, uncommitted_unnoted, unkept_unnoted}
+use Rattle.s80_session.proofs.Noting.{keeping_lasts, note_lawful, noting_lasts, uncommitted_unnoted, unkept_unnoted}
 use Rattle.s80_session.proofs.Breaking.{done_counts, err_counts_on, flush_end_calm, flush_end_works, keep_end_works, memory_counts}
 use Rattle.s80_session.proofs.Holding.{keeping_room}
+use Rattle.s80_session.proofs.Stepping.{flush_alone}
 use Rattle.s80_session.proofs.lemmas.Elsewhere.{elsewhere_then}
 use Rattle.s80_session.proofs.lemmas.Grounds.{flush_works}
 use Rattle.s80_session.proofs.session.Session.keep_note.Goals as goal
@@ -25,7 +26,7 @@ use Rattle.s80_session.proofs.session.Session.keep_note.Goals.{After-keep}
 pub returns-in_err-flush-clause-noted : goal.returns-in_err-flush-clause-noted
 returns-in_err-flush-clause-noted g c = λ work basis item asks at.
     let p = err_from_is_err_and c.from_residual.result c.from_residual.ensures.1 in
-    rw (p.1, p.2) (flush_unnoted c.in_err-flush.field-0.0 (g.O.Disk.may_leave c.flush.new.outside) (g.O.Outside.shown c.flush.new.outside) c.flush.new.self work basis item (c.in_err-flush.ensures.flushed work basis at))
+    rw (p.1, p.2) (flush_alone c.in_err-flush.field-0.0 (g.O.Disk.may_leave c.flush.new.outside) (g.O.Outside.shown c.flush.new.outside) c.flush.new.self work basis item (adds (DoIt snapshot_note)) (c.in_err-flush.ensures.flushed work basis at))
 
 pub returns-in_err-flush-clause-any_moment : goal.returns-in_err-flush-clause-any_moment
 returns-in_err-flush-clause-any_moment g c = λ work basis item asks at. flush_works g.O.Disk.moment g.O.Disk.left_since c.args.outside.now c.flush.new.outside work basis item (c.flush.ensures.any_moment work basis at)
@@ -95,12 +96,12 @@ module _ (g : _) (c : After-keep g) where
   same_log : (keeper_of c.flush.new.self).log.number ≡ (keeper_of c.args.self.now).log.number
   same_log = ap (λ (l : LogEnd). l.number) c.flush.ensures.log
 
-  kept_elsewhere : LeavesOnly g.O.Disk.moment g.O.Disk.left_since c.args.outside.now c.keep.new.outside (IsElsewhere (g.O.Disk.may_leave c.args.outside.now) (log_file (keeper_of c.args.self.now).log.number))
+  kept_elsewhere : LeavesOnly g.O.Disk.moment g.O.Disk.left_since c.args.outside.now c.keep.new.outside (IsElsewhere (g.O.Disk.may_leave c.args.outside.now) (IsOther (keeper_of c.args.self.now).log.number))
   kept_elsewhere =
       let D = g.O.Disk in
       let mid = c.flush.new.outside in
-      let P : ℕ → Type 0 = λ n. LeavesOnly D.moment D.left_since mid c.keep.new.outside (IsElsewhere (D.may_leave mid) (log_file n)) in
-      elsewhere_then D.moment D.left_since c.args.outside.now mid c.keep.new.outside (D.may_leave c.args.outside.now) (D.may_leave mid) (D.beside mid).told (log_file (keeper_of c.args.self.now).log.number) (g.met.O.Disk.counts_now mid) c.flush.ensures.elsewhere (subst P same_log c.keep.ensures.elsewhere)
+      let P : ℕ → Type 0 = λ n. LeavesOnly D.moment D.left_since mid c.keep.new.outside (IsElsewhere (D.may_leave mid) (IsOther n)) in
+      elsewhere_then D.moment D.left_since c.args.outside.now mid c.keep.new.outside (D.may_leave c.args.outside.now) (D.may_leave mid) (D.beside mid).told (IsOther (keeper_of c.args.self.now).log.number) (g.met.O.Disk.counts_now mid) c.flush.ensures.elsewhere (subst P same_log c.keep.ensures.elsewhere)
 
 pub returns-in_err-refusal-clause-elsewhere : goal.returns-in_err-refusal-clause-elsewhere
 returns-in_err-refusal-clause-elsewhere g c = kept_elsewhere g (goal.at.returns-in_err-refusal-clause-elsewhere g c).After-keep
@@ -110,16 +111,16 @@ returns-in_err-commit-clause-elsewhere g c =
     let after = (goal.at.returns-in_err-commit-clause-elsewhere g c).After-keep in
     let D = g.O.Disk in
     let mid = c.keep.new.outside in
-    let P : ℕ → Type 0 = λ n. LeavesOnly D.moment D.left_since mid c.commit.new.outside (IsElsewhere (D.may_leave mid) (log_file n)) in
-    elsewhere_then D.moment D.left_since c.args.outside.now mid c.commit.new.outside (D.may_leave c.args.outside.now) (D.may_leave mid) (D.beside mid).told (log_file (keeper_of c.args.self.now).log.number) (g.met.O.Disk.counts_now mid) (kept_elsewhere g after) (subst P (c.keep.ensures.log ∙ same_log g after) c.commit.ensures.elsewhere)
+    let P : ℕ → Type 0 = λ n. LeavesOnly D.moment D.left_since mid c.commit.new.outside (IsElsewhere (D.may_leave mid) (IsOther n)) in
+    elsewhere_then D.moment D.left_since c.args.outside.now mid c.commit.new.outside (D.may_leave c.args.outside.now) (D.may_leave mid) (D.beside mid).told (IsOther (keeper_of c.args.self.now).log.number) (g.met.O.Disk.counts_now mid) (kept_elsewhere g after) (subst P (c.keep.ensures.log ∙ same_log g after) c.commit.ensures.elsewhere)
 
 pub returns-clause-elsewhere : goal.returns-clause-elsewhere
 returns-clause-elsewhere g c =
     let after = (goal.at.returns-clause-elsewhere g c).After-keep in
     let D = g.O.Disk in
     let mid = c.keep.new.outside in
-    let P : ℕ → Type 0 = λ n. LeavesOnly D.moment D.left_since mid c.commit.new.outside (IsElsewhere (D.may_leave mid) (log_file n)) in
-    elsewhere_then D.moment D.left_since c.args.outside.now mid c.commit.new.outside (D.may_leave c.args.outside.now) (D.may_leave mid) (D.beside mid).told (log_file (keeper_of c.args.self.now).log.number) (g.met.O.Disk.counts_now mid) (kept_elsewhere g after) (subst P (c.keep.ensures.log ∙ same_log g after) c.commit.ensures.elsewhere)
+    let P : ℕ → Type 0 = λ n. LeavesOnly D.moment D.left_since mid c.commit.new.outside (IsElsewhere (D.may_leave mid) (IsOther n)) in
+    elsewhere_then D.moment D.left_since c.args.outside.now mid c.commit.new.outside (D.may_leave c.args.outside.now) (D.may_leave mid) (D.beside mid).told (IsOther (keeper_of c.args.self.now).log.number) (g.met.O.Disk.counts_now mid) (kept_elsewhere g after) (subst P (c.keep.ensures.log ∙ same_log g after) c.commit.ensures.elsewhere)
 
 -- ---- what else stays
 

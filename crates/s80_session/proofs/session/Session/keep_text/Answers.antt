@@ -1,6 +1,6 @@
 use Rattle.std.proofs.Common.{◌≤◌, inl, ℕ, List, length, ap, refl, sym, subst, ◌∙◌, Ok, Err}
 use Rattle.std.proofs.lemmas.Result.{err_from_is_err_and}
-use Rattle.s80_change.specs.declared.change.Change.TheVariants.{Form}
+use Rattle.s80_change.specs.declared.change.Change.TheVariants.{DoIt, Form}
 use Rattle.s80_form.specs.Form.{IsNoFormText}
 use Rattle.s80_form.specs.declared.refusal.Refused.{Refused}
 use Rattle.s80_chunk.specs.declared.item.Item.TheVariants as items
@@ -10,7 +10,7 @@ use Rattle.s80_disk.specs.Moments.{LeavesOnly}
 use Rattle.s80_disk.proofs.lemmas.Showing.{told_beside}
 use Rattle.s80_model.specs.declared.item.SessionItem.TheVariants.{Chunk}
 use Rattle.s80_doit.specs.DoIt.{IsMethodOfDoIt}
-use Rattle.s80_model.specs.Asked.{AsksPlain, adds}
+use Rattle.s80_model.specs.Asked.{AsksPlain, adds, snapshot_note}
 use Rattle.s80_model.specs.Replies.{Work}
 use Rattle.s80_session.specs.declared.plain.Plain.{Plain}
 use Rattle.s80_session.specs.Plain.{IsPlain}
@@ -22,7 +22,7 @@ use Rattle.s80_session.proofs.Holding.{keeping_room}
 use Rattle.s80_session.proofs.lemmas.Elsewhere.{no_log}
 use Rattle.s80_session.proofs.lemmas.Grounds.{nothing_happens, work_still}
 use Rattle.s80_session.proofs.Marking.{run_stays}
-use Rattle.s80_session.proofs.Stepping.{replied_change, replied_note, replied_refusal, unreplied}
+use Rattle.s80_session.proofs.Stepping.{replied_change, replied_alone, replied_refusal, unreplied}
 use Rattle.s80_session.proofs.session.Session.keep_text.Goals as goal
 use Rattle.s80_session.proofs.session.Session.keep_text.Goals.{After-keep, After-keep_doit}
 
@@ -64,7 +64,7 @@ pub returns-in-Ok-Snapshot-clause-replied : goal.returns-in-Ok-Snapshot-clause-r
 returns-in-Ok-Snapshot-clause-replied g c = λ work basis chunk short at.
     let P : Plain → Type 0 = λ x. IsPlain c.args.text (Ok x) in
     let asks = subst P c.in-Ok-Snapshot.field-0-is c.in-Ok-Snapshot.ensures in
-    replied_note c.keep_note.result (g.O.Disk.may_leave c.keep_note.new.outside) (g.O.Outside.shown c.keep_note.new.outside) c.keep_note.new.self (was_of c.args.self.now) work basis (Chunk (items.Plain c.args.text)) c.keep_note.ensures.rest.last_run asks (c.keep_note.ensures.noted work basis (Chunk (items.Plain c.args.text)) asks at)
+    replied_alone c.keep_note.result (g.O.Disk.may_leave c.keep_note.new.outside) (g.O.Outside.shown c.keep_note.new.outside) c.keep_note.new.self (was_of c.args.self.now) work basis (Chunk (items.Plain c.args.text)) (adds (DoIt snapshot_note)) (asks, tt) c.keep_note.ensures.rest.last_run (c.keep_note.ensures.noted work basis (Chunk (items.Plain c.args.text)) asks at)
 
 pub returns-in-Ok-Snapshot-clause-any_moment : goal.returns-in-Ok-Snapshot-clause-any_moment
 returns-in-Ok-Snapshot-clause-any_moment g c = λ work basis chunk short at.

@@ -1,22 +1,26 @@
-use Rattle.std.proofs.Common.{ap, refl, sym, ◌∙◌}
+use Rattle.std.proofs.Common.{◌≡◌, ap, refl, sym, subst, ◌∙◌}
 use Rattle.std.proofs.lemmas.Result.{err_from_is_err_and}
+use Rattle.std.specs.Prelude.{MatchOption}
+use Rattle.std.specs.Int.NonZero.{non_zero_u32_get}
 use Rattle.s80_disk.specs.Shown.{Shown}
 use Rattle.s80_session.proofs.Stepping.{starts_err}
 use Rattle.s80_session.proofs.session.Session.start.Goals as goal
 
 pub returns-in_err-keeper-clause-started : goal.returns-in_err-keeper-clause-started
-returns-in_err-keeper-clause-started g c = λ settings changes put budget moment reads taken told.
+returns-in_err-keeper-clause-started g c = λ settings changes put budget versions moment reads taken told.
     let p = err_from_is_err_and c.from_residual.result c.from_residual.ensures.1 in
     rw (p.1, p.2) (starts_err _ (g.O.Disk.may_leave c.start_keeper.new.outside) (g.O.Outside.shown c.start_keeper.new.outside) settings changes put (ap (λ (o : Shown). o.taken) c.start_keeper.ensures.shown ∙ taken) (c.in_err-keeper.ensures.started changes reads))
 
 pub returns-clause-started : goal.returns-clause-started
-returns-clause-started g c = λ settings changes put budget moment reads taken told. record {
-  keeps = c.in_ok-keeper.ensures.started changes reads;
-  section = refl;
-  brief = tt;
-  budget = sym budget;
-  moment = moment ∙ sym (ap (λ (o : Shown). o.seconds) c.start_keeper.ensures.shown);
-  taken = ap (λ (o : Shown). o.taken) c.start_keeper.ensures.shown ∙ taken;
-  told = ap (λ (o : Shown). o.told) c.start_keeper.ensures.shown ∙ told;
-  held = c.none.ensures;
-}
+returns-clause-started g c = λ settings changes put budget versions moment reads taken told.
+    let keeps_so = subst (λ r. MatchOption r (c.args.keep ≡ 0) (λ n. non_zero_u32_get n ≡ c.args.keep)) c.unwrap.ensures c.new.ensures in record {
+      keeps = c.in_ok-keeper.ensures.started changes reads;
+      section = refl;
+      brief = tt;
+      budget = sym budget;
+      kept_versions = keeps_so ∙ sym versions;
+      moment = moment ∙ sym (ap (λ (o : Shown). o.seconds) c.start_keeper.ensures.shown);
+      taken = ap (λ (o : Shown). o.taken) c.start_keeper.ensures.shown ∙ taken;
+      told = ap (λ (o : Shown). o.told) c.start_keeper.ensures.shown ∙ told;
+      held = c.none.ensures;
+    }

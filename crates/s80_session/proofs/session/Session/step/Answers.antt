@@ -1,14 +1,12 @@
-use Rattle.std.proofs.Common.{ℕ, subst, ◌∙◌}
+use Rattle.std.proofs.Common.{◌∙◌}
 use Rattle.std.proofs.lemmas.Result.{err_from_is_err_and}
-use Rattle.s80_disk.specs.Moments.{LeavesOnly}
-use Rattle.s80_log.specs.Log.{log_file}
-use Rattle.s80_session.specs.Files.{IsElsewhere}
+use Rattle.s80_session.specs.Files.{IsOther, IsUnwritten}
 use Rattle.s80_session.specs.Session.{keeper_of, was_of}
 use Rattle.s80_session.specs.Working.{at_rest}
 use Rattle.s80_session.proofs.Grouped.{broken_trouble, flush_whole, put_trouble, step_lasts, stepped_err, stepped_ok, work_lasts}
 use Rattle.s80_session.proofs.Holding.{counts_on, counts_then}
 use Rattle.s80_session.proofs.Marking.{run_flushed}
-use Rattle.s80_session.proofs.lemmas.Elsewhere.{elsewhere_then, left_on}
+use Rattle.s80_session.proofs.lemmas.Elsewhere.{elsewhere_fewer, elsewhere_then, left_on, still_other}
 use Rattle.s80_session.proofs.session.Session.step.Goals as goal
 
 pub returns-in_err-work-clause-stepped : goal.returns-in_err-work-clause-stepped
@@ -43,19 +41,22 @@ pub returns-clause-counts : goal.returns-clause-counts
 returns-clause-counts g c = counts_then c.args.item _ _ _ c.in_ok-work.field-0 c.flush.result (counts_on _ _ _ c.flush.result c.flush.ensures.counts) c.in_ok-work.ensures.counts
 
 pub returns-clause-sound : goal.returns-clause-sound
-returns-clause-sound g c = λ tells changes knows. flush_whole c.flush.result c.flush.ensures.ends
+returns-clause-sound g c = λ tells changes knows built. flush_whole c.flush.result c.flush.ensures.ends
 
 -- ---- the files
 
 pub returns-clause-elsewhere : goal.returns-clause-elsewhere
 returns-clause-elsewhere g c =
     let D = g.O.Disk in
+    let o = c.args.outside.now in
     let mid = c.work.new.outside in
-    let P : ℕ → Type 0 = λ n. LeavesOnly D.moment D.left_since mid c.flush.new.outside (IsElsewhere (D.may_leave mid) (log_file n)) in
-    elsewhere_then D.moment D.left_since c.args.outside.now mid c.flush.new.outside (D.may_leave c.args.outside.now) (D.may_leave mid) (D.beside mid).told (log_file (keeper_of c.args.self.now).log.number) (g.met.O.Disk.counts_now mid) c.work.ensures.elsewhere (subst P c.work.ensures.log c.flush.ensures.elsewhere)
+    let number = (keeper_of c.args.self.now).log.number in
+    let now = (keeper_of c.work.new.self).log.number in
+    let behind = elsewhere_fewer D.moment D.left_since mid c.flush.new.outside (D.may_leave mid) (IsOther now) (IsUnwritten c.args.item number) (still_other c.args.item number now c.work.ensures.log) c.flush.ensures.elsewhere in
+    elsewhere_then D.moment D.left_since o mid c.flush.new.outside (D.may_leave o) (D.may_leave mid) (D.beside mid).told (IsUnwritten c.args.item number) (g.met.O.Disk.counts_now mid) c.work.ensures.elsewhere behind
 
 pub returns-clause-others : goal.returns-clause-others
-returns-clause-others g c = λ other no_mark no_log. c.flush.ensures.others other no_mark ∙ c.work.ensures.others other no_mark no_log
+returns-clause-others g c = λ other unwritten. c.flush.ensures.others other unwritten.other.no_mark ∙ c.work.ensures.others other unwritten
 
 pub returns-clause-asked : goal.returns-clause-asked
 returns-clause-asked g c = λ asking file. c.flush.ensures.unpending (c.in_ok-work.ensures.settled asking c.requires.resting) file ∙ c.work.ensures.asked asking c.requires.resting file

@@ -1,19 +1,19 @@
 use Rattle.std.proofs.Common.{◌≡◌, ℕ, [], Err, sym, ap, subst, ◌∙◌}
 use Rattle.s80_disk.specs.Moments.{LeavesOnly}
 use Rattle.s80_keeper.specs.Keeper.{pending_of}
-use Rattle.s80_log.specs.Log.{log_file}
+use Rattle.s80_log.specs.Log.{LogEnd}
 use Rattle.s80_model.specs.Replies.{Work}
 use Rattle.s80_session.specs.declared.end.SessionEnd.{SessionEnd}
 use Rattle.s80_session.specs.declared.end.SessionEnd.TheVariants as ends
 use Rattle.s80_session.specs.Ending.{CountsFor, OnOkOrMemory}
-use Rattle.s80_session.specs.Files.{IsAsking, IsAsLeft, IsElsewhere}
+use Rattle.s80_session.specs.Files.{IsAsking, IsAsLeft, IsOther, IsUnwritten, LogAfter}
 use Rattle.s80_session.specs.Session.{held_of, keeper_of, was_of, IsFaultless, IsResting, RunAfter}
 use Rattle.s80_session.specs.Working.{Ground, IsAmid, IsReadable, Unreplied}
 use Rattle.s80_session.proofs.Breaking.{counts_memory, counts_whole, err_counts_on}
 use Rattle.s80_session.proofs.Grouped.{memory_lasts, worked_err, worked_memory}
 use Rattle.s80_session.proofs.Holding.{any_counts}
 use Rattle.s80_session.proofs.Marking.{broken_run}
-use Rattle.s80_session.proofs.lemmas.Elsewhere.{elsewhere_then}
+use Rattle.s80_session.proofs.lemmas.Elsewhere.{elsewhere_fewer, elsewhere_then, still_other}
 use Rattle.s80_session.proofs.session.Session.work.Goals as goal
 use Rattle.s80_session.proofs.session.Session.work.Goals.{After-end_for_memory}
 
@@ -53,9 +53,20 @@ returns-then-is_memory-clause-any_moment g c = λ work basis readable at.
 pub returns-then-is_memory-clause-elsewhere : goal.returns-then-is_memory-clause-elsewhere
 returns-then-is_memory-clause-elsewhere g c =
     let D = g.O.Disk in
+    let o = c.args.outside.now in
     let mid = c.work_item.new.outside in
-    let P : ℕ → Type 0 = λ n. LeavesOnly D.moment D.left_since mid c.end_for_memory.new.outside (IsElsewhere (D.may_leave mid) (log_file n)) in
-    elsewhere_then D.moment D.left_since c.args.outside.now mid c.end_for_memory.new.outside (D.may_leave c.args.outside.now) (D.may_leave mid) (D.beside mid).told (log_file (keeper_of c.args.self.now).log.number) (g.met.O.Disk.counts_now mid) c.work_item.ensures.elsewhere (subst P c.work_item.ensures.log c.end_for_memory.ensures.elsewhere)
+    let number = (keeper_of c.args.self.now).log.number in
+    let now = (keeper_of c.work_item.new.self).log.number in
+    let behind = elsewhere_fewer D.moment D.left_since mid c.end_for_memory.new.outside (D.may_leave mid) (IsOther now) (IsUnwritten c.args.item number) (still_other c.args.item number now c.work_item.ensures.log) c.end_for_memory.ensures.elsewhere in
+    elsewhere_then D.moment D.left_since o mid c.end_for_memory.new.outside (D.may_leave o) (D.may_leave mid) (D.beside mid).told (IsUnwritten c.args.item number) (g.met.O.Disk.counts_now mid) c.work_item.ensures.elsewhere behind
+
+pub returns-then-is_memory-clause-others : goal.returns-then-is_memory-clause-others
+returns-then-is_memory-clause-others g c = λ other unwritten. c.end_for_memory.ensures.others other unwritten.other.no_mark ∙ c.work_item.ensures.others other unwritten
+
+pub returns-then-is_memory-clause-log : goal.returns-then-is_memory-clause-log
+returns-then-is_memory-clause-log g c =
+    let P : ℕ → Type 0 = λ n. LogAfter c.args.item (keeper_of c.args.self.now).log.number n in
+    subst P (sym (ap (λ (l : LogEnd). l.number) c.end_for_memory.ensures.log)) c.work_item.ensures.log
 
 pub returns-then-is_memory-clause-asked : goal.returns-then-is_memory-clause-asked
 returns-then-is_memory-clause-asked g c = λ asking resting file.
@@ -92,7 +103,7 @@ returns-then-is_memory-clause-counts g c =
     any_counts c.args.item old new (Err c.end_for_memory.result) (err_counts_on (Unit {0}) (Unit {0}) old mid new c.end_for_memory.result (counts_memory (Unit {0}) c.args.item old mid (subst P (is g after) c.in-Err.ensures.counts)) c.end_for_memory.ensures.counts)
 
 pub returns-then-is_memory-clause-sound : goal.returns-then-is_memory-clause-sound
-returns-then-is_memory-clause-sound g c = λ tells changes knows.
+returns-then-is_memory-clause-sound g c = λ tells changes knows built.
     counts_whole (Unit {0}) (Unit {0}) (g.O.Outside.faults c.work_item.new.outside) (g.O.Outside.faults c.end_for_memory.new.outside) c.end_for_memory.result c.end_for_memory.ensures.counts
 
 -- it wasn't

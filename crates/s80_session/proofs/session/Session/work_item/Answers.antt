@@ -8,7 +8,7 @@ use Rattle.s80_model.specs.Replies.{Work}
 use Rattle.s80_model.specs.Section.{section_or}
 use Rattle.s80_session.specs.declared.end.SessionEnd.TheVariants as ends
 use Rattle.s80_session.specs.Run.{HasKept}
-use Rattle.s80_session.specs.Session.{budget_of, held_of, keeper_of, last_run_of, room_of, section_of, troubled_of, was_of, IsResting}
+use Rattle.s80_session.specs.Session.{budget_of, held_of, keeper_of, kept_versions_of, last_run_of, room_of, section_of, troubled_of, was_of, IsResting}
 use Rattle.s80_session.specs.Working.{Ground, IsAmid}
 use Rattle.s80_session.proofs.Breaking.{broke_on, memory_counts, memory_only}
 use Rattle.s80_session.proofs.Holding.{amid_alike, any_counts, counts_then, done_both, has_held, held_run, item_held, memory_both, unheld, unheld_run}
@@ -19,7 +19,7 @@ use Rattle.s80_session.proofs.session.Session.work_item.Goals.{After-answer_to, 
 -- once there is room for "ok"
 module _ (g : _) (c : After-reserve g) (work : Work) (basis : Ground) (at : IsAmid (g.O.Disk.may_leave c.args.outside.now) (g.O.Outside.shown c.args.outside.now) c.args.self.now work basis) where
   reserved : IsAmid (g.O.Disk.may_leave c.args.outside.now) (g.O.Outside.shown c.args.outside.now) (record c.args.self.now { held = c.reserve.new.self }) work basis
-  reserved = amid_alike (g.O.Disk.may_leave c.args.outside.now) (g.O.Outside.shown c.args.outside.now) c.args.self.now (record c.args.self.now { held = c.reserve.new.self }) work basis refl refl refl c.reserve.ensures.bytes at
+  reserved = amid_alike (g.O.Disk.may_leave c.args.outside.now) (g.O.Outside.shown c.args.outside.now) c.args.self.now (record c.args.self.now { held = c.reserve.new.self }) work basis refl refl refl refl c.reserve.ensures.bytes at
 
   nothing : LeavesOnly g.O.Disk.moment g.O.Disk.left_since c.args.outside.now c.args.outside.now (HasKept basis.kept (length basis.put))
   nothing = nothing_happens g.O.Disk.moment g.O.Disk.left_since _ (g.O.Outside.shown c.args.outside.now) _ c.args.outside.now work basis (λ told image left. let x = g.met.O.Disk.only_now c.args.outside.now told image left in (x.0, x.1 ∙ told_beside g.met.O.Outside.beside_is g.met.O.Outside.shown_is c.args.outside.now)) at
@@ -51,7 +51,7 @@ pub returns-in_err-hold-clause-worked : goal.returns-in_err-hold-clause-worked
 returns-in_err-hold-clause-worked g c = λ work basis readable at.
     let p = err_from_is_err_and c.from_residual-in_err-hold.result c.from_residual-in_err-hold.ensures.1 in
     let rest = c.hold.ensures.rest in
-    rw (p.1, p.2) (inl (unheld (g.O.Disk.may_leave c.answer_to.new.outside) (g.O.Outside.shown c.answer_to.new.outside) c.answer_to.new.self c.hold.new.self (was_of c.args.self.now) work basis c.args.item c.in_ok-reply.field-0 (room_of c.answer_to.new.self) (ap keeper_of rest) (ap section_of rest) (ap budget_of rest) c.in_err-hold.ensures.same.0 (c.in_ok-reply.ensures.room c.in_ok-reserve.ensures.room) c.in_err-hold.ensures.lacks
+    rw (p.1, p.2) (inl (unheld (g.O.Disk.may_leave c.answer_to.new.outside) (g.O.Outside.shown c.answer_to.new.outside) c.answer_to.new.self c.hold.new.self (was_of c.args.self.now) work basis c.args.item c.in_ok-reply.field-0 (room_of c.answer_to.new.self) (ap keeper_of rest) (ap section_of rest) (ap budget_of rest) (ap kept_versions_of rest) c.in_err-hold.ensures.same.0 (c.in_ok-reply.ensures.room c.in_ok-reserve.ensures.room) c.in_err-hold.ensures.lacks
     (c.in_ok-reply.ensures.answers work basis readable (reserved g (goal.at.returns-in_err-hold-clause-worked g c).After-reserve work basis at))))
 
 pub returns-in_err-hold-clause-any_moment : goal.returns-in_err-hold-clause-any_moment
@@ -74,7 +74,7 @@ pub returns-clause-worked : goal.returns-clause-worked
 returns-clause-worked g c = λ work basis readable at.
     let held = c.hold.ensures.rest in
     let entered = c.enter.ensures.rest in
-    item_held (g.O.Disk.may_leave c.answer_to.new.outside) (g.O.Outside.shown c.answer_to.new.outside) c.answer_to.new.self c.enter.new.self work c.args.item c.in_ok-reply.field-0 (ap keeper_of entered ∙ ap keeper_of held) (ap budget_of entered ∙ ap budget_of held) (c.enter.ensures.section ∙ ap (section_or c.in_ok-reply.field-0.section) (ap section_of held)) (ap held_of entered ∙ c.in_ok-hold.ensures.held)
+    item_held (g.O.Disk.may_leave c.answer_to.new.outside) (g.O.Outside.shown c.answer_to.new.outside) c.answer_to.new.self c.enter.new.self work c.args.item c.in_ok-reply.field-0 (ap keeper_of entered ∙ ap keeper_of held) (ap budget_of entered ∙ ap budget_of held) (ap kept_versions_of entered ∙ ap kept_versions_of held) (c.enter.ensures.section ∙ ap (section_or c.in_ok-reply.field-0.section) (ap section_of held)) (ap held_of entered ∙ c.in_ok-hold.ensures.held)
     (was_of c.args.self.now) basis c.answer_to.ensures.troubled (ap troubled_of entered ∙ c.in_ok-hold.ensures.troubled) (ap last_run_of entered ∙ ap last_run_of held) (c.in_ok-reply.ensures.answers work basis readable (reserved g (goal.at.returns-clause-worked g c).After-reserve work basis at))
 
 pub returns-clause-any_moment : goal.returns-clause-any_moment

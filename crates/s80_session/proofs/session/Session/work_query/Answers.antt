@@ -1,17 +1,19 @@
-use Rattle.std.proofs.Common.{⊎_elim, refl, sym, subst, ◌∙◌}
+use Rattle.std.proofs.Common.{◌≡◌, ⊎_elim, refl, sym, subst, ◌∙◌}
+use Rattle.s80_change.specs.declared.change.Change.TheVariants.{DoIt}
 use Rattle.s80_disk.specs.Moments.{LeavesOnly}
 use Rattle.s80_disk.proofs.lemmas.Showing.{told_beside}
-use Rattle.s80_log.specs.Log.{log_file}
+use Rattle.s80_model.specs.Asked.{adds, condenses, snapshot_note, Asks}
 use Rattle.s80_model.specs.declared.item.Query.{Query as SessionQuery}
-use Rattle.s80_model.specs.declared.item.Query.TheVariants.{Recover, Classes, Browse, Snapshot}
+use Rattle.s80_model.specs.declared.item.Query.TheVariants.{Recover, Classes, Browse, Condense, Snapshot}
 use Rattle.s80_model.specs.declared.item.SessionItem.TheVariants.{Query}
 use Rattle.s80_apply.specs.List.{state_of}
 use Rattle.s80_apply.specs.System.{SystemState, IsSystemOf}
+use Rattle.s80_session.specs.Files.{IsUnwritten}
 use Rattle.s80_session.specs.Session.{keeper_of, was_of}
 use Rattle.s80_session.specs.Working.{QueryWorked, WorkLeaves, at_rest}
 use Rattle.s80_session.proofs.lemmas.Elsewhere.{elsewhere_as_left}
 use Rattle.s80_session.proofs.lemmas.Grounds.{nothing_happens, work_still}
-use Rattle.s80_session.proofs.Stepping.{queried_note, replied_told}
+use Rattle.s80_session.proofs.Stepping.{queried_alone, replied_told}
 use Rattle.s80_session.proofs.session.Session.work_query.Goals as goal
 
 pub returns-in_err-tell_recovered-in-Recover-clause-any_moment : goal.returns-in_err-tell_recovered-in-Recover-clause-any_moment
@@ -80,12 +82,23 @@ returns-in-FileOut-clause-replied g c = λ work put at.
 pub returns-in-Snapshot-clause-replied : goal.returns-in-Snapshot-clause-replied
 returns-in-Snapshot-clause-replied g c = λ work put at.
     let P : SessionQuery → Type 0 = λ q. QueryWorked c.keep_note.result (g.O.Disk.may_leave c.keep_note.new.outside) (g.O.Outside.shown c.keep_note.new.outside) c.keep_note.new.self (was_of c.args.self.now) work put (Query q) in
-    subst P (sym c.in-Snapshot.is) (queried_note c.keep_note.result (g.O.Disk.may_leave c.keep_note.new.outside) (g.O.Outside.shown c.keep_note.new.outside) c.keep_note.new.self (was_of c.args.self.now) work put (Query Snapshot) c.keep_note.ensures.rest.last_run refl (c.keep_note.ensures.noted work (at_rest work put) (Query Snapshot) refl at))
+    subst P (sym c.in-Snapshot.is) (queried_alone c.keep_note.result (g.O.Disk.may_leave c.keep_note.new.outside) (g.O.Outside.shown c.keep_note.new.outside) c.keep_note.new.self (was_of c.args.self.now) work put (Query Snapshot) (adds (DoIt snapshot_note)) (refl, tt) c.keep_note.ensures.rest.last_run (c.keep_note.ensures.noted work (at_rest work put) (Query Snapshot) refl at))
 
 pub returns-in-Snapshot-clause-any_moment : goal.returns-in-Snapshot-clause-any_moment
 returns-in-Snapshot-clause-any_moment g c = λ work put at.
     let P : SessionQuery → Type 0 = λ q. LeavesOnly g.O.Disk.moment g.O.Disk.left_since c.args.outside.now c.keep_note.new.outside (WorkLeaves work (at_rest work put) (Query q)) in
     subst P (sym c.in-Snapshot.is) (c.keep_note.ensures.any_moment work (at_rest work put) (Query Snapshot) refl at)
+
+-- a list that gives way to a shorter one
+pub returns-in-Condense-clause-replied : goal.returns-in-Condense-clause-replied
+returns-in-Condense-clause-replied g c = λ work put at.
+    let P : SessionQuery → Type 0 = λ q. QueryWorked c.condense.result (g.O.Disk.may_leave c.condense.new.outside) (g.O.Outside.shown c.condense.new.outside) c.condense.new.self (was_of c.args.self.now) work put (Query q) in
+    subst P (sym c.in-Condense.is) (queried_alone c.condense.result (g.O.Disk.may_leave c.condense.new.outside) (g.O.Outside.shown c.condense.new.outside) c.condense.new.self (was_of c.args.self.now) work put (Query Condense) condenses (refl, tt) c.condense.ensures.rest.last_run (c.condense.ensures.condensed work (at_rest work put) (Query Condense) refl at))
+
+pub returns-in-Condense-clause-any_moment : goal.returns-in-Condense-clause-any_moment
+returns-in-Condense-clause-any_moment g c = λ work put at.
+    let P : SessionQuery → Type 0 = λ q. LeavesOnly g.O.Disk.moment g.O.Disk.left_since c.args.outside.now c.condense.new.outside (WorkLeaves work (at_rest work put) (Query q)) in
+    subst P (sym c.in-Condense.is) (c.condense.ensures.any_moment work (at_rest work put) (Query Condense) refl at)
 
 pub returns-in-Source-clause-any_moment : goal.returns-in-Source-clause-any_moment
 returns-in-Source-clause-any_moment g c = λ work put at. work_still g.O.Disk.moment g.O.Disk.left_since c.args.outside.now c.tell_source.new.outside work (at_rest work put) (Query c.args.query) (c.tell_source.ensures.any_moment work put at)
@@ -93,7 +106,7 @@ returns-in-Source-clause-any_moment g c = λ work put at. work_still g.O.Disk.mo
 pub returns-in-Source-clause-elsewhere : goal.returns-in-Source-clause-elsewhere
 returns-in-Source-clause-elsewhere g c =
     let o = c.args.outside.now in
-    elsewhere_as_left g.O.Disk.moment g.O.Disk.left_since o c.tell_source.new.outside (g.O.Disk.may_leave o) (log_file (keeper_of c.args.self.now).log.number) c.tell_source.ensures.no_more
+    elsewhere_as_left g.O.Disk.moment g.O.Disk.left_since o c.tell_source.new.outside (g.O.Disk.may_leave o) (IsUnwritten (Query c.args.query) (keeper_of c.args.self.now).log.number) c.tell_source.ensures.no_more
 
 pub returns-in-Versions-clause-any_moment : goal.returns-in-Versions-clause-any_moment
 returns-in-Versions-clause-any_moment g c = λ work put at. work_still g.O.Disk.moment g.O.Disk.left_since c.args.outside.now c.tell_versions.new.outside work (at_rest work put) (Query c.args.query) (c.tell_versions.ensures.any_moment work put at)
@@ -101,7 +114,7 @@ returns-in-Versions-clause-any_moment g c = λ work put at. work_still g.O.Disk.
 pub returns-in-Versions-clause-elsewhere : goal.returns-in-Versions-clause-elsewhere
 returns-in-Versions-clause-elsewhere g c =
     let o = c.args.outside.now in
-    elsewhere_as_left g.O.Disk.moment g.O.Disk.left_since o c.tell_versions.new.outside (g.O.Disk.may_leave o) (log_file (keeper_of c.args.self.now).log.number) c.tell_versions.ensures.no_more
+    elsewhere_as_left g.O.Disk.moment g.O.Disk.left_since o c.tell_versions.new.outside (g.O.Disk.may_leave o) (IsUnwritten (Query c.args.query) (keeper_of c.args.self.now).log.number) c.tell_versions.ensures.no_more
 
 pub returns-in-Changes-clause-any_moment : goal.returns-in-Changes-clause-any_moment
 returns-in-Changes-clause-any_moment g c = λ work put at. work_still g.O.Disk.moment g.O.Disk.left_since c.args.outside.now c.tell_changes.new.outside work (at_rest work put) (Query c.args.query) (c.tell_changes.ensures.any_moment work put at)
@@ -109,7 +122,7 @@ returns-in-Changes-clause-any_moment g c = λ work put at. work_still g.O.Disk.m
 pub returns-in-Changes-clause-elsewhere : goal.returns-in-Changes-clause-elsewhere
 returns-in-Changes-clause-elsewhere g c =
     let o = c.args.outside.now in
-    elsewhere_as_left g.O.Disk.moment g.O.Disk.left_since o c.tell_changes.new.outside (g.O.Disk.may_leave o) (log_file (keeper_of c.args.self.now).log.number) c.tell_changes.ensures.no_more
+    elsewhere_as_left g.O.Disk.moment g.O.Disk.left_since o c.tell_changes.new.outside (g.O.Disk.may_leave o) (IsUnwritten (Query c.args.query) (keeper_of c.args.self.now).log.number) c.tell_changes.ensures.no_more
 
 pub returns-in-FileOut-clause-any_moment : goal.returns-in-FileOut-clause-any_moment
 returns-in-FileOut-clause-any_moment g c = λ work put at. work_still g.O.Disk.moment g.O.Disk.left_since c.args.outside.now c.file_out.new.outside work (at_rest work put) (Query c.args.query) (c.file_out.ensures.any_moment work put at)
@@ -117,7 +130,7 @@ returns-in-FileOut-clause-any_moment g c = λ work put at. work_still g.O.Disk.m
 pub returns-in-FileOut-clause-elsewhere : goal.returns-in-FileOut-clause-elsewhere
 returns-in-FileOut-clause-elsewhere g c =
     let o = c.args.outside.now in
-    elsewhere_as_left g.O.Disk.moment g.O.Disk.left_since o c.file_out.new.outside (g.O.Disk.may_leave o) (log_file (keeper_of c.args.self.now).log.number) c.file_out.ensures.no_more
+    elsewhere_as_left g.O.Disk.moment g.O.Disk.left_since o c.file_out.new.outside (g.O.Disk.may_leave o) (IsUnwritten (Query c.args.query) (keeper_of c.args.self.now).log.number) c.file_out.ensures.no_more
 
 -- ---- what is held and pending
 
@@ -162,3 +175,24 @@ returns-in-Snapshot-clause-taken g c = c.keep_note.ensures.unput c.requires.rest
 
 pub returns-in-Snapshot-clause-ends : goal.returns-in-Snapshot-clause-ends
 returns-in-Snapshot-clause-ends g c = c.keep_note.ensures.ends_at_rest c.requires.resting
+
+-- ---- what condensing leaves else
+
+pub returns-in-Condense-clause-held : goal.returns-in-Condense-clause-held
+returns-in-Condense-clause-held g c = ⊎_elim (λ same. same) (λ none. none ∙ sym c.requires.resting.silent) c.condense.ensures.held
+
+pub returns-in-Condense-clause-taken : goal.returns-in-Condense-clause-taken
+returns-in-Condense-clause-taken g c = c.condense.ensures.unput c.requires.resting
+
+pub returns-in-Condense-clause-ends : goal.returns-in-Condense-clause-ends
+returns-in-Condense-clause-ends g c = c.condense.ensures.ends_at_rest c.requires.resting
+
+-- a query that is this one asks for it
+asked : (query : SessionQuery) → query ≡ Condense → Asks (Query query) condenses
+asked query is = subst (λ q. Asks (Query q) condenses) (sym is) refl
+
+pub returns-in-Condense-clause-others : goal.returns-in-Condense-clause-others
+returns-in-Condense-clause-others g c = λ other unwritten. c.condense.ensures.others (Query c.args.query) other (asked c.args.query c.in-Condense.is) unwritten
+
+pub returns-in-Condense-clause-elsewhere : goal.returns-in-Condense-clause-elsewhere
+returns-in-Condense-clause-elsewhere g c = c.condense.ensures.elsewhere (Query c.args.query) (asked c.args.query c.in-Condense.is)
