@@ -1,12 +1,11 @@
 -- A whole file of changes, filed in.
-use Rattle.std.proofs.Common.{◌≡◌, ℕ, codes, map, List, [], ◌∷◌, ◌++◌, None, Result, Ok, refl, sym, ap, subst, ◌∙◌, arith}
+use Rattle.std.proofs.Common.{◌≡◌, ℕ, codes, map, List, [], ◌∷◌, ◌++◌, None, Ok, refl, sym, ap, subst, ◌∙◌, arith}
 use Rattle.std.proofs.lemmas.Grind.{flat_map-append}
 use Rattle.jiff_core.specs.declared.civil.datetime.DateTime.{DateTime}
 use Rattle.s80_lex.specs.Spelling.{doubled, quoted}
 use Rattle.s80_chunk.specs.declared.item.Item.{Item}
 use Rattle.s80_chunk.specs.declared.item.Item.TheVariants as items
 use Rattle.s80_chunk.specs.Chunks.{IsReading}
-use Rattle.s80_form.specs.declared.refusal.Refusal.{Refusal}
 use Rattle.s80_change.specs.declared.change.Change.{Change}
 use Rattle.s80_change.specs.declared.change.Change.TheVariants.{DoIt}
 use Rattle.s80_apply.specs.List.{add, state_after, state_from, state_of}
@@ -14,14 +13,14 @@ use Rattle.s80_apply.specs.State.{State, kernel_state}
 use Rattle.s80_apply.proofs.lemmas.Lists.{state_more}
 use Rattle.s80_model.specs.declared.item.SessionItem.TheVariants.{Chunk}
 use Rattle.s80_model.specs.declared.section.Section.TheVariants.{Top}
-use Rattle.s80_model.specs.Asked.{Ask, evaluates, AsksPlain}
-use Rattle.s80_model.specs.Replies.{AllAsk, Work, list_after_all, list_or, work_after}
+use Rattle.s80_model.specs.Replies.{Work}
 use Rattle.s80_fileout.specs.Items.{header_text, items_from, IsReadAs}
 use Rattle.s80_fileout.specs.Moment.{civil_text, IsMoment}
 use Rattle.s80_fileout.proofs.lemmas.MomentBytes.{doubled_same, moment_lacks}
 use Rattle.s80_filing.specs.Filing.{BytesLeadTo, CanFile, LeadsTo, headed}
 use Rattle.s80_filing.proofs.FiledIn.{added_ok, filed_in, front_within, OneAsk}
-use Rattle.s80_filing.proofs.HeaderAsked.{asks_evaluation}
+use Rattle.s80_filing.proofs.DoItAsked.{adds_doit, IsEvaluated}
+use Rattle.s80_filing.proofs.HeaderAsked.{header_evaluated}
 
 -- ---- the first line as a string
 
@@ -46,16 +45,7 @@ module _ (one : OneAsk) (dt : DateTime) (work : Work) (changes : List Change) (t
   behind_header = filed_in one None (record work { changes = headed work.changes (civil_text dt) }) changes top can
 
   pub whole_filed_in : LeadsTo work (map Chunk (items.Plain text ∷ items_from None changes)) (headed work.changes (civil_text dt) ++ changes)
-  whole_filed_in [] all = absurd all
-  whole_filed_in (ask ∷ asks) all =
-      let P : List ℕ → Type 0 = λ t. AsksPlain t ask in
-      let is = asks_evaluation (inner dt) ask (subst P (header_quoted dt) all.0.0) in
-      let asked : ask ≡ evaluates text is.0 is.1 = is.2 ∙ ap (λ t. evaluates t is.0 is.1) (sym (header_quoted dt)) in
-      let Q : Ask → Type 0 = λ a. AllAsk (work_after work a) (map Chunk (items_from None changes)) asks in
-      let R : Result (List Change) Refusal → Type 0 = λ r. AllAsk (record work { changes = list_or r work.changes }) (map Chunk (items_from None changes)) asks in
-      ap (λ a. list_after_all (work_after work a) asks) asked
-      ∙ ap (λ r. list_after_all (record work { changes = list_or r work.changes }) asks) header_added
-      ∙ behind_header asks (subst R header_added (subst Q asked all.1))
+  whole_filed_in = adds_doit work (map Chunk (items_from None changes)) text _ (subst IsEvaluated (sym (header_quoted dt)) (header_evaluated (inner dt))) header_added behind_header
 
 -- ---- the state
 
@@ -68,7 +58,11 @@ state_behind list changes moment = behind_both kernel_state (headed list moment)
 
 -- ---- the bytes
 
-pub bytes_filed_in : OneAsk → ((bytes : List ℕ) (given others : List Item) (rest end : List ℕ) → IsReading bytes given rest → IsReading bytes others end → (given ≡ others) × (rest ≡ end))
+-- an input has one reading
+abbrev pub OneReading : Type 0
+OneReading = (bytes : List ℕ) (given others : List Item) (rest end : List ℕ) → IsReading bytes given rest → IsReading bytes others end → (given ≡ others) × (rest ≡ end)
+
+pub bytes_filed_in : OneAsk → OneReading
     → (work : Work) (changes : List Change) (seconds : ℕ) (text moment : List ℕ) → work.section ≡ Top → IsMoment seconds moment → IsReadAs text moment changes → CanFile (headed work.changes moment) changes → BytesLeadTo work text (headed work.changes moment ++ changes)
 bytes_filed_in one sole work changes seconds text moment top (dt, civil, is) read can given rest reading =
     let P : List ℕ → Type 0 = λ m. CanFile (headed work.changes m) changes → LeadsTo work (map Chunk (items.Plain (header_text m) ∷ items_from None changes)) (headed work.changes m ++ changes) in

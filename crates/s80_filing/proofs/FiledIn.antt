@@ -1,5 +1,5 @@
 -- What was filed out makes the same changes where it is filed in.
-use Rattle.std.proofs.Common.{◌≡◌, ℕ, ◌+◌, ◌≤◌, ◌&&◌, Bool, true, false, bytes_eq, if◌then◌else◌, map, List, [], ◌∷◌, ◌++◌, length, length-append, Option, Some, None, Result, Ok, Err, refl, sym, ap, subst, ◌∙◌, append_assoc, arith}
+use Rattle.std.proofs.Common.{◌≡◌, ℕ, All, ◌+◌, ◌≤◌, ◌&&◌, Bool, true, false, bytes_eq, if◌then◌else◌, map, List, [], ◌∷◌, ◌++◌, length, length-append, Option, Some, None, Result, Ok, Err, refl, sym, ap, subst, ◌∙◌, append_assoc, arith}
 use Rattle.std.proofs.lemmas.Bool.{and_parts, le-leb}
 use Rattle.std.proofs.lemmas.Grind.{flat_map-append}
 use Rattle.std.proofs.lemmas.List.{append-nil}
@@ -32,7 +32,7 @@ use Rattle.s80_model.specs.declared.section.Section.TheVariants as sections
 use Rattle.s80_model.specs.Asked.{Ask, adds, adds_source, closes, opens}
 use Rattle.s80_model.specs.Replies.{Work, AsksIn, AllAsk, list_after_source, list_or, section_of, work_after, list_after_all}
 use Rattle.s80_fileout.specs.FileText.{is_same_head}
-use Rattle.s80_fileout.specs.Items.{items_from, IsShort}
+use Rattle.s80_fileout.specs.Items.{items_from}
 use Rattle.s80_filing.specs.Filing.{CanFile, IsNoDoIt, LeadsTo}
 use Rattle.s80_filing.proofs.FormsFit.{form_fits}
 
@@ -54,14 +54,18 @@ front_within list changes within =
     let whole = ap length (flat_map-append block list changes) ∙ length-append (blocks list) (blocks changes) in
     omega (arith, whole, within)
 
-module _ (list changes : List Change) (change : Change) (can : CanFile list (change ∷ changes)) where
-  pub can_more : CanFile (list ++ change ∷ []) changes
+-- These changes may be added behind the list: each is lawful and accepted behind those before it, and a log has room for them.
+pub record CanAdd (list changes : List Change) : Type 0 where
+  pub lawful : All IsLawful changes
+  pub accepted : AreAccepted (state_of list) changes
+  pub within : length (blocks (list ++ changes)) ≤ log_limit
+
+module _ (list changes : List Change) (change : Change) (can : CanAdd list (change ∷ changes)) where
+  pub can_more : CanAdd (list ++ change ∷ []) changes
   can_more =
       let P : State → Type 0 = λ s. AreAccepted s changes in
       record {
         lawful = All-tail IsLawful change changes can.lawful;
-        short = All-tail IsShort change changes can.short;
-        no_doit = All-tail IsNoDoIt change changes can.no_doit;
         accepted = subst P (sym (state_more list change)) can.accepted.1;
         within = let same = ap (λ l. length (blocks l)) (append_assoc list (change ∷ []) changes) in omega (arith, same, can.within);
       }
@@ -100,6 +104,19 @@ section_at (Some head) = sections.Open head
 abbrev pub OneAsk : Type 0
 OneAsk = (work : Work) (item : Item) (ask other : Ask) → AsksIn work (Chunk item) ask → AsksIn work (Chunk item) other → other ≡ ask
 
+-- the work behind a change that was added
+abbrev pub grown : Work → Change → Work
+grown work change = record work { changes = work.changes ++ change ∷ [] }
+
+-- what the other changes lead to from there is what they all lead to
+pub one_longer : (rest : List SessionItem) (work : Work) (change : Change) (changes : List Change) → LeadsTo (grown work change) rest ((work.changes ++ change ∷ []) ++ changes) → LeadsTo (grown work change) rest (work.changes ++ change ∷ changes)
+one_longer rest work change changes next = let P : List Change → Type 0 = λ l. LeadsTo (grown work change) rest l in subst P (append_assoc work.changes (change ∷ []) changes) next
+
+-- nothing is left to work
+pub no_items : (work : Work) (list : List Change) → work.changes ≡ list → LeadsTo work [] list
+no_items work list is [] all = is
+no_items work list is (ask ∷ asks) all = absurd all
+
 module _ (one : OneAsk) where
   step : (work : Work) (item : Item) (rest : List SessionItem) (expected : Ask) (list : List Change) → AsksIn work (Chunk item) expected → LeadsTo (work_after work expected) rest list → LeadsTo work (Chunk item ∷ rest) list
   step work item rest expected list is next [] all = absurd all
@@ -108,16 +125,12 @@ module _ (one : OneAsk) where
       let P : Ask → Type 0 = λ a. AllAsk (work_after work a) rest asks in
       ap (λ a. list_after_all (work_after work a) asks) same ∙ next asks (subst P same all.1)
 
-  no_items : (work : Work) (list : List Change) → work.changes ≡ list → LeadsTo work [] list
-  no_items work list is [] all = is
-  no_items work list is (ask ∷ asks) all = absurd all
-
   -- a section ends
-  ends : (work : Work) (rest : List SessionItem) (list : List Change) → LeadsTo (record work { section = sections.Top }) rest list → LeadsTo work (Chunk items.SectionEnd ∷ rest) list
+  pub ends : (work : Work) (rest : List SessionItem) (list : List Change) → LeadsTo (record work { section = sections.Top }) rest list → LeadsTo work (Chunk items.SectionEnd ∷ rest) list
   ends work rest list next = step work items.SectionEnd rest closes list (refl, tt) next
 
   -- a form is added
-  adds_form : (work : Work) (rest : List SessionItem) (form : AnyForm) (changes list : List Change) → CanFile work.changes (Form form ∷ changes) → LeadsTo (record work { changes = work.changes ++ Form form ∷ [] }) rest list → LeadsTo work (Chunk (items.Plain (form_text form)) ∷ rest) list
+  pub adds_form : (work : Work) (rest : List SessionItem) (form : AnyForm) (changes list : List Change) → CanAdd work.changes (Form form ∷ changes) → LeadsTo (record work { changes = work.changes ++ Form form ∷ [] }) rest list → LeadsTo work (Chunk (items.Plain (form_text form)) ∷ rest) list
   adds_form work rest form changes list can next =
       let text = has_text form (All-head IsLawful (Form form) changes can.lawful) in
       let fits : Fits (form_text form) = (text.tree, text.tree_is, form_fits text.tree form text.form_is.0) in
@@ -125,7 +138,7 @@ module _ (one : OneAsk) where
       step work (items.Plain (form_text form)) rest (adds (Form form)) list ((fits, text), tt) (subst P (sym (is_added work.changes changes (Form form) can)) next)
 
   -- a section begins, of whose class there is one
-  begins : (work : Work) (rest : List SessionItem) (m : MethodChange) (changes list : List Change) → CanFile work.changes (Method m ∷ changes) → LeadsTo (record work { section = sections.Open (head_of m) }) rest list → LeadsTo work (Chunk (items.Head (head_text (head_of m))) ∷ rest) list
+  pub begins : (work : Work) (rest : List SessionItem) (m : MethodChange) (changes list : List Change) → CanAdd work.changes (Method m ∷ changes) → LeadsTo (record work { section = sections.Open (head_of m) }) rest list → LeadsTo work (Chunk (items.Head (head_text (head_of m))) ∷ rest) list
   begins work rest m changes list can next =
       let lawful = All-head IsLawful (Method m) changes can.lawful in
       let known = class_is_known m (state_of work.changes) can.accepted.0 in
@@ -133,7 +146,7 @@ module _ (one : OneAsk) where
       step work (items.Head (head_text (head_of m))) rest (opens (head_of m)) list (text_begins (head_of m) lawful.head, tt) (subst P (sym known) next)
 
   -- a method is added in its section
-  adds_method : (work : Work) (rest : List SessionItem) (m : MethodChange) (changes list : List Change) → work.section ≡ sections.Open (head_of m) → CanFile work.changes (Method m ∷ changes) → LeadsTo (record work { changes = work.changes ++ Method m ∷ [] }) rest list → LeadsTo work (Chunk (items.Method m.source.text) ∷ rest) list
+  pub adds_method : (work : Work) (rest : List SessionItem) (m : MethodChange) (changes list : List Change) → work.section ≡ sections.Open (head_of m) → CanAdd work.changes (Method m ∷ changes) → LeadsTo (record work { changes = work.changes ++ Method m ∷ [] }) rest list → LeadsTo work (Chunk (items.Method m.source.text) ∷ rest) list
   adds_method work rest m changes list in_section can next =
       let lawful = All-head IsLawful (Method m) changes can.lawful in
       let P : Result (List Change) Refusal → Type 0 = λ r. LeadsTo (record work { changes = list_or r work.changes }) rest list in
@@ -145,37 +158,42 @@ module _ (one : OneAsk) where
   abbrev Leads : Option SectionHead → Work → List Change → List Change → Type 0
   Leads section work changes list = LeadsTo work (map Chunk (items_from section changes)) list
 
-  abbrev grown : Work → Change → Work
-  grown work change = record work { changes = work.changes ++ change ∷ [] }
-
-  one_longer : (section : Option SectionHead) (work : Work) (change : Change) (changes : List Change) → Leads section (grown work change) changes ((work.changes ++ change ∷ []) ++ changes) → Leads section (grown work change) changes (work.changes ++ change ∷ changes)
-  one_longer section work change changes next = let P : List Change → Type 0 = λ l. Leads section (grown work change) changes l in subst P (append_assoc work.changes (change ∷ []) changes) next
-
-  in_a_section : (work : Work) (section : SectionHead) (m : MethodChange) (changes list : List Change) → CanFile work.changes (Method m ∷ changes) → work.section ≡ sections.Open section → ((w : Work) → w.changes ≡ work.changes → w.section ≡ sections.Open (head_of m) → LeadsTo w (Chunk (items.Method m.source.text) ∷ map Chunk (items_from (Some (head_of m)) changes)) list)
+  in_a_section : (work : Work) (section : SectionHead) (m : MethodChange) (changes list : List Change) → CanAdd work.changes (Method m ∷ changes) → work.section ≡ sections.Open section → ((w : Work) → w.changes ≡ work.changes → w.section ≡ sections.Open (head_of m) → LeadsTo w (Chunk (items.Method m.source.text) ∷ map Chunk (items_from (Some (head_of m)) changes)) list)
       → (same : Bool) → is_same_head section (head_of m) ≡ same → LeadsTo work (map Chunk ((if same then [] else items.SectionEnd ∷ items.Head (head_text (head_of m)) ∷ []) ++ items.Method m.source.text ∷ items_from (Some (head_of m)) changes)) list
   in_a_section work section m changes list can in_section next true same = next work refl (in_section ∙ ap sections.Open (heads_same section (head_of m) same))
   in_a_section work section m changes list can in_section next false same =
       let source : List SessionItem = Chunk (items.Method m.source.text) ∷ map Chunk (items_from (Some (head_of m)) changes) in
       ends work (Chunk (items.Head (head_text (head_of m))) ∷ source) list (begins (record work { section = sections.Top }) source m changes list can (next (record work { section = sections.Open (head_of m) }) refl refl))
 
-  pub filed_in : (section : Option SectionHead) (work : Work) (changes : List Change) → work.section ≡ section_at section → CanFile work.changes changes → Leads section work changes (work.changes ++ changes)
-  filed_in None work [] at can = no_items work (work.changes ++ []) (sym (append-nil work.changes))
-  filed_in (Some head) work [] at can = ends work [] (work.changes ++ []) (no_items (record work { section = sections.Top }) (work.changes ++ []) (sym (append-nil work.changes)))
-  filed_in section work (DoIt text ∷ changes) at can = absurd (All-head IsNoDoIt (DoIt text) changes can.no_doit)
-  filed_in None work (Form form ∷ changes) at can =
-      adds_form work _ form changes _ can (one_longer None work (Form form) changes (filed_in None (grown work (Form form)) changes at (can_more work.changes changes (Form form) can)))
-  filed_in (Some head) work (Form form ∷ changes) at can =
+  -- none of the changes is a doIt
+  all_added : (section : Option SectionHead) (work : Work) (changes : List Change) → work.section ≡ section_at section → All IsNoDoIt changes → CanAdd work.changes changes → Leads section work changes (work.changes ++ changes)
+  all_added None work [] at none can = no_items work (work.changes ++ []) (sym (append-nil work.changes))
+  all_added (Some head) work [] at none can = ends work [] (work.changes ++ []) (no_items (record work { section = sections.Top }) (work.changes ++ []) (sym (append-nil work.changes)))
+  all_added section work (DoIt text ∷ changes) at none can = absurd (All-head IsNoDoIt (DoIt text) changes none)
+  all_added None work (Form form ∷ changes) at none can =
+      let rest : List SessionItem = map Chunk (items_from None changes) in
+      let others = All-tail IsNoDoIt (Form form) changes none in
+      adds_form work rest form changes _ can (one_longer rest work (Form form) changes (all_added None (grown work (Form form)) changes at others (can_more work.changes changes (Form form) can)))
+  all_added (Some head) work (Form form ∷ changes) at none can =
       let top : Work = record work { section = sections.Top } in
       let rest : List SessionItem = map Chunk (items_from None changes) in
-      ends work (Chunk (items.Plain (form_text form)) ∷ rest) _ (adds_form top rest form changes _ can (one_longer None top (Form form) changes (filed_in None (grown top (Form form)) changes refl (can_more work.changes changes (Form form) can))))
-  filed_in None work (Method m ∷ changes) at can =
+      let others = All-tail IsNoDoIt (Form form) changes none in
+      ends work (Chunk (items.Plain (form_text form)) ∷ rest) _ (adds_form top rest form changes _ can (one_longer rest top (Form form) changes (all_added None (grown top (Form form)) changes refl others (can_more work.changes changes (Form form) can))))
+  all_added None work (Method m ∷ changes) at none can =
       let inside : Work = record work { section = sections.Open (head_of m) } in
       let rest : List SessionItem = map Chunk (items_from (Some (head_of m)) changes) in
-      begins work (Chunk (items.Method m.source.text) ∷ rest) m changes _ can (adds_method inside rest m changes _ refl can (one_longer (Some (head_of m)) inside (Method m) changes (filed_in (Some (head_of m)) (grown inside (Method m)) changes refl (can_more work.changes changes (Method m) can))))
-  filed_in (Some head) work (Method m ∷ changes) at can =
+      let others = All-tail IsNoDoIt (Method m) changes none in
+      begins work (Chunk (items.Method m.source.text) ∷ rest) m changes _ can
+      (adds_method inside rest m changes _ refl can (one_longer rest inside (Method m) changes (all_added (Some (head_of m)) (grown inside (Method m)) changes refl others (can_more work.changes changes (Method m) can))))
+  all_added (Some head) work (Method m ∷ changes) at none can =
+      let rest : List SessionItem = map Chunk (items_from (Some (head_of m)) changes) in
+      let others = All-tail IsNoDoIt (Method m) changes none in
       in_a_section work head m changes _ can at (λ w same_list inside.
-      let Q : List Change → Type 0 = λ l. CanFile l (Method m ∷ changes) in
+      let Q : List Change → Type 0 = λ l. CanAdd l (Method m ∷ changes) in
       let can_there = subst Q (sym same_list) can in
-      let P : List Change → Type 0 = λ l. LeadsTo w (Chunk (items.Method m.source.text) ∷ map Chunk (items_from (Some (head_of m)) changes)) (l ++ Method m ∷ changes) in
-      subst P same_list (adds_method w _ m changes _ inside can_there (one_longer (Some (head_of m)) w (Method m) changes (filed_in (Some (head_of m)) (grown w (Method m)) changes inside (can_more w.changes changes (Method m) can_there)))))
+      let P : List Change → Type 0 = λ l. LeadsTo w (Chunk (items.Method m.source.text) ∷ rest) (l ++ Method m ∷ changes) in
+      subst P same_list (adds_method w rest m changes _ inside can_there (one_longer rest w (Method m) changes (all_added (Some (head_of m)) (grown w (Method m)) changes inside others (can_more w.changes changes (Method m) can_there)))))
       (is_same_head head (head_of m)) refl
+
+  pub filed_in : (section : Option SectionHead) (work : Work) (changes : List Change) → work.section ≡ section_at section → CanFile work.changes changes → Leads section work changes (work.changes ++ changes)
+  filed_in section work changes at can = all_added section work changes at can.no_doit (record { lawful = can.lawful; accepted = can.accepted; within = can.within })

@@ -1,28 +1,21 @@
 -- What the first line of a file of changes asks.
-use Rattle.std.proofs.Common.{◌≡◌, inl, inr, ℕ, Bool, true, false, true≢false, List, [], ◌∷◌, Some, None, refl, sym, ap, subst, ◌∙◌, arith}
+use Rattle.std.proofs.Common.{◌≡◌, inl, inr, ℕ, Bool, true, false, true≢false, List, [], ◌∷◌, None, refl, sym, ap, subst, ◌∙◌, arith}
 use Rattle.s80_base.specs.Literal.{str}
 use Rattle.s80_lex.specs.declared.token.TokenKind.TheVariants as kind
 use Rattle.s80_lex.specs.Spelling.{quoted}
 use Rattle.s80_tree.specs.declared.name.NameAt.{NameAt}
 use Rattle.s80_tree.specs.Tree.{BodyTree, DoItParts, MessageTrees, expr, literal, stmts}
-use Rattle.s80_syntax.specs.Faults.{IsDoItText}
 use Rattle.s80_syntax.specs.Literals.{IsLiteralKind, token_literal}
 use Rattle.s80_syntax.specs.Text.{IsDoItOf}
-use Rattle.s80_syntax.specs.declared.fault.ParseFault.TheVariants as faults
-use Rattle.s80_syntax.proofs.lemmas.OneReading.{one_doit_of, doit_only_memory}
+use Rattle.s80_syntax.proofs.lemmas.OneReading.{one_doit_of}
 use Rattle.s80_form.specs.declared.form.Form.{Form as AnyForm}
 use Rattle.s80_form.specs.declared.form.Form.TheVariants as forms
-use Rattle.s80_form.specs.declared.refusal.Refusal.{Refusal}
-use Rattle.s80_form.specs.declared.refusal.Refusal.TheVariants as refusals
-use Rattle.s80_form.specs.declared.refusal.SyntaxKind.{SyntaxKind}
-use Rattle.s80_form.specs.declared.refusal.SyntaxKind.TheVariants as syntax
 use Rattle.s80_form.specs.Form.{HasForm, IsFormText, IsSnapshotText}
 use Rattle.s80_form.specs.TreeParts.{all_sent, alone, argument, IsSentToName}
 use Rattle.s80_form.proofs.lemmas.Building.{Words as TokenWords, ended, last_string, spelled, words_spell}
 use Rattle.s80_form.proofs.lemmas.Operands.{str_is}
-use Rattle.s80_change.specs.declared.change.Change.TheVariants.{Form, Method, DoIt}
-use Rattle.s80_change.specs.Check.{as_method, fault_of, size_refusal, IsSyntaxRefusal}
-use Rattle.s80_model.specs.Asked.{Ask, refuses, adds, evaluates, opens, refuses_head, adds_source, refuses_source, closes, tells, files, AsksPlain, IsRefusedText}
+use Rattle.s80_change.specs.Check.{as_method, size_refusal}
+use Rattle.s80_filing.proofs.DoItAsked.{is_evaluated, IsEvaluated}
 use Rattle.s80_filing.proofs.FormsFit.{small_fits, IsSmall}
 
 -- ---- a doIt that is a string
@@ -81,48 +74,6 @@ no_form_text string form is = has_no_form string is.tree form (sole_tree string 
 no_snapshot_text : (string : List ℕ) → IsSnapshotText (quoted 39 string) → ⊥
 no_snapshot_text string is = no_sending string is.tree _ (sole_tree string is.tree is.tree_is) is.snapshot.1
 
--- ---- nor is it refused
-
-not_memory : (kind_of : SyntaxKind) (place : ℕ) → fault_of kind_of place ≡ faults.Memory → ⊥
-not_memory syntax.UnendedToken place e = cc e
-not_memory syntax.BadByte place e = cc e
-not_memory syntax.BadNumber place e = cc e
-not_memory syntax.Unexpected place e = cc e
-not_memory syntax.NotAssignable place e = cc e
-not_memory syntax.Nested place e = cc e
-
-no_fault : (text : List ℕ) (tree : DoItParts) (refusal : Refusal) → IsDoItOf text tree → IsSyntaxRefusal IsDoItText text refusal → ⊥
-no_fault text tree (refusals.Syntax kind_of place) is h = not_memory kind_of place (doit_only_memory text tree (fault_of kind_of place) is h)
-no_fault text tree refusals.Unended is h = h
-no_fault text tree (refusals.TooLarge _ _) is h = h
-no_fault text tree (refusals.UnknownClass _) is h = h
-no_fault text tree (refusals.KernelClass _) is h = h
-no_fault text tree (refusals.HasSubclasses _) is h = h
-no_fault text tree (refusals.Cycle _) is h = h
-no_fault text tree (refusals.Duplicate _) is h = h
-no_fault text tree (refusals.BadName _) is h = h
-no_fault text tree (refusals.NoSelector _ _ _) is h = h
-no_fault text tree (refusals.TooMany _ _) is h = h
-no_fault text tree (refusals.LogFull _) is h = h
-no_fault text tree (refusals.NoSection _) is h = h
-
-not_refused : (string : List ℕ) (refusal : Refusal) → IsRefusedText (quoted 39 string) refusal → ⊥
-not_refused string refusal (inl h) = no_fault (quoted 39 string) (string_tree string) refusal (string_doit string) h
-not_refused string refusal (inr (tree, is, size)) =
-    let same : None ≡ Some refusal = sym (string_fits string) ∙ ap (λ t. size_refusal (as_method t)) (sym (sole_tree string tree is)) ∙ size in
-    cc same
-
--- so it asks to be evaluated
-pub asks_evaluation : (string : List ℕ) (ask : Ask) → AsksPlain (quoted 39 string) ask → (told : List ℕ) × (stopped : Bool) × (ask ≡ evaluates (quoted 39 string) told stopped)
-asks_evaluation string (refuses refusal) is = absurd (not_refused string refusal is)
-asks_evaluation string (adds (Form form)) is = absurd (no_form_text string form is.1)
-asks_evaluation string (adds (Method m)) is = absurd is.1
-asks_evaluation string (adds (DoIt own)) is = absurd (no_snapshot_text string is.1.0)
-asks_evaluation string (evaluates own told stopped) is = (told, stopped, ap (λ t. evaluates t told stopped) is.1)
-asks_evaluation string (opens head) is = absurd is
-asks_evaluation string (refuses_head refusal) is = absurd is
-asks_evaluation string (adds_source source) is = absurd is
-asks_evaluation string (refuses_source refusal) is = absurd is
-asks_evaluation string closes is = absurd is
-asks_evaluation string (tells query) is = absurd is
-asks_evaluation string (files filed moment) is = absurd is
+-- so it is evaluated
+pub header_evaluated : (string : List ℕ) → IsEvaluated (quoted 39 string)
+header_evaluated string = is_evaluated (quoted 39 string) (string_tree string, string_doit string, string_fits string) (record { form = no_form_text string; snapshot = no_snapshot_text string })

@@ -1,4 +1,11 @@
 mod FormsFit
-mod HeaderAsked
 mod FiledIn
+mod DoItAsked
+mod HeaderAsked
 mod FileFiledIn
+mod ClassesFiledIn
+mod LogRead
+mod LogFiledIn
+mod SetKept
+mod SetSteps
+mod SetFolds

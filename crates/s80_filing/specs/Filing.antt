@@ -1,11 +1,15 @@
 -- What filing in a file of changes comes to.
-use Rattle.std.specs.Prelude.{◌≡◌, ℕ, ◌≤◌, All, length, map, List, [], ◌∷◌, ◌++◌}
+use Rattle.std.specs.Prelude.{◌≡◌, ◌⊎◌, ℕ, ◌≤◌, false, All, length, map, List, [], ◌∷◌, ◌++◌}
 use Rattle.s80_chunk.specs.declared.item.Item.{Item}
 use Rattle.s80_chunk.specs.Chunks.{IsReading}
 use Rattle.s80_change.specs.declared.change.Change.{Change}
-use Rattle.s80_change.specs.declared.change.Change.TheVariants.{DoIt}
+use Rattle.s80_change.specs.declared.change.Change.TheVariants.{Form, DoIt}
 use Rattle.s80_change.specs.Block.{blocks, log_limit, IsLawful}
+use Rattle.s80_form.specs.declared.form.Form.TheVariants.{NoChanges}
 use Rattle.s80_apply.specs.List.{state_of, AreAccepted}
+use Rattle.s80_apply.specs.State.{State}
+use Rattle.s80_history.specs.Lists.{is_no_changes}
+use Rattle.s80_doit.specs.DoIt.{Fits}
 use Rattle.s80_model.specs.declared.item.SessionItem.{SessionItem}
 use Rattle.s80_model.specs.declared.item.SessionItem.TheVariants.{Chunk}
 use Rattle.s80_model.specs.Asked.{Ask}
@@ -35,3 +39,24 @@ BytesLeadTo work bytes list = (given : List Item) (rest : List ℕ) → IsReadin
 -- a list with the doIt of a file's first line
 abbrev pub headed : List Change → List ℕ → List Change
 headed list moment = list ++ DoIt (header_text moment) ∷ []
+
+-- ---- what is filed out
+
+-- the bytes, worked so, lead to a list that makes this state
+abbrev pub FilesIn : Work → List ℕ → State → Type 0
+FilesIn work bytes state = (list : List Change) × BytesLeadTo work bytes list × (state_of list ≡ state)
+
+-- a file of these changes may be worked behind this list: no text is too long for a chunk, and the log doesn't become too long
+pub record HasRoom (list changes : List Change) (moment : List ℕ) : Type 0 where
+  pub short : All IsShort changes
+  pub within : length (blocks (headed list moment ++ changes)) ≤ log_limit
+
+-- the change set of a list of these two parts is made of the second: that stands behind the last change that begins a set, or is the whole list
+pub record BeginsSet (before set : List Change) : Type 0 where
+  pub none : All (λ change. is_no_changes change ≡ false) set
+  pub behind : (before ≡ []) ⊎ ((front : List Change) × (before ≡ front ++ Form NoChanges ∷ []))
+
+-- a doIt has a tree that fits a machine
+abbrev pub FitsAgain : Change → Type 0
+FitsAgain (DoIt text) = Fits text
+FitsAgain _ = Unit {0}
