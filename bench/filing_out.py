@@ -1,9 +1,9 @@
 #!/usr/bin/env python3
-"""Classes with ten methods each filed out: the user time of each file, the most memory, and how both grow.
+"""Classes with ten methods each filed out, and then condensed: the user time of each, the most memory, and how both grow.
 
 usage: bench/filing_out.py [CLASSES]
 
-One class of each ten has a comment, and every second one stands below the one before. A start alone (`recover`) is measured beside the files.
+One class of each ten has a comment, and every second one stands below the one before. A start alone (`recover`) is measured beside them.
 """
 import os
 import re
@@ -18,6 +18,7 @@ COMMANDS = {
     "all classes": ["file-out"],
     "one class": ["file-out-class", "C1"],
     "the change set": ["file-out-set"],
+    "condensing": ["condense"],
 }
 
 

@@ -44,7 +44,7 @@ VALUE, STOPPED = re.compile(rb"(.*\n)?=> .*\n", re.S), re.compile(rb"(.*\n)?stop
 
 
 class Item(NamedTuple):
-    """An item of an input: plain, head, method, end or unended; and its text, of any length."""
+    """An item of an input: plain, head, method, end or unended, and its text, of any length; or condense, beside an input."""
 
     kind: str
     text: bytes = b""
@@ -414,6 +414,24 @@ def file_of(changes):
 
 def filed(kernel, state):
     """The changes that make a state of the kernel's: those of the kernel's classes, of the others, and of the methods."""
+    changes = classes_filed(kernel, state)
+    for name, side, selector, put in methods_in_order(state):
+        changes += put_over(kernel.side(name, side).get(selector), Change("method", name, side, selector, put))
+    return changes
+
+
+def condensed(kernel, work):
+    """The list that takes the place of a work's: of each method its newest version, and the move to its category where it has another."""
+    changes = classes_filed(kernel, work.state)
+    for name, side, selector, (category, _) in methods_in_order(work.state):
+        newest = versions(work.changes, name, side, selector)[-1:]
+        changes += [Change("method", name, side, selector, put) for put in newest]
+        was = newest[0] if newest else kernel.side(name, side)[selector]
+        changes += [Change("classify", name, side, selector, category)] if category != was[0] else []
+    return [*changes, Change("noChanges")]
+
+
+def classes_filed(kernel, state):
     changes = []
     for name in sorted(kernel.classes):
         changes += commented(state, name)
@@ -423,10 +441,14 @@ def filed(kernel, state):
         row = state.classes[name]
         changes += [Change("define", name, put=row), *commented(state, name)]
         changes += [Change("class-variables", name, put=row.side_variables)] if row.side_variables else []
+    return changes
+
+
+def methods_in_order(state):
+    """The class, side and selector of each method, and its category and source: by class, side, category and selector."""
     for name, side in itertools.product(sorted(state.classes), SIDES):
         for selector, put in sorted(state.side(name, side).items(), key=lambda method: (method[1][0], method[0])):
-            changes += put_over(kernel.side(name, side).get(selector), Change("method", name, side, selector, put))
-    return changes
+            yield name, side, selector, put
 
 
 def commented(state, name):
@@ -445,19 +467,24 @@ def put_over(row, method):
 
 
 class Work(NamedTuple):
-    """The state, the changes that made it, their blocks, and the section: None, "refused" or a head."""
+    """The state, the changes that made it, their blocks, the section: None, "refused" or a head; and how often the list has changed."""
 
     state: State
     changes: tuple = ()
     log: bytes = b""
     section: object = None
+    age: int = 0
 
     @property
     def count(self):
         return len(self.changes)
 
     def kept(self, change):
-        return self._replace(state=self.state.after(change), changes=(*self.changes, change), log=self.log + change.block())
+        return self._replace(state=self.state.after(change), changes=(*self.changes, change), log=self.log + change.block(), age=self.age + 1)
+
+    def replaced(self, changes):
+        """By other changes, which make the same state."""
+        return self._replace(changes=tuple(changes), log=b"".join(change.block() for change in changes), age=self.age + 1)
 
 
 class Way(NamedTuple):
@@ -486,6 +513,8 @@ class Keeper:
             return [refused(work, b"1 unended")]
         if item.kind == "end":
             return [Way(b"", False, work._replace(section=None))]
+        if item.kind == "condense":
+            return [Way(b"ok\n", False, work.replaced(condensed(self.kernel, work)))]
         if item.kind == "method" and work.section == "refused":
             return [Way(b"", False, work)]
         if len(item.text) > LONGEST:

@@ -94,7 +94,10 @@ def bumped(names, state):
         if not place:
             return b"stopped 2 not understood %s bump\n" % spec(*receiver(name, state))
         variables.append(variable(state, name, *place, BUMP_BODY.fullmatch(state.side(*place)[b"bump"][1])[1]))
-    return b"=> %d\n" % (2 if variables[0] == variables[1] else 1)
+    if variables[0] != variables[1]:
+        return b"=> 1\n"
+    # The second asks a number whether it is nil.
+    return b"=> 2\n" if state.method_for(b"SmallInteger", "instance", b"isNil") else b"stopped 2 not understood SmallInteger isNil\n"
 
 
 def variable(state, name, owner, side, word):
@@ -313,10 +316,12 @@ def file_in(chance):
 
 
 def command(chance, size):
-    """Any of the nine; a run of at most so many pieces."""
+    """Any of them; a run of at most so many pieces."""
     kind = chance.randrange(9)
     if kind < 3:
         return Command(("run",), chunks(chance, chance.randint(0, size)) + chance.choice([b""] * 4 + [b"3 + 4", b"!A"]))
     if kind < 5:
         return Command(("do", chance.choice([b"", b" ", b"\n\t"]) + chance.choice([doit, doit, definition, form, form, nearly])(chance)))
-    return Command(("snapshot",)) if kind == 5 and chance.randrange(3) == 0 else query(chance)
+    if kind == 5 and chance.randrange(2) == 0:
+        return Command((chance.choice(["snapshot", "condense"]),))
+    return query(chance)

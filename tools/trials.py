@@ -69,6 +69,8 @@ class Command(NamedTuple):
         """The items that it works, or None where it asks something."""
         if self.words[0] == "run":
             return items_of(self.text)
+        if self.words[0] == "condense":
+            return [Item("condense")]
         texts = {"do": self.words[-1], "snapshot": b"Smalltalk snapshot"}
         return [Item("plain", texts[self.words[0]].lstrip(SEPARATORS))] if self.words[0] in texts else None
 
@@ -111,7 +113,7 @@ class Course:
     def may_follow(self, out):
         """The lists for which a folder may stand where the run broke off behind these bytes: none is lost, and a group may be kept."""
         least = self.answered(out)
-        return {work.count: work for work in self.works if least.count <= work.count}
+        return by_log(self.works[next(at for at, work in enumerate(self.works) if work is least) :])
 
 
 def kind_of(reply):
@@ -121,6 +123,10 @@ def kind_of(reply):
 
 
 # ---- folders
+
+
+def by_log(works):
+    return {work.log: work for work in works}
 
 
 def files_of(folder):
@@ -138,16 +144,16 @@ def make_folder(folder, files):
 
 
 def standing(program, keeper, folder, works):
-    """The one of these works, by their counts, for which the folder stands: by its files and by `recover`. Or a word on what is found."""
+    """The one of these works, by their logs, for which the folder stands: by its files and by `recover`. Or a word on what is found."""
     try:
         log, count = marked_part(files_of(folder))
     except Damage as damage:
         return str(damage)
-    if count not in works:
-        return f"{count} changes, where {sorted(works)} are right"
-    work = works[count]
-    if log != work.log:
-        return f"the log {log!r}, where {work.log!r} is right"
+    if log not in works:
+        return f"the log {log!r}, where one of {list(works)} is right"
+    work = works[log]
+    if count != work.count:
+        return f"{count} changes, where {work.count} is right"
     found = program.run(folder, "recover")
     wanted = Outcome(0, keeper.recovered(work), b"")
     return work if found == wanted else f"{found}, where {wanted} is right"
