@@ -1,5 +1,6 @@
 -- A list that gives way to a shorter one.
-use Rattle.std.proofs.Common.{◌≡◌, ◌↔◌, inl, inr, ℕ, ◌<◌, Bool, List, Option, Some, None, Result, Ok, Err, refl, sym, ◌∙◌, subst}
+use Rattle.std.proofs.Common.{◌≡◌, ◌↔◌, inl, inr, ℕ, ◌<◌, ◌≤◌, Bool, List, [], map as list_map, take, Option, Some, None, Result, Ok, Err, refl, sym, ◌∙◌, subst}
+use Rattle.std.specs.FinMap as map
 use Rattle.s80_base.specs.declared.outside.Failed.{Failed}
 use Rattle.s80_change.specs.declared.change.Change.{Change}
 use Rattle.s80_change.specs.Block.{log_limit}
@@ -8,12 +9,16 @@ use Rattle.s80_disk.specs.Image.{Image}
 use Rattle.s80_disk.specs.Moments.{LeavesOnly}
 use Rattle.s80_disk.specs.Untouched.{StillLeft}
 use Rattle.s80_disk.proofs.lemmas.Run.{joined, weaker}
+use Rattle.s80_history.specs.Lists.{MethodName, set_of, versions_of}
+use Rattle.s80_apply.specs.List.{AreAccepted, IsBuilt, state_of}
+use Rattle.s80_apply.specs.State.{MethodRow, kernel_state}
+use Rattle.s80_fileout.specs.Condensed.{kept}
 use Rattle.s80_log.specs.Commit.{Holds}
 use Rattle.s80_keeper.specs.declared.keep.KeepFault.{KeepFault}
 use Rattle.s80_keeper.specs.declared.keep.KeepFault.TheVariants as faults
 use Rattle.s80_keeper.specs.Answers.{IfKeepDisk}
 use Rattle.s80_keeper.specs.ChangesAt.{ArePlaced}
-use Rattle.s80_keeper.specs.Condensing.{AfterCondensing, Condensed, IfFull, IsMeasured, IsOpen}
+use Rattle.s80_keeper.specs.Condensing.{AfterCondensing, Condensed, FoldsBack, IfFull, IsMeasured, IsOpen}
 use Rattle.s80_keeper.specs.Keeper.{KeeperState, Keeps, Knows, pending_of, IsSettled}
 use Rattle.s80_keeper.specs.Renewing.{ByAnswer}
 use Rattle.s80_keeper.specs.Source.{IsThis, after_reading}
@@ -156,3 +161,14 @@ knows_on reads new_reads before now changes same_keeper same knows =
     let P : Image → Type 0 = λ r. Knows r before changes in
     let Q : KeeperState → Type 0 = λ k. Knows new_reads k changes in
     subst Q (sym same_keeper) (subst P same_reads knows)
+
+-- ---- the condensed list
+
+-- what a law says of it, of each list and each number
+pub folds_back : (changes : List Change) (count : ℕ) → 1 ≤ count → IsBuilt changes → ((n : ℕ) (l : List Change) → 1 ≤ n → IsBuilt l → AreAccepted kernel_state (kept l n)) → ((n : ℕ) (l : List Change) → 1 ≤ n → IsBuilt l → state_of (kept l n) ≡ state_of l)
+    → ((n : ℕ) (l : List Change) → set_of (kept l n) ≡ []) → ((n : ℕ) (l : List Change) (name : MethodName) (row : MethodRow) → map.get ((state_of l).methods name.class_name name.side) name.selector ≡ Some row → list_map (λ p. p.1) (versions_of (kept l n) name) ≡ take n (list_map (λ p. p.1) (versions_of l name)))
+    → FoldsBack changes (kept changes count) count
+folds_back changes count some built accepted state set versions = record {
+  again = record { accepted = accepted count changes some built; state = state count changes some built; set = set count changes };
+  versions = versions count changes;
+}

@@ -19,6 +19,7 @@ use Rattle.s80_keeper.specs.Answers.{PreparedChange, IsFor, PlacesFor, HasTakenI
 use Rattle.s80_keeper.proofs.Counting.{counts_more}
 use Rattle.s80_keeper.proofs.Keeping.{built_kept, installed_kept, places_kept}
 
+-- a log isn't the mark file
 either_is_no_mark : (b : Bool) → (if b then Log0 else Log1) ≢ Mark
 either_is_no_mark true e = cc
 either_is_no_mark false e = cc

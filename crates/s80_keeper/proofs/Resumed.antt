@@ -201,6 +201,7 @@ long_enough files mark changes has (inr by_mark) =
     let size = simp length-take at (ap length stands.bytes) in
     subst Long (one_mark files by_mark.0 mark stands.valid has.valid) (omega (arith, size, stands.whole))
 
+-- so its file has all that the keeper counts
 pub whole_mark : (files : Image) (mark : MarkState) (result : Result KeeperState StartFault) → HasMark files mark → IsStart files result → IfOk result (λ keeper. keeper ≡ record {
   log = record { number = mark.log; end = mark.log_length };
   mark = mark;

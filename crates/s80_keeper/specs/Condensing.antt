@@ -1,8 +1,12 @@
 -- What condensing answers, and what it leaves.
-use Rattle.std.specs.Prelude.{◌≡◌, ◌<◌, ◌≤◌, ◌-◌, ◌++◌, ℕ, Bool, List, length, None, Result, Ok, Err, ⊤}
+use Rattle.std.specs.Prelude.{◌≡◌, ◌<◌, ◌≤◌, ◌-◌, ◌++◌, ℕ, Bool, List, [], length, map as list_map, take, None, Some, Result, Ok, Err, ⊤}
+use Rattle.std.specs.FinMap as map
 use Rattle.s80_change.specs.declared.change.Change.{Change}
 use Rattle.s80_change.specs.Block.{blocks, log_limit}
 use Rattle.s80_disk.specs.Image.{Image}
+use Rattle.s80_history.specs.Lists.{MethodName, set_of, versions_of}
+use Rattle.s80_apply.specs.List.{AreAccepted, state_of}
+use Rattle.s80_apply.specs.State.{MethodRow, kernel_state}
 use Rattle.s80_log.specs.Commit.{fresh_mark}
 use Rattle.s80_keeper.specs.declared.keep.KeepFault.{KeepFault}
 use Rattle.s80_keeper.specs.declared.keep.KeepFault.TheVariants as faults
@@ -26,7 +30,7 @@ pub record IsTooLong (changes : List Change) (count : ℕ) : Type 0 where
   pub length_is : count ≡ length (blocks changes)
   pub over : log_limit < count
 
--- After a list was to be replaced by a shorter one: it is; or that is too long for a log, or memory was wanting, and all is as before; or the
+-- After a list was to be replaced by the condensed one: it is; or that is too long for a log, or memory was wanting, and all is as before; or the
 -- disk failed, and has the one list or the other.
 abbrev pub Condensed : Result (Unit {0}) KeepFault → Bool → Image → (Image → Type 0) → KeeperState → List Change → List Change → Type 0
 Condensed (Ok done) tells reads may_leave keeper changes short = Keeps tells reads may_leave keeper short short
@@ -35,6 +39,18 @@ Condensed (Err (faults.Disk failed)) tells reads may_leave keeper changes short 
 Condensed (Err (faults.Closed failed)) tells reads may_leave keeper changes short = ⊥
 Condensed (Err (faults.Full count)) tells reads may_leave keeper changes short = Keeps tells reads may_leave keeper changes changes × IsTooLong short count
 Condensed (Err (faults.Damaged damage)) tells reads may_leave keeper changes short = ⊥
+
+-- the new list is accepted change by change and makes the state of the old one, and its change set is empty
+pub record MakesAgain (changes new : List Change) : Type 0 where
+  pub accepted : AreAccepted kernel_state new
+  pub state : state_of new ≡ state_of changes
+  pub set : set_of new ≡ []
+
+-- so it is, and of each method that there is it has the newest versions, at most so many
+pub record FoldsBack (changes new : List Change) (count : ℕ) : Type 0 where
+  pub again : MakesAgain changes new
+  pub versions : (name : MethodName) (row : MethodRow) → map.get ((state_of changes).methods name.class_name name.side) name.selector ≡ Some row
+      → list_map (λ p. p.1) (versions_of new name) ≡ take count (list_map (λ p. p.1) (versions_of changes name))
 
 -- this holds where the list was replaced; no damage was met
 abbrev pub IfReplaced : {T : Type 0} → Result T KeepFault → Type 0 → Type 0

@@ -1,4 +1,4 @@
-// Condensing: the list gives way to a shorter one that makes the same state (Goldberg, "Smalltalk-80: The Interactive Programming Environment").
+// Condensing: a list that makes the same state and has the newest versions takes the place of the list (Goldberg, "Smalltalk-80: The Interactive Programming Environment").
 ghost use Rattle.std.specs.Prelude.{◌≡◌, ◌≢◌, ◌⊎◌, ◌↔◌, ◌<◌, ◌≤◌, ◌-◌, ◌++◌, List, length, reverse, take, Some, None, Err, IsTrue, IfOk, ⊤};
 ghost use Rattle.std.specs.List.{flat_map};
 ghost use Rattle.s80_base.specs.Causes.{Rose};
@@ -19,7 +19,7 @@ ghost use Rattle.s80_fileout.specs.Order.{all_methods, name_listed, of_listed};
 ghost use Rattle.s80_log.specs.Commit.{LeavesBeside};
 ghost use Rattle.s80_log.specs.Log.{log_file};
 ghost use Rattle.s80_keeper.specs.Answers.{IfKeepDisk, UnlessKeepDisk};
-ghost use Rattle.s80_keeper.specs.Condensing.{AfterCondensing, Condensed, IfFull, IfReplaced, IsAdded, IsMeasured, IsOpen};
+ghost use Rattle.s80_keeper.specs.Condensing.{AfterCondensing, Condensed, FoldsBack, IfFull, IfReplaced, IsAdded, IsMeasured, IsOpen, MakesAgain};
 ghost use Rattle.s80_keeper.specs.Keeper.{IsSettled, Keeps, Knows, pending_of};
 ghost use Rattle.s80_keeper.specs.Renewing.{ByAnswer, HasWritten, IsElsewhere};
 ghost use Rattle.s80_keeper.specs.Source.{IsThis, after_reading};
@@ -33,6 +33,7 @@ use s80_disk::Disk;
 use s80_fileout::{
     ListedMethod, add_classes, add_classifying, all_methods, canon,
     the_list_with_versions_folds_back, the_list_with_versions_is_made_in_order,
+    the_shortest_list_folds_back,
 };
 use s80_form::Form;
 use s80_log::LOG_LIMIT;
@@ -44,8 +45,10 @@ const KERNEL: &[u8] = b"kernel";
 impl Keeper {
     /// The shortest list that makes the classes and methods that there are.
     pub fn canon_of(&self, alloc: Global) -> Result<Changes, OutOfMemory>
-        ensures { (state : State) → IsSystemOf self.now.system state → IfOk result (λ changes. changes ≡ canon state) }
+        ensures canon { (state : State) → IsSystemOf self.now.system state → IfOk result (λ changes. changes ≡ canon state) }
+        ensures folds { (changes : List Change) → IsSystemOf self.now.system (state_of changes) → IfOk result (MakesAgain changes) }
     {
+        the_shortest_list_folds_back();
         canon(alloc, &self.system)
     }
 
@@ -60,6 +63,8 @@ impl Keeper {
         requires settled { IsSettled self.old }
         requires keep { 1 ≤ keep }
         ensures after { AfterCondensing result self.old self.new }
+        // The condensed list makes the same state, and has the newest versions of each method.
+        ensures folds { (changes : List Change) → IsBuilt changes → FoldsBack changes (kept changes keep) keep }
 
         // From a disk that stands for a list, a crash at any moment, inside a write too, leaves files that stand for it or for the condensed
         // list; after Ok the disk stands for that.

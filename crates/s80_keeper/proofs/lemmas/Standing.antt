@@ -1,11 +1,14 @@
--- Disks that stand for a list, and what a crash leaves of them.
+-- Disks that stand for a list, and what a crash leaves of them; keepers that know what they wrote.
 use Rattle.std.proofs.Common.{◌≡◌, inl, inr, ⊎_elim, List, Bool, sym, ap, ◌∙◌, subst}
+use Rattle.std.specs.Prelude.{IsTrue}
 use Rattle.s80_change.specs.declared.change.Change.{Change}
 use Rattle.s80_disk.specs.declared.disk.FileId.{FileId}
 use Rattle.s80_disk.specs.Image.{Image}
 use Rattle.s80_mark.specs.declared.mark.MarkState.{MarkState}
 use Rattle.s80_mark.specs.Mark.{valid_mark}
 use Rattle.s80_log.specs.Standing.{FilesStandFor as StandByMark, StandsFor as StandsByMark}
+use Rattle.s80_keeper.specs.Keeper.{KeeperState, Knows}
+use Rattle.s80_keeper.specs.Renewing.{HasWritten}
 use Rattle.s80_keeper.specs.Standing.{FilesStandFor, StandsFor, ReadsFor}
 
 -- where the mark file and the marked part of its log stay, every crash now leaves files that stand for the list by this mark
@@ -39,3 +42,14 @@ reads_on tells new_tells reads new_reads before now changes same_tells same stil
     let P : Bool → Image → Type 0 = λ t r. ReadsFor t r now changes in
     let kept : ReadsFor tells reads now changes = record { told = h.told; stands = ⊎_elim (λ empty. inl empty) (λ marked. inr (marked.0, marked.1, marked.2, marked.3, λ c left. marked.4 c (still c left))) h.stands } in
     subst (P new_tells) same_reads (subst (λ t. P t reads) (sym same_tells) kept)
+
+-- what is written is known, where the disk tells it
+pub knows_written : (tells : Bool) (files : Image) (keeper : KeeperState) (changes : List Change) → IsTrue tells → HasWritten tells files keeper changes → Knows files keeper changes
+knows_written tells files keeper changes told h = record {
+  log = h.bytes told;
+  lawful = h.list.lawful;
+  system = h.made.system;
+  places = h.made.places;
+  history = h.made.history;
+  count = h.made.count;
+}

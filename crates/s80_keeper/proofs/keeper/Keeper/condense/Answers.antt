@@ -14,7 +14,7 @@ use Rattle.s80_keeper.specs.Renewing.{HasWritten, IsElsewhere}
 use Rattle.s80_keeper.specs.Source.{after_reading}
 use Rattle.s80_keeper.specs.Standing.{LeavesEither}
 use Rattle.s80_keeper.proofs.ChangesRead.{left_so}
-use Rattle.s80_keeper.proofs.Condensed.{after_unfit, condensed_unfit, condensed_unread, keeps_read, knows_kept, never_closed, none_pends, open_closed, open_full, read_either, read_then_either, unfit_full, unfit_offline, unfit_open}
+use Rattle.s80_keeper.proofs.Condensed.{after_unfit, condensed_unfit, condensed_unread, folds_back, keeps_read, knows_kept, never_closed, none_pends, open_closed, open_full, read_either, read_then_either, unfit_full, unfit_offline, unfit_open}
 use Rattle.s80_keeper.proofs.Elsewhere.{elsewhere_read, elsewhere_then}
 use Rattle.s80_keeper.proofs.Renewed.{open_so}
 use Rattle.s80_keeper.proofs.Written.{unfit_replaced, unread_replaced, written_replaced}
@@ -55,7 +55,18 @@ module _ (g : _) (c : After-condensed g) where
 pub condensed-requires-clause-open : goal.condensed-requires-clause-open
 condensed-requires-clause-open g c = sym (ap (λ (k : KeeperState). k.fault) c.self.view_is) ∙ c.in_default.is
 
+-- ---- where the disk had failed
+pub returns-in-Some-clause-folds : goal.returns-in-Some-clause-folds
+returns-in-Some-clause-folds g c = λ changes built.
+    let law = c.the_list_with_versions_folds_back.ensures in
+    folds_back changes c.args.keep c.requires.keep built law.accepted law.state law.set law.versions
+
 -- ---- where the new list isn't read
+
+pub returns-in_err-changes-clause-folds : goal.returns-in_err-changes-clause-folds
+returns-in_err-changes-clause-folds g c = λ changes built.
+    let law = c.the_list_with_versions_folds_back.ensures in
+    folds_back changes c.args.keep c.requires.keep built law.accepted law.state law.set law.versions
 
 pub returns-in_err-changes-clause-after : goal.returns-in_err-changes-clause-after
 returns-in_err-changes-clause-after g c =
@@ -109,6 +120,11 @@ returns-in_err-changes-clause-known g c = λ told changes built knows.
     rw (p.1, p.2) (unread_replaced (List Change) (Unit {0}) c.in_err-changes.field-0.0 short (HasWritten (D.tells new) (D.reads new) c.condensed.new.self short) (c.in_err-changes.ensures.list told changes knows))
 
 -- ---- where it is too long, or isn't measured
+
+pub returns-in_err-check_length-clause-folds : goal.returns-in_err-check_length-clause-folds
+returns-in_err-check_length-clause-folds g c = λ changes built.
+    let law = c.the_list_with_versions_folds_back.ensures in
+    folds_back changes c.args.keep c.requires.keep built law.accepted law.state law.set law.versions
 
 pub returns-in_err-check_length-clause-after : goal.returns-in_err-check_length-clause-after
 returns-in_err-check_length-clause-after g c =
@@ -207,6 +223,11 @@ module _ (g : _) (c : After-replace_by g) where
         let mid = c.condensed.new.disk in
         let Now : KeeperState → Type 0 = λ k. Keeps (D.tells mid) (D.reads mid) (D.may_leave mid) k changes changes in
         subst Now {x = c.args.self.now} (sym {a = c.condensed.new.self} {b = c.args.self.now} c.in_ok-changes.ensures.after) (still g (goal.at.After-replace_by g c).After-condensed changes keeps)
+
+pub returns-clause-folds : goal.returns-clause-folds
+returns-clause-folds g c = λ changes built.
+    let law = c.the_list_with_versions_folds_back.ensures in
+    folds_back changes c.args.keep c.requires.keep built law.accepted law.state law.set law.versions
 
 pub returns-clause-after : goal.returns-clause-after
 returns-clause-after g c =
