@@ -30,10 +30,11 @@ use Rattle.s80_model.specs.declared.item.SessionItem.TheVariants.{Chunk}
 use Rattle.s80_model.specs.declared.section.Section.{Section}
 use Rattle.s80_model.specs.declared.section.Section.TheVariants as sections
 use Rattle.s80_model.specs.Asked.{Ask, adds, adds_source, closes, opens}
-use Rattle.s80_model.specs.Replies.{Work, AsksIn, AllAsk, list_after_source, list_or, section_of, work_after, list_after_all}
+use Rattle.s80_model.specs.declared.reply.Reply.TheVariants.{Accepted}
+use Rattle.s80_model.specs.Replies.{Work, AsksIn, AllAsk, list_after_source, list_or, section_of, work_after, list_after_all, reply_to_adding, reply_to_head, reply_to_source}
 use Rattle.s80_fileout.specs.FileText.{is_same_head}
 use Rattle.s80_fileout.specs.Items.{items_from}
-use Rattle.s80_filing.specs.Filing.{CanFile, IsNoDoIt, LeadsTo}
+use Rattle.s80_filing.specs.Filing.{AllTaken, CanFile, IsNoDoIt, IsTaken, LeadsTo}
 use Rattle.s80_filing.proofs.FormsFit.{form_fits}
 
 -- ---- a list that grows
@@ -114,20 +115,22 @@ one_longer rest work change changes next = let P : List Change → Type 0 = λ l
 
 -- nothing is left to work
 pub no_items : (work : Work) (list : List Change) → work.changes ≡ list → LeadsTo work [] list
-no_items work list is [] all = is
+no_items work list is [] all = (is, tt)
 no_items work list is (ask ∷ asks) all = absurd all
 
 module _ (one : OneAsk) where
-  step : (work : Work) (item : Item) (rest : List SessionItem) (expected : Ask) (list : List Change) → AsksIn work (Chunk item) expected → LeadsTo (work_after work expected) rest list → LeadsTo work (Chunk item ∷ rest) list
-  step work item rest expected list is next [] all = absurd all
-  step work item rest expected list is next (ask ∷ asks) all =
+  step : (work : Work) (item : Item) (rest : List SessionItem) (expected : Ask) (list : List Change) → AsksIn work (Chunk item) expected → IsTaken work expected → LeadsTo (work_after work expected) rest list → LeadsTo work (Chunk item ∷ rest) list
+  step work item rest expected list is taken next [] all = absurd all
+  step work item rest expected list is taken next (ask ∷ asks) all =
       let same : ask ≡ expected = one work item expected ask is all.0 in
       let P : Ask → Type 0 = λ a. AllAsk (work_after work a) rest asks in
-      ap (λ a. list_after_all (work_after work a) asks) same ∙ next asks (subst P same all.1)
+      let Q : Ask → Type 0 = λ a. IsTaken work a × AllTaken (work_after work a) asks in
+      let behind = next asks (subst P same all.1) in
+      (ap (λ a. list_after_all (work_after work a) asks) same ∙ behind.0, subst Q (sym same) (taken, behind.1))
 
   -- a section ends
   pub ends : (work : Work) (rest : List SessionItem) (list : List Change) → LeadsTo (record work { section = sections.Top }) rest list → LeadsTo work (Chunk items.SectionEnd ∷ rest) list
-  ends work rest list next = step work items.SectionEnd rest closes list (refl, tt) next
+  ends work rest list next = step work items.SectionEnd rest closes list (refl, tt) refl next
 
   -- a form is added
   pub adds_form : (work : Work) (rest : List SessionItem) (form : AnyForm) (changes list : List Change) → CanAdd work.changes (Form form ∷ changes) → LeadsTo (record work { changes = work.changes ++ Form form ∷ [] }) rest list → LeadsTo work (Chunk (items.Plain (form_text form)) ∷ rest) list
@@ -135,7 +138,8 @@ module _ (one : OneAsk) where
       let text = has_text form (All-head IsLawful (Form form) changes can.lawful) in
       let fits : Fits (form_text form) = (text.tree, text.tree_is, form_fits text.tree form text.form_is.0) in
       let P : Result (List Change) Refusal → Type 0 = λ r. LeadsTo (record work { changes = list_or r work.changes }) rest list in
-      step work (items.Plain (form_text form)) rest (adds (Form form)) list ((fits, text), tt) (subst P (sym (is_added work.changes changes (Form form) can)) next)
+      let added = is_added work.changes changes (Form form) can in
+      step work (items.Plain (form_text form)) rest (adds (Form form)) list ((fits, text), tt) (ap reply_to_adding added) (subst P (sym added) next)
 
   -- a section begins, of whose class there is one
   pub begins : (work : Work) (rest : List SessionItem) (m : MethodChange) (changes list : List Change) → CanAdd work.changes (Method m ∷ changes) → LeadsTo (record work { section = sections.Open (head_of m) }) rest list → LeadsTo work (Chunk (items.Head (head_text (head_of m))) ∷ rest) list
@@ -143,7 +147,7 @@ module _ (one : OneAsk) where
       let lawful = All-head IsLawful (Method m) changes can.lawful in
       let known = class_is_known m (state_of work.changes) can.accepted.0 in
       let P : Option Refusal → Type 0 = λ r. LeadsTo (record work { section = section_of (head_of m) r }) rest list in
-      step work (items.Head (head_text (head_of m))) rest (opens (head_of m)) list (text_begins (head_of m) lawful.head, tt) (subst P (sym known) next)
+      step work (items.Head (head_text (head_of m))) rest (opens (head_of m)) list (text_begins (head_of m) lawful.head, tt) (ap reply_to_head known) (subst P (sym known) next)
 
   -- a method is added in its section
   pub adds_method : (work : Work) (rest : List SessionItem) (m : MethodChange) (changes list : List Change) → work.section ≡ sections.Open (head_of m) → CanAdd work.changes (Method m ∷ changes) → LeadsTo (record work { changes = work.changes ++ Method m ∷ [] }) rest list → LeadsTo work (Chunk (items.Method m.source.text) ∷ rest) list
@@ -151,7 +155,9 @@ module _ (one : OneAsk) where
       let lawful = All-head IsLawful (Method m) changes can.lawful in
       let P : Result (List Change) Refusal → Type 0 = λ r. LeadsTo (record work { changes = list_or r work.changes }) rest list in
       let Q : Section → Type 0 = λ s. LeadsTo (record work { changes = list_after_source work.changes s m.source }) rest list in
-      step work (items.Method m.source.text) rest (adds_source m.source) list ((refl, lawful.check), tt) (subst Q (sym in_section) (subst P (sym (is_added work.changes changes (Method m) can)) next))
+      let R : Section → Type 0 = λ s. reply_to_source work.changes s m.source ≡ Accepted in
+      let added = is_added work.changes changes (Method m) can in
+      step work (items.Method m.source.text) rest (adds_source m.source) list ((refl, lawful.check), tt) (subst R (sym in_section) (ap reply_to_adding added)) (subst Q (sym in_section) (subst P (sym added) next))
 
   -- ---- changes
 

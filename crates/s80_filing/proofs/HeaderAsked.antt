@@ -10,7 +10,7 @@ use Rattle.s80_syntax.specs.Text.{IsDoItOf}
 use Rattle.s80_syntax.proofs.lemmas.OneReading.{one_doit_of}
 use Rattle.s80_form.specs.declared.form.Form.{Form as AnyForm}
 use Rattle.s80_form.specs.declared.form.Form.TheVariants as forms
-use Rattle.s80_form.specs.Form.{HasForm, IsFormText, IsSnapshotText}
+use Rattle.s80_form.specs.Form.{HasForm, IsCondensingText, IsFormText, IsSnapshotText}
 use Rattle.s80_form.specs.TreeParts.{all_sent, alone, argument, IsSentToName}
 use Rattle.s80_form.proofs.lemmas.Building.{Words as TokenWords, ended, last_string, spelled, words_spell}
 use Rattle.s80_form.proofs.lemmas.Operands.{str_is}
@@ -74,6 +74,12 @@ no_form_text string form is = has_no_form string is.tree form (sole_tree string 
 no_snapshot_text : (string : List ℕ) → IsSnapshotText (quoted 39 string) → ⊥
 no_snapshot_text string is = no_sending string is.tree _ (sole_tree string is.tree is.tree_is) is.snapshot.1
 
+no_condensing_text : (string : List ℕ) → IsCondensingText (quoted 39 string) → ⊥
+no_condensing_text string is = no_sending string is.tree _ (sole_tree string is.tree is.tree_is) is.condensing.1
+
 -- so it is evaluated
 pub header_evaluated : (string : List ℕ) → IsEvaluated (quoted 39 string)
-header_evaluated string = is_evaluated (quoted 39 string) (string_tree string, string_doit string, string_fits string) (record { form = no_form_text string; snapshot = no_snapshot_text string })
+header_evaluated string = is_evaluated (quoted 39 string) (string_tree string, string_doit string, string_fits string) (record {
+  none = record { form = no_form_text string; snapshot = no_snapshot_text string };
+  condensing = no_condensing_text string;
+})

@@ -41,7 +41,8 @@ module _ (one : OneAsk) where
       let rest : List SessionItem = map Chunk (log_items changes) in
       let others = All-tail FitsAgain (DoIt text) changes fit in
       let lawful = All-head IsLawful (DoIt text) changes can.lawful in
-      let evaluated = is_evaluated text (All-head FitsAgain (DoIt text) changes fit) lawful.1 in
+      let (fits, not_condensing) = All-head FitsAgain (DoIt text) changes fit in
+      let evaluated = is_evaluated text fits (record { none = lawful.1; condensing = not_condensing }) in
       adds_doit work rest text _ evaluated (is_added work.changes changes (DoIt text) can) (one_longer rest work (DoIt text) changes (log_added (grown work (DoIt text)) changes top others (can_more work.changes changes (DoIt text) can)))
 
   pub log_filed_in : OneReading → (settings : Settings) (changes : List Change) → IsBuilt changes → IsList changes → All IsShort changes → All FitsAgain changes → BytesLeadTo (begun settings []) (blocks changes) changes

@@ -5,6 +5,7 @@ use Rattle.s80_chunk.specs.Chunks.{IsReading}
 use Rattle.s80_change.specs.declared.change.Change.{Change}
 use Rattle.s80_change.specs.declared.change.Change.TheVariants.{Form, DoIt}
 use Rattle.s80_change.specs.Block.{blocks, log_limit, IsLawful}
+use Rattle.s80_form.specs.Form.{IsCondensingText}
 use Rattle.s80_form.specs.declared.form.Form.TheVariants.{NoChanges}
 use Rattle.s80_apply.specs.List.{state_of, AreAccepted}
 use Rattle.s80_apply.specs.State.{State}
@@ -12,8 +13,9 @@ use Rattle.s80_history.specs.Lists.{is_no_changes}
 use Rattle.s80_doit.specs.DoIt.{Fits}
 use Rattle.s80_model.specs.declared.item.SessionItem.{SessionItem}
 use Rattle.s80_model.specs.declared.item.SessionItem.TheVariants.{Chunk}
-use Rattle.s80_model.specs.Asked.{Ask}
-use Rattle.s80_model.specs.Replies.{Work, AllAsk, list_after_all}
+use Rattle.s80_model.specs.declared.reply.Reply.TheVariants.{Accepted, Silent}
+use Rattle.s80_model.specs.Asked.{Ask, adds, adds_source, closes, evaluates, opens}
+use Rattle.s80_model.specs.Replies.{Work, AllAsk, list_after_all, reply_to, work_after}
 use Rattle.s80_fileout.specs.Items.{header_text, IsShort}
 
 abbrev pub IsNoDoIt : Change → Type 0
@@ -28,9 +30,23 @@ pub record CanFile (list changes : List Change) : Type 0 where
   pub accepted : AreAccepted (state_of list) changes
   pub within : length (blocks (list ++ changes)) ≤ log_limit
 
--- whatever these items ask, they lead to this list
+-- It is taken in: a change is answered by `ok`, and the beginning and the end of a section by nothing. Of what a doIt is told nothing is said, and
+-- nothing else is asked.
+abbrev pub IsTaken : Work → Ask → Type 0
+IsTaken work (adds change) = reply_to work (adds change) ≡ Accepted
+IsTaken work (adds_source source) = reply_to work (adds_source source) ≡ Accepted
+IsTaken work (opens head) = reply_to work (opens head) ≡ Silent
+IsTaken work closes = reply_to work closes ≡ Silent
+IsTaken work (evaluates text told stopped) = Unit {0}
+IsTaken work ask = ⊥
+
+abbrev pub AllTaken : Work → List Ask → Type 0
+AllTaken work [] = Unit {0}
+AllTaken work (ask ∷ asks) = IsTaken work ask × AllTaken (work_after work ask) asks
+
+-- whatever these items ask, it is taken in, and they lead to this list
 abbrev pub LeadsTo : Work → List SessionItem → List Change → Type 0
-LeadsTo work items list = (asks : List Ask) → AllAsk work items asks → list_after_all work asks ≡ list
+LeadsTo work items list = (asks : List Ask) → AllAsk work items asks → (list_after_all work asks ≡ list) × AllTaken work asks
 
 -- and so do those as which the bytes are read
 abbrev pub BytesLeadTo : Work → List ℕ → List Change → Type 0
@@ -56,7 +72,7 @@ pub record BeginsSet (before set : List Change) : Type 0 where
   pub none : All (λ change. is_no_changes change ≡ false) set
   pub behind : (before ≡ []) ⊎ ((front : List Change) × (before ≡ front ++ Form NoChanges ∷ []))
 
--- a doIt has a tree that fits a machine
+-- a doIt has a tree that fits a machine, and doesn't ask to condense
 abbrev pub FitsAgain : Change → Type 0
-FitsAgain (DoIt text) = Fits text
+FitsAgain (DoIt text) = Fits text × (IsCondensingText text → ⊥)
 FitsAgain _ = Unit {0}

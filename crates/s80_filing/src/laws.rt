@@ -56,8 +56,8 @@ pub fn a_change_set_files_in()
     one_ask();
 }
 
-/// A log files in to itself: the bytes of a list's blocks, worked behind an empty list, lead to that list, if no text is too long for a chunk and
-/// its doIts fit a machine.
+/// A log files in to itself: the bytes of a list's blocks, worked behind an empty list, lead to that list, if no text is too long for a chunk,
+/// its doIts fit a machine, and none asks to condense.
 pub fn a_log_files_in()
     ensures { (settings : Settings) (changes : List Change) → IsBuilt changes → IsList changes → All IsShort changes → All FitsAgain changes
         → BytesLeadTo (begun settings []) (blocks changes) changes }
