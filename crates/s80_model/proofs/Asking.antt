@@ -26,7 +26,7 @@ use Rattle.s80_model.specs.declared.item.SessionItem.{SessionItem}
 use Rattle.s80_model.specs.declared.item.SessionItem.TheVariants.{Chunk, Unended, Query}
 use Rattle.s80_form.specs.declared.form.Form.{Form as FormOfDoIt}
 use Rattle.s80_form.specs.declared.form.Recognised.TheVariants as recognised
-use Rattle.s80_form.specs.Form.{IsFormText, IsNoFormText, IsSnapshot, IsSnapshotText}
+use Rattle.s80_form.specs.Form.{IsCondensing, IsCondensingText, IsEvaluatedText, IsFormText, IsSnapshot, IsSnapshotText}
 use Rattle.s80_form.proofs.lemmas.OneForm.{form_of_text_same, has_same}
 use Rattle.s80_apply.specs.List.{add, state_of}
 use Rattle.s80_doit.specs.Answer.{EvaluatesTo}
@@ -98,10 +98,22 @@ one_change text (Form form) (Method m) h k = absurd k
 one_change text (DoIt own) (Method m) h k = absurd k
 
 -- a text that is told something is kept as none
-no_doit : (text : List ℕ) (change : Change) → IsKeptAs text change → IsNoFormText text → {X : Type 0} → X
-no_doit text (Form form) h k = absurd (k.form form h)
+no_doit : (text : List ℕ) (change : Change) → IsKeptAs text change → IsEvaluatedText text → {X : Type 0} → X
+no_doit text (Form form) h k = absurd (k.none.form form h)
 no_doit text (Method m) h k = absurd h
-no_doit text (DoIt own) h k = absurd (k.snapshot h.0)
+no_doit text (DoIt own) h k = absurd (k.none.snapshot h.0)
+
+-- nor is one that asks to condense
+no_change : (text : List ℕ) (change : Change) → IsKeptAs text change → IsCondensingText text → {X : Type 0} → X
+no_change text (Form form) h k =
+    let asks : IsCondensing h.tree = subst IsCondensing (one_doit_of text k.tree h.tree k.tree_is h.tree_is) k.condensing in
+    let same : recognised.Condense ≡ recognised.Form form = has_same h.tree recognised.Condense (recognised.Form form) asks h.form_is.0 in
+    cc same
+no_change text (Method m) h k = absurd h
+no_change text (DoIt own) h k =
+    let asks : IsCondensing h.0.tree = subst IsCondensing (one_doit_of text k.tree h.0.tree k.tree_is h.0.tree_is) k.condensing in
+    let same : recognised.Condense ≡ recognised.Snapshot = has_same h.0.tree recognised.Condense recognised.Snapshot asks h.0.snapshot in
+    cc same
 
 -- what is told of a doIt is one thing, whether it is added or refused
 told_so : OneTold → (r : Result (List Change) Refusal) (text : List ℕ) (settings : Settings) (told other : List ℕ) (stopped also : Bool) → IsEvaluated r text settings told stopped → IsEvaluated r text settings other also → (other ≡ told) × (also ≡ stopped)
@@ -120,16 +132,26 @@ one_plain : OneTold → (work : Work) (text : List ℕ) (ask other : Ask) → As
 one_plain one work text (refuses refusal) (refuses again) h so k also = ap refuses (one_reason text again refusal k h)
 one_plain one work text (refuses refusal) (adds change) h so k also = absurd (fits_only text refusal k.0 h)
 one_plain one work text (refuses refusal) (evaluates own told stopped) h so k also = absurd (fits_only text refusal k.0 h)
-one_plain one work text (refuses refusal) condenses h so k also = absurd k
+one_plain one work text (refuses refusal) condenses h so k also = absurd (fits_only text refusal k.0 h)
 one_plain one work text (adds change) (refuses refusal) h so k also = absurd (fits_only text refusal h.0 k)
 one_plain one work text (adds change) (adds again) h so k also = ap adds (one_change text again change k.1 h.1)
 one_plain one work text (adds change) (evaluates own told stopped) h so k also = no_doit text change h.1 k.2
-one_plain one work text (adds change) condenses h so k also = absurd k
+one_plain one work text (adds change) condenses h so k also = no_change text change h.1 k.1
 one_plain one work text (evaluates own told stopped) (refuses refusal) h so k also = absurd (fits_only text refusal h.0 k)
 one_plain one work text (evaluates own told stopped) (adds change) h so k also = no_doit text change k.1 h.2
 one_plain one work text (evaluates own told stopped) (evaluates again more too) h so k also = evaluates_so one work text own again told more stopped too h.1 k.1 so also
-one_plain one work text (evaluates own told stopped) condenses h so k also = absurd k
-one_plain one work text condenses other h so k also = absurd h
+one_plain one work text (evaluates own told stopped) condenses h so k also = absurd (h.2.condensing k.1)
+one_plain one work text condenses (refuses refusal) h so k also = absurd (fits_only text refusal h.0 k)
+one_plain one work text condenses (adds change) h so k also = no_change text change k.1 h.1
+one_plain one work text condenses (evaluates own told stopped) h so k also = absurd (k.2.condensing h.1)
+one_plain one work text condenses condenses h so k also = refl
+one_plain one work text condenses (opens head) h so k also = absurd k
+one_plain one work text condenses (refuses_head refusal) h so k also = absurd k
+one_plain one work text condenses (adds_source source) h so k also = absurd k
+one_plain one work text condenses (refuses_source refusal) h so k also = absurd k
+one_plain one work text condenses closes h so k also = absurd k
+one_plain one work text condenses (tells query) h so k also = absurd k
+one_plain one work text condenses (files filed moment) h so k also = absurd k
 one_plain one work text (opens head) other h so k also = absurd h
 one_plain one work text (refuses_head refusal) other h so k also = absurd h
 one_plain one work text (adds_source source) other h so k also = absurd h

@@ -9,7 +9,7 @@ use Rattle.s80_syntax.specs.Text.{IsDoItOf}
 use Rattle.s80_change.specs.declared.change.Change.{Change}
 use Rattle.s80_change.specs.declared.change.Change.TheVariants.{Form, Method, DoIt}
 use Rattle.s80_change.specs.Source.{SourceParts}
-use Rattle.s80_form.specs.Form.{IsFormText, IsNoFormText, IsSnapshotText}
+use Rattle.s80_form.specs.Form.{IsCondensingText, IsEvaluatedText, IsFormText, IsSnapshotText}
 use Rattle.s80_form.specs.declared.refusal.FitWord.TheVariants as fits
 use Rattle.s80_form.specs.declared.refusal.Refusal.{Refusal}
 use Rattle.s80_form.specs.declared.refusal.Refusal.TheVariants as refusals
@@ -63,12 +63,13 @@ IsKeptAs text (Form form) = IsFormText text form
 IsKeptAs text (Method m) = ⊥
 IsKeptAs text (DoIt own) = IsSnapshotText text × (own ≡ snapshot_note)
 
--- A plain text is refused, or it fits and is added: as the change whose form its tree has, as the note of a snapshot, or else as a doIt, which
--- is evaluated.
+-- A plain text is refused, or it fits. Then it is added as the change whose form its tree has, or as the note of a snapshot; or it asks to
+-- condense, and isn't kept; or else it is added as a doIt, which is evaluated.
 abbrev pub AsksPlain : List ℕ → Ask → Type 0
 AsksPlain text (refuses refusal) = IsRefusedText text refusal
 AsksPlain text (adds change) = Fits text × IsKeptAs text change
-AsksPlain text (evaluates own told stopped) = Fits text × (own ≡ text) × IsNoFormText text
+AsksPlain text (evaluates own told stopped) = Fits text × (own ≡ text) × IsEvaluatedText text
+AsksPlain text condenses = Fits text × IsCondensingText text
 AsksPlain text _ = ⊥
 
 -- ---- heads

@@ -1,6 +1,7 @@
 -- How the work on an item breaks off, and what is counted then.
-use Rattle.std.proofs.Common.{◌≡◌, sym, subst, Result, Ok, Err, arith}
+use Rattle.std.proofs.Common.{◌≡◌, inl, inr, sym, subst, Result, Ok, Err, arith}
 use Rattle.std.specs.Prelude.{IfErr}
+use Rattle.s80_chunk.specs.declared.item.Item.TheVariants as items
 use Rattle.s80_disk.specs.Shown.{Faults}
 use Rattle.s80_model.specs.declared.item.Filed.TheVariants as contents
 use Rattle.s80_model.specs.declared.item.Query.TheVariants as queries
@@ -44,7 +45,12 @@ done_on {T} {U} item a m b value other same h =
     subst P same (by_item item h)
   where
     by_item : (item : SessionItem) → CountsFor {T = T} item m b (Ok value) → CountsFor {T = U} item m b (Ok other)
-    by_item (Chunk item) h = record { later = h.later; reason = h.reason }
+    by_item (Chunk (items.Plain text)) (inl h) = inl (record { later = h.later; reason = h.reason })
+    by_item (Chunk (items.Plain text)) (inr (asks, h)) = inr (asks, record { later = h.later; reason = h.reason })
+    by_item (Chunk (items.Head text)) h = record { later = h.later; reason = h.reason }
+    by_item (Chunk (items.Method text)) h = record { later = h.later; reason = h.reason }
+    by_item (Chunk items.SectionEnd) h = record { later = h.later; reason = h.reason }
+    by_item (Chunk (items.TooLong role length)) h = record { later = h.later; reason = h.reason }
     by_item Unended h = record { later = h.later; reason = h.reason }
     by_item (Query queries.Recover) h = record { later = h.later; reason = h.reason }
     by_item (Query queries.Classes) h = record { later = h.later; reason = h.reason }
@@ -58,6 +64,7 @@ done_on {T} {U} item a m b value other same h =
     by_item (Query queries.Snapshot) h = record { later = h.later; reason = h.reason }
     by_item (Query queries.Condense) h = record { later = h.later; reason = h.reason }
 
+-- the same where damage may be met
 source_broke : (T U : Type 0) (a b : Faults) (end : SessionEnd) → SourceCounts {T = T} a b (Err end) → SourceCounts {T = U} a b (Err end)
 source_broke T U a b ends.Memory h = record { later = h.later; reason = h.reason }
 source_broke T U a b (ends.Read failed) h = record { later = h.later; reason = h.reason }
@@ -73,7 +80,12 @@ broke_on T U item a m b end same h =
     subst P same (by_item item h)
   where
     by_item : (item : SessionItem) → CountsFor {T = T} item m b (Err end) → CountsFor {T = U} item m b (Err end)
-    by_item (Chunk item) h = record { later = h.later; reason = h.reason }
+    by_item (Chunk (items.Plain text)) (inl h) = inl (record { later = h.later; reason = h.reason })
+    by_item (Chunk (items.Plain text)) (inr (asks, h)) = inr (asks, source_broke T U m b end h)
+    by_item (Chunk (items.Head text)) h = record { later = h.later; reason = h.reason }
+    by_item (Chunk (items.Method text)) h = record { later = h.later; reason = h.reason }
+    by_item (Chunk items.SectionEnd) h = record { later = h.later; reason = h.reason }
+    by_item (Chunk (items.TooLong role length)) h = record { later = h.later; reason = h.reason }
     by_item Unended h = record { later = h.later; reason = h.reason }
     by_item (Query queries.Recover) h = record { later = h.later; reason = h.reason }
     by_item (Query queries.Classes) h = record { later = h.later; reason = h.reason }
@@ -93,6 +105,9 @@ err_counts T U a b end h = record { later = h.later; reason = h.reason }
 -- behind what met no fault
 pub err_counts_on : (T U : Type 0) (a m b : Faults) (end : SessionEnd) → m ≡ a → Counts {T = T} m b (Err end) → Counts {T = U} a b (Err end)
 err_counts_on T U a m b end same h = let P : Faults → Type 0 = λ f. Counts {T = U} f b (Err end) in subst P same (err_counts T U m b end h)
+
+pub err_sources_on : (T U : Type 0) (a m b : Faults) (end : SessionEnd) → m ≡ a → SourceCounts {T = T} m b (Err end) → SourceCounts {T = U} a b (Err end)
+err_sources_on T U a m b end same h = let P : Faults → Type 0 = λ f. SourceCounts {T = U} f b (Err end) in subst P same (source_broke T U m b end h)
 
 pub no_fewer : (a b : Faults) → b ≡ a → NoFewer a b
 no_fewer a b same = let P : Faults → Type 0 = λ f. NoFewer a f in subst P (sym same) (record { read = omega arith; write = omega arith; disk = omega arith })
@@ -121,9 +136,18 @@ counts_whole T U a b (ends.Read failed) h = tt
 counts_whole T U a b (ends.Damaged damage) h = absurd h.reason
 counts_whole T U a b ends.TooLong h = tt
 
+pub counts_meet : {T : Type 0} (a b : Faults) (r : Result T SessionEnd) → Counts a b r → MeetsNoDamage r
+counts_meet a b (Ok value) h = tt
+counts_meet {T} a b (Err end) h = counts_whole T T a b end h
+
 -- and that no call failed where memory is wanting
 pub counts_memory : (T : Type 0) (item : SessionItem) (a b : Faults) → CountsFor {T = T} item a b (Err ends.Memory) → b ≡ a
-counts_memory T (Chunk item) a b h = h.reason
+counts_memory T (Chunk (items.Plain text)) a b (inl h) = h.reason
+counts_memory T (Chunk (items.Plain text)) a b (inr (asks, h)) = h.reason
+counts_memory T (Chunk (items.Head text)) a b h = h.reason
+counts_memory T (Chunk (items.Method text)) a b h = h.reason
+counts_memory T (Chunk items.SectionEnd) a b h = h.reason
+counts_memory T (Chunk (items.TooLong role length)) a b h = h.reason
 counts_memory T Unended a b h = h.reason
 counts_memory T (Query queries.Recover) a b h = h.reason
 counts_memory T (Query queries.Classes) a b h = h.reason

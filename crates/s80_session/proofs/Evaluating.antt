@@ -6,7 +6,7 @@ use Rattle.s80_change.specs.declared.change.Change.{Change}
 use Rattle.s80_change.specs.declared.change.Change.TheVariants.{DoIt}
 use Rattle.s80_change.specs.Block.{blocks}
 use Rattle.s80_form.specs.declared.refusal.Refusal.{Refusal}
-use Rattle.s80_form.specs.Form.{IsNoFormText}
+use Rattle.s80_form.specs.Form.{IsEvaluatedText}
 use Rattle.s80_disk.specs.Image.{Image}
 use Rattle.s80_doit.specs.Answer.{EvaluatesTo}
 use Rattle.s80_doit.specs.DoIt.{AreGiven, Fits, IsRunOf, is_stopped}
@@ -40,7 +40,7 @@ told_so changes text settings told stopped h None =
 told_so changes text settings told stopped h (Some refusal) = ([], false, (refl, refl))
 
 -- so an item that is a doIt asks something
-pub asks_doit : (work : Work) (text told : List ℕ) (stopped : Bool) → Fits text → IsNoFormText text → EvaluatesTo (state_of work.changes) text work.settings.budget told stopped → (t : List ℕ) × (s : Bool) × AsksIn work (Chunk (items.Plain text)) (evaluates text t s)
+pub asks_doit : (work : Work) (text told : List ℕ) (stopped : Bool) → Fits text → IsEvaluatedText text → EvaluatesTo (state_of work.changes) text work.settings.budget told stopped → (t : List ℕ) × (s : Bool) × AsksIn work (Chunk (items.Plain text)) (evaluates text t s)
 asks_doit work text told stopped fits none h =
     let so = told_so work.changes text work.settings told stopped h (refusal_to (state_of work.changes) (length (blocks work.changes)) (DoIt text)) in
     (so.0, so.1, ((fits, refl, none), so.2))
@@ -75,7 +75,7 @@ run_refused (Ok changes) text settings refusal before now e same = absurd (cc)
 run_refused (Err other) text settings refusal before now e same = same
 
 -- a doIt that isn't kept isn't evaluated
-pub replied_unkept : (may_leave : Image → Type 0) (now : Shown) (session : Session) (was : Was) (work : Work) (basis : Ground) (text : List ℕ) (refusal : Refusal) → Fits text → IsNoFormText text → last_run_of session ≡ was.last_run → Kept (Ok (Some refusal)) may_leave now session work basis (DoIt text) → Replied (Ok (Refused refusal)) may_leave now session was work basis (Chunk (items.Plain text))
+pub replied_unkept : (may_leave : Image → Type 0) (now : Shown) (session : Session) (was : Was) (work : Work) (basis : Ground) (text : List ℕ) (refusal : Refusal) → Fits text → IsEvaluatedText text → last_run_of session ≡ was.last_run → Kept (Ok (Some refusal)) may_leave now session work basis (DoIt text) → Replied (Ok (Refused refusal)) may_leave now session was work basis (Chunk (items.Plain text))
 replied_unkept may_leave now session was work basis text refusal fits none same h =
     let r : Result (List Change) Refusal = add work.changes (DoIt text) in (
       evaluates text [] false,
@@ -86,7 +86,7 @@ replied_unkept may_leave now session was work basis text refusal fits none same 
     )
 
 -- a doIt that is kept
-module _ (may_leave : Image → Type 0) (now : Shown) (mid session : Session) (work : Work) (basis : Ground) (text : List ℕ) (fits : Fits text) (none : IsNoFormText text) (rest : session ≡ record mid { last_run = last_run_of session; held = session.held }) (held : held_of session ≡ held_of mid) (h : Kept (Ok None) may_leave now mid work basis (DoIt text)) where
+module _ (may_leave : Image → Type 0) (now : Shown) (mid session : Session) (work : Work) (basis : Ground) (text : List ℕ) (fits : Fits text) (none : IsEvaluatedText text) (rest : session ≡ record mid { last_run = last_run_of session; held = session.held }) (held : held_of session ≡ held_of mid) (h : Kept (Ok None) may_leave now mid work basis (DoIt text)) where
   is_at : IsAmid may_leave now session (adding work (DoIt text)) basis
   is_at = record {
     keeps = let P : KeeperState → Type 0 = λ k. Keeps now.tells now.files may_leave k basis.kept (adding work (DoIt text)).changes in subst P (sym (ap keeper_of rest)) h.1.keeps;

@@ -9,6 +9,7 @@ use Rattle.s80_disk.specs.Image.{Image}
 use Rattle.s80_disk.specs.Shown.{Shown, Faults}
 use Rattle.s80_keeper.specs.Keeper.{KeeperState, Keeps}
 use Rattle.s80_apply.specs.List.{add}
+use Rattle.s80_chunk.specs.declared.item.Item.{Item}
 use Rattle.s80_chunk.specs.declared.item.Item.TheVariants as items
 use Rattle.s80_chunk.specs.declared.item.Role.{Role}
 use Rattle.s80_chunk.specs.declared.item.Role.TheVariants as roles
@@ -200,7 +201,12 @@ held_run reply item before mid session keeper budget last h = run_kept item befo
 
 -- those behind what met no fault
 pub counts_then : {T U : Type 0} (item : SessionItem) (a m b : Faults) (value : T) (r : Result U SessionEnd) → (m ≡ a → Counts a b r × SourceCounts a b r) → CountsFor {T = T} item a m (Ok value) → CountsFor item a b r
-counts_then (Chunk item) a m b value r behind h = (behind h.reason).0
+counts_then (Chunk (items.Plain text)) a m b value r behind (inl h) = inl (behind h.reason).0
+counts_then (Chunk (items.Plain text)) a m b value r behind (inr (asks, h)) = inr (asks, (behind h.reason).1)
+counts_then (Chunk (items.Head text)) a m b value r behind h = (behind h.reason).0
+counts_then (Chunk (items.Method text)) a m b value r behind h = (behind h.reason).0
+counts_then (Chunk items.SectionEnd) a m b value r behind h = (behind h.reason).0
+counts_then (Chunk (items.TooLong role length)) a m b value r behind h = (behind h.reason).0
 counts_then Unended a m b value r behind h = (behind h.reason).0
 counts_then (Query queries.Recover) a m b value r behind h = (behind h.reason).0
 counts_then (Query queries.Classes) a m b value r behind h = (behind h.reason).0
@@ -226,7 +232,11 @@ source_counts a b (Err ends.TooLong) h = record { later = h.later; reason = h.re
 
 -- of any item
 pub any_counts : {U : Type 0} (item : SessionItem) (a b : Faults) (r : Result U SessionEnd) → Counts a b r → CountsFor item a b r
-any_counts (Chunk item) a b r h = h
+any_counts (Chunk (items.Plain text)) a b r h = inl h
+any_counts (Chunk (items.Head text)) a b r h = h
+any_counts (Chunk (items.Method text)) a b r h = h
+any_counts (Chunk items.SectionEnd) a b r h = h
+any_counts (Chunk (items.TooLong role length)) a b r h = h
 any_counts Unended a b r h = h
 any_counts (Query queries.Recover) a b r h = h
 any_counts (Query queries.Classes) a b r h = h
@@ -240,9 +250,21 @@ any_counts (Query (queries.FileOut contents.Set)) a b r h = source_counts a b r 
 any_counts (Query queries.Snapshot) a b r h = h
 any_counts (Query queries.Condense) a b r h = source_counts a b r h
 
+-- a chunk may ask to condense, and then damage may be met
+pub chunk_counts : {U : Type 0} (item : Item) (a b : Faults) (r : Result U SessionEnd) → CountsFor (Chunk item) a b r → SourceCounts a b r
+chunk_counts (items.Plain text) a b r (inl h) = source_counts a b r h
+chunk_counts (items.Plain text) a b r (inr (asks, h)) = h
+chunk_counts (items.Head text) a b r h = source_counts a b r h
+chunk_counts (items.Method text) a b r h = source_counts a b r h
+chunk_counts items.SectionEnd a b r h = source_counts a b r h
+chunk_counts (items.TooLong role length) a b r h = source_counts a b r h
+
 -- what follows what met no fault
 pub counts_on : {U : Type 0} (a m b : Faults) (r : Result U SessionEnd) → Counts m b r → m ≡ a → Counts a b r × SourceCounts a b r
 counts_on a m b r h same = let P : Faults → Type 0 = λ f. Counts f b r × SourceCounts f b r in subst P same (h, source_counts m b r h)
+
+pub sources_on : {U : Type 0} (a m b : Faults) (r : Result U SessionEnd) → SourceCounts m b r → m ≡ a → SourceCounts a b r
+sources_on a m b r h same = let P : Faults → Type 0 = λ f. SourceCounts f b r in subst P same h
 
 -- for memory, and for what is done
 pub memory_both : (a b : Faults) → b ≡ a → Counts {T = Unit {0}} a b (Err ends.Memory) × SourceCounts {T = Unit {0}} a b (Err ends.Memory)

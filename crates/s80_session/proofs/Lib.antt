@@ -6,12 +6,14 @@ pub mod Breaking
 pub mod Brief
 pub mod Condensing
 pub mod Evaluating
+pub mod FiledIn
 pub mod Finishing
 pub mod Flushing
 pub mod Fronts
 pub mod Grouped
 pub mod Grouping
 pub mod Holding
+pub mod Knowing
 pub mod Lawful
 pub mod Marking
 pub mod Noting

@@ -1,7 +1,7 @@
 -- The run of the doIt that was evaluated last, behind an item and behind many, whatever the outside tells.
 use Rattle.std.proofs.Common.{◌≡◌, ◌⊎◌, inl, inr, ℕ, List, refl, sym, ap, subst, ◌∙◌, Result, Ok, Err, Option}
 use Rattle.std.specs.Prelude.{IfErr}
-use Rattle.s80_form.specs.Form.{IsNoFormText}
+use Rattle.s80_form.specs.Form.{IsEvaluatedText}
 use Rattle.s80_chunk.specs.declared.item.Item.TheVariants as items
 use Rattle.s80_doit.specs.DoIt.{AreGiven, Fits, IsRunOf}
 use Rattle.s80_machine.specs.Came.{RanValue}
@@ -21,7 +21,7 @@ use Rattle.s80_session.proofs.Stepping.{IsStaying}
 -- ---- the last run
 
 -- a doIt that was evaluated
-pub ran_last : (before mid now : Session) (text : List ℕ) (reply : Reply) → Fits text → IsNoFormText text → Evaluates {E = Unit {0}} (Ok reply) mid now text → now ≡ record mid { last_run = last_run_of now; held = now.held } → RunAfterText (Ok reply) (Chunk (items.Plain text)) before now
+pub ran_last : (before mid now : Session) (text : List ℕ) (reply : Reply) → Fits text → IsEvaluatedText text → Evaluates {E = Unit {0}} (Ok reply) mid now text → now ≡ record mid { last_run = last_run_of now; held = now.held } → RunAfterText (Ok reply) (Chunk (items.Plain text)) before now
 ran_last before mid now text reply fits none (ran, given, run, evaluated, reply_is, last) rest =
     let P : Session → Type 0 = λ s. AreGiven (keeper_of s).system × IsRunOf (keeper_of s).system text (budget_of s) ran in
     let both = subst P (sym rest) (given, run) in

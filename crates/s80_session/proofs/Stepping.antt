@@ -108,7 +108,7 @@ plain_stays : (work : Work) (text : List ℕ) (ask : Ask) → AsksPlain text ask
 plain_stays work text (refuses refusal) h = refl
 plain_stays work text (adds change) h = refl
 plain_stays work text (evaluates own told stopped) h = refl
-plain_stays work text condenses h = absurd h
+plain_stays work text condenses h = refl
 plain_stays work text (opens head) h = absurd h
 plain_stays work text (refuses_head refusal) h = absurd h
 plain_stays work text (adds_source source) h = absurd h

@@ -1,11 +1,13 @@
 -- Why a run ends, and what its counts of faults say of that.
-use Rattle.std.specs.Prelude.{◌≡◌, ◌≤◌, Result, Ok, Err}
+use Rattle.std.specs.Prelude.{◌≡◌, ◌⊎◌, ◌≤◌, ℕ, List, Result, Ok, Err}
 use Rattle.s80_base.specs.Causes.{Rose}
+use Rattle.s80_chunk.specs.declared.item.Item.TheVariants as items
 use Rattle.s80_disk.specs.Shown.{Faults}
+use Rattle.s80_model.specs.Asked.{AsksPlain, condenses}
 use Rattle.s80_model.specs.declared.item.Filed.TheVariants.{Set}
 use Rattle.s80_model.specs.declared.item.Query.TheVariants.{Changes, Condense, FileOut, Source, Versions}
 use Rattle.s80_model.specs.declared.item.SessionItem.{SessionItem}
-use Rattle.s80_model.specs.declared.item.SessionItem.TheVariants.{Query}
+use Rattle.s80_model.specs.declared.item.SessionItem.TheVariants.{Chunk, Query}
 use Rattle.s80_session.specs.declared.end.SessionEnd.{SessionEnd}
 use Rattle.s80_session.specs.declared.end.SessionEnd.TheVariants as ends
 
@@ -86,6 +88,10 @@ pub record SourceCounts {T : Type 0} (before now : Faults) (result : Result T Se
   pub later : NoFewer before now
   pub reason : EndsForReasonOrDamage before now result
 
+-- the same of a plain text: it is so where the text asks to condense
+abbrev pub TextCounts : {T : Type 0} → List ℕ → Faults → Faults → Result T SessionEnd → Type 0
+TextCounts text before now result = Counts before now result ⊎ (AsksPlain text condenses × SourceCounts before now result)
+
 -- the counts of faults before and after an item
 abbrev pub CountsFor : {T : Type 0} → SessionItem → Faults → Faults → Result T SessionEnd → Type 0
 CountsFor (Query (Source spec selector)) before now result = SourceCounts before now result
@@ -93,6 +99,7 @@ CountsFor (Query (Versions spec selector)) before now result = SourceCounts befo
 CountsFor (Query Changes) before now result = SourceCounts before now result
 CountsFor (Query (FileOut Set)) before now result = SourceCounts before now result
 CountsFor (Query Condense) before now result = SourceCounts before now result
+CountsFor (Chunk (items.Plain text)) before now result = TextCounts text before now result
 CountsFor item before now result = Counts before now result
 
 -- the same for a start: it meets no fault of the input or the output

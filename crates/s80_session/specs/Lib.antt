@@ -8,3 +8,5 @@ pub mod Session
 pub mod LastRun
 pub mod Working
 pub mod Files
+pub mod Known
+pub mod FiledIn

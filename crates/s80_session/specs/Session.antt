@@ -2,7 +2,7 @@
 use Rattle.std.specs.Prelude.{◌≡◌, ◌⊎◌, ◌<◌, ◌||◌, ◌++◌, ℕ, Bool, List, [], length, Option, None, Some, Result, Ok, Err, take}
 use Rattle.std.specs.Int.NonZero.{non_zero_u32_get}
 use Rattle.std.specs.Io.KnownBytes.{Appends}
-use Rattle.s80_form.specs.Form.{IsNoFormText}
+use Rattle.s80_form.specs.Form.{IsEvaluatedText}
 use Rattle.s80_chunk.specs.declared.item.Item.TheVariants as items
 use Rattle.s80_apply.specs.System.{SystemState}
 use Rattle.s80_doit.specs.DoIt.{AreGiven, Fits, IsRunOf}
@@ -107,7 +107,7 @@ pub record HasBegun (ticks versions : ℕ) (session : Session) : Type 0 where
 
 -- this item is a doIt, and its text's run among these classes and methods is this
 abbrev pub IsRunFor : SessionItem → SystemState → ℕ → Option RanValue → Type 0
-IsRunFor (Chunk (items.Plain text)) system budget last = Fits text × IsNoFormText text × AreGiven system × (ran : RanValue) × IsRunOf system text budget ran × (last ≡ Some ran)
+IsRunFor (Chunk (items.Plain text)) system budget last = Fits text × IsEvaluatedText text × AreGiven system × (ran : RanValue) × IsRunOf system text budget ran × (last ≡ Some ran)
 IsRunFor _ system budget last = ⊥
 
 -- among those that there are it is the last

@@ -25,7 +25,7 @@ use Rattle.s80_doit.specs.Answer.{EvaluatesTo}
 use Rattle.s80_doit.specs.DoIt.{AreGiven, IsRunOf, is_stopped}
 use Rattle.s80_machine.specs.Came.{RanValue}
 use Rattle.s80_print.specs.Outcome.{outcome_text}
-use Rattle.s80_model.specs.Asked.{Ask, AsksPlain, adds, evaluates, snapshot_note}
+use Rattle.s80_model.specs.Asked.{Ask, AsksPlain, adds, condenses, evaluates, snapshot_note}
 use Rattle.s80_model.specs.Replies.{IsAnswer, Work, AsksIn, AllAsk, begun, kept, list_or, reply_to_adding, reply_to, reply_text, is_trouble, work_after, work_after_all, list_after_all, replies, any_trouble}
 use Rattle.s80_model.specs.Section.{IsBriefSection}
 use Rattle.s80_model.specs.Settings.{Settings}
@@ -397,9 +397,10 @@ abbrev pub AnswersLeave : Bool → Work → List ℕ → List ℕ → ℕ → Im
 AnswersLeave ended work before bytes told c =
     (asks : List Ask) × BeginsAsking work ended bytes asks × HasKept (list_after_all work asks) (length (before ++ replies work asks)) told c
 
--- an item whose change is no more than pending behind it: a chunk that doesn't ask for a snapshot, or what is left at the end of the input
+-- an item whose change is no more than pending behind it: a chunk that asks neither for a snapshot nor to condense, or what is left at the end
+-- of the input
 abbrev pub IsGrouped : SessionItem → Type 0
-IsGrouped (Chunk (items.Plain text)) = AsksPlain text (adds (changes.DoIt snapshot_note)) → ⊥
+IsGrouped (Chunk (items.Plain text)) = (AsksPlain text (adds (changes.DoIt snapshot_note)) → ⊥) × (AsksPlain text condenses → ⊥)
 IsGrouped (Chunk item) = Unit {0}
 IsGrouped Unended = Unit {0}
 IsGrouped (Query query) = ⊥

@@ -10,6 +10,7 @@ ghost use Rattle.s80_model.specs.Replies.{Work};
 ghost use Rattle.s80_model.specs.declared.item.SessionItem.{SessionItem};
 ghost use Rattle.s80_session.specs.Ending.{MeetsNoDamage, OnOkOrMemory, SourceCounts};
 ghost use Rattle.s80_session.specs.Files.{IsElsewhere, IsUnwritten};
+ghost use Rattle.s80_session.specs.Known.{IsKnowing, StaysKnowing};
 ghost use Rattle.s80_session.specs.Replies.{HasRoom};
 
 use crate::end::SessionEnd;
@@ -45,6 +46,7 @@ impl Session {
             → LeavesOnly O.moment O.left_since outside.old outside.new (IsElsewhere (O.may_leave outside.old) (IsUnwritten item (keeper_of self.old).log.number)) }
         ensures sound { IsTrue (O.shown outside.old).tells → (changes : List Change) → Knows (O.shown outside.old).files (keeper_of self.old) changes
             → IsBuilt changes → MeetsNoDamage result }
+        ensures known { IsKnowing (O.shown outside.old) self.old → StaysKnowing result (O.shown outside.new) self.new }
         ensures rest { HasSameRest self.old self.new }
         ensures unput { IsResting self.old → (O.shown outside.new).taken ≡ (O.shown outside.old).taken }
         ensures held { (held_of self.new ≡ held_of self.old) ⊎ (held_of self.new ≡ []) }
@@ -53,6 +55,7 @@ impl Session {
             ⊎ ((keeper_of self.new).log.number ≡ 1 - (keeper_of self.old).log.number) }
         ensures faultless { OnOkOrMemory result (IsFaultless self.new) }
         ensures left { (O.shown outside.new).left ≡ (O.shown outside.old).left }
+        ensures tells { (O.shown outside.new).tells ≡ (O.shown outside.old).tells }
         ensures ends { IfErr result IsWorkEnd }
         ensures ends_at_rest { IsResting self.old → IfErr result IsKeepEnd }
         ensures counts { SourceCounts (O.faults outside.old) (O.faults outside.new) result }

@@ -3,7 +3,8 @@ ghost use Rattle.std.specs.Prelude.{◌≡◌, ◌+◌, ◌^◌, ◌≤◌, ◌<
 ghost use Rattle.s80_chunk.specs.declared.item.Item.{Item};
 ghost use Rattle.s80_chunk.specs.Chunks.{IsSound};
 ghost use Rattle.s80_chunk.specs.Held.{HasRead, HoldsNoMore, IsSpent, fed, work_of};
-ghost use Rattle.s80_session.specs.Ending.{Counts};
+ghost use Rattle.s80_session.specs.Ending.{Counts, SourceCounts};
+ghost use Rattle.s80_session.specs.Known.{IsKnowing, StaysKnowing};
 ghost use Rattle.s80_disk.specs.declared.disk.FileId.{FileId};
 ghost use Rattle.s80_disk.specs.Moments.{LeavesOnly};
 ghost use Rattle.s80_keeper.specs.Keeper.{pending_of};
@@ -89,6 +90,7 @@ impl Session {
             → LeavesOnly O.moment O.left_since outside.old outside.new (FlushLeaves work basis) }
         ensures rest { HasSameRest self.old self.new }
         ensures left { (O.shown outside.new).left ≡ (O.shown outside.old).left }
+        ensures tells { (O.shown outside.new).tells ≡ (O.shown outside.old).tells }
         ensures counts { Counts (O.faults outside.old) (O.faults outside.new) result }
     {
         match reader.next_item(alloc) {
@@ -114,7 +116,9 @@ impl Session {
             → IsWorking (O.may_leave outside.old) (O.shown outside.old) self.old reader.old was work before bytes given
             → LeavesOnly O.moment O.left_since outside.old outside.new (AnswersLeave reader.old.ended work before bytes) }
         ensures left { (O.shown outside.new).left ≡ (O.shown outside.old).left }
-        ensures counts { Counts (O.faults outside.old) (O.faults outside.new) result }
+        ensures tells { (O.shown outside.new).tells ≡ (O.shown outside.old).tells }
+        ensures known { IsKnowing (O.shown outside.old) self.old → StaysKnowing result (O.shown outside.new) self.new }
+        ensures counts { SourceCounts (O.faults outside.old) (O.faults outside.new) result }
         ensures last_run { RunSince self.old self.new }
         ensures faultless { OnOk result (IsFaultless self.new) }
         ensures little { OnOk result (HasLittle self.new) }
@@ -155,7 +159,9 @@ impl Session {
             → (input left : List ℕ) → input ≡ (bytes ++ piece.now) ++ left
             → LeavesOnly O.moment O.left_since outside.old outside.new (Keeps work input before) }
         ensures left { (O.shown outside.new).left ≡ (O.shown outside.old).left }
-        ensures counts { Counts (O.faults outside.old) (O.faults outside.new) result }
+        ensures tells { (O.shown outside.new).tells ≡ (O.shown outside.old).tells }
+        ensures known { IsKnowing (O.shown outside.old) self.old → StaysKnowing result (O.shown outside.new) self.new }
+        ensures counts { SourceCounts (O.faults outside.old) (O.faults outside.new) result }
         ensures last_run { RunSince self.old self.new }
         ensures faultless { OnOk result (IsFaultless self.new) }
         ensures little { OnOk result (HasLittle self.new) }
@@ -193,7 +199,9 @@ impl Session {
         ensures any_moment { (was : Was) (work : Work) (input before : List ℕ) → (O.shown outside.old).left ≡ Some input
             → IsDone (O.may_leave outside.old) (O.shown outside.old) self.old reader.old was work before [] []
             → LeavesOnly O.moment O.left_since outside.old outside.new (Keeps work input before) }
-        ensures counts { Counts (O.faults outside.old) (O.faults outside.new) result }
+        ensures tells { (O.shown outside.new).tells ≡ (O.shown outside.old).tells }
+        ensures known { IsKnowing (O.shown outside.old) self.old → StaysKnowing result (O.shown outside.new) self.new }
+        ensures counts { SourceCounts (O.faults outside.old) (O.faults outside.new) result }
         ensures last_run { RunSince self.old self.new }
         ensures resting { OnOk result (IsResting self.new) }
         ensures reading { OnOk result (HasReadSome reader.new) }
@@ -228,7 +236,10 @@ impl Session {
             → LeavesOnly O.moment O.left_since outside.old outside.new (Keeps work input before) }
         // The last run is the one before, or that of a doIt, whatever the outside tells.
         ensures last_run { RunSince self.old self.new }
-        ensures counts { Counts (O.faults outside.old) (O.faults outside.new) result }
+        // Where the disk reads as the session knows no damage is met, whatever a crash may leave.
+        ensures tells { (O.shown outside.new).tells ≡ (O.shown outside.old).tells }
+        ensures known { IsKnowing (O.shown outside.old) self.old → StaysKnowing result (O.shown outside.new) self.new }
+        ensures counts { SourceCounts (O.faults outside.old) (O.faults outside.new) result }
         ensures resting { OnOk result (IsResting self.new) }
     {
         let mut buf = zeros(alloc, GROUP)?;
@@ -256,7 +267,9 @@ impl Session {
             → AtEnd (O.may_leave outside.old) (O.shown outside.old) self.old reader.old was work input before
             → LeavesOnly O.moment O.left_since outside.old outside.new (Keeps work input before) }
         ensures left { (O.shown outside.new).left ≡ (O.shown outside.old).left }
-        ensures counts { Counts (O.faults outside.old) (O.faults outside.new) result }
+        ensures tells { (O.shown outside.new).tells ≡ (O.shown outside.old).tells }
+        ensures known { IsKnowing (O.shown outside.old) self.old → StaysKnowing result (O.shown outside.new) self.new }
+        ensures counts { SourceCounts (O.faults outside.old) (O.faults outside.new) result }
         ensures last_run { RunSince self.old self.new }
         ensures faultless { OnOk result (IsFaultless self.new) }
     {

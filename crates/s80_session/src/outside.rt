@@ -44,6 +44,7 @@ pub(crate) fn start_keeper<O: Outside>(alloc: Global, outside: &mut O) -> Result
         → Started result (O.shown outside.new).tells (O.shown outside.new).files (O.may_leave outside.new) changes }
     ensures faultless { IfOk result (λ keeper. keeper.fault ≡ None) }
     ensures settled { IfOk result (λ keeper. pending_of keeper ≡ 0) }
+    ensures whole { IsTrue (O.shown outside.old).tells → IfOk result (λ keeper. keeper.log.end ≤ length ((O.shown outside.new).files (log_file keeper.log.number))) }
     ensures untouched { IsTrue (O.shown outside.old).tells → 0 < longer_log (O.shown outside.old).files
         → (file : FileId) → (O.shown outside.new).files file ≡ (O.shown outside.old).files file }
     ensures others { (other : FileId) → other ≢ Mark → (O.shown outside.new).files other ≡ (O.shown outside.old).files other }
@@ -78,6 +79,10 @@ pub(crate) fn keep_later<O: Outside>(
     ensures any_moment { (kept all : List Change)
         → Keeps (O.shown outside.old).tells (O.shown outside.old).files (O.may_leave outside.old) keeper.old kept all
         → LeavesOnly O.moment O.left_since outside.old outside.new (HasKept kept (O.shown outside.old).told) }
+    // Whatever a crash may leave.
+    ensures written { (changes : List Change) → HasWritten (O.shown outside.old).tells (O.shown outside.old).files keeper.old changes → IsLawful prepared.change
+        → IsFor (state_of changes) keeper.old.system prepared → PlacesFor (placed_of changes) keeper.old.system prepared
+        → OnOk result (HasWritten (O.shown outside.new).tells (O.shown outside.new).files keeper.new (changes ++ prepared.change ∷ [])) }
     // Whatever the disk stands for.
     ensures elsewhere { LeavesOnly O.moment O.left_since outside.old outside.new
         (LeavesBeside (O.may_leave outside.old) (O.shown outside.old).told (log_file keeper.old.log.number) (λ c. ⊤)) }
@@ -103,6 +108,9 @@ pub(crate) fn commit<O: Outside>(keeper: &mut Keeper, outside: &mut O) -> Result
     ensures any_moment { (kept all : List Change)
         → Keeps (O.shown outside.old).tells (O.shown outside.old).files (O.may_leave outside.old) keeper.old kept all
         → LeavesOnly O.moment O.left_since outside.old outside.new (LeavesEither (O.shown outside.old).told kept all) }
+    // Whatever a crash may leave.
+    ensures written { (changes : List Change) → HasWritten (O.shown outside.old).tells (O.shown outside.old).files keeper.old changes
+        → OnOk result (HasWritten (O.shown outside.new).tells (O.shown outside.new).files keeper.new changes) }
     // Whatever the disk stands for.
     ensures elsewhere { LeavesOnly O.moment O.left_since outside.old outside.new
         (LeavesBeside (O.may_leave outside.old) (O.shown outside.old).told (log_file keeper.old.log.number) (λ c. ⊤)) }

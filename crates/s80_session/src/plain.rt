@@ -15,12 +15,13 @@ pub(crate) enum Plain {
     Form(Form),
     /// To take a snapshot.
     Snapshot,
+    /// To condense.
+    Condense,
     /// To evaluate this text, whose tree this is.
     Evaluate(Text, MethodTree),
 }
 
-/// What a plain text asks, or why it is refused by itself: it has no tree, or one that doesn't fit a machine. It is parsed once. One that asks to
-/// condense is evaluated as every other doIt is.
+/// What a plain text asks, or why it is refused by itself: it has no tree, or one that doesn't fit a machine. It is parsed once.
 pub(crate) fn plain_of(alloc: Global, text: Text) -> Result<Plain, Refused>
     requires { length text ≤ 65535 }
     ensures { IsPlain text result }
@@ -33,7 +34,7 @@ pub(crate) fn plain_of(alloc: Global, text: Text) -> Result<Plain, Refused>
     let method = fitting_doit(alloc, tree)?;
     match recognised {
         Recognised::Form(form) => Ok(Plain::Form(form)),
-        Recognised::Condense => Ok(Plain::Evaluate(text, method)),
+        Recognised::Condense => Ok(Plain::Condense),
         Recognised::Snapshot => Ok(Plain::Snapshot),
         Recognised::Evaluate => Ok(Plain::Evaluate(text, method)),
     }

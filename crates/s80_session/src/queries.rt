@@ -58,6 +58,7 @@ impl Session {
         ensures budget { budget_of self.new ≡ budget_of self.old }
         ensures faultless { OnOkOrMemory result (IsFaultless self.new) }
         ensures left { (O.shown outside.new).left ≡ (O.shown outside.old).left }
+        ensures tells { (O.shown outside.new).tells ≡ (O.shown outside.old).tells }
         ensures taken { (O.shown outside.new).taken ≡ (O.shown outside.old).taken }
         ensures held { held_of self.new ≡ held_of self.old }
         ensures room { 3 ≤ room_of self.old → IfOk result (λ reply. HasRoom reply (room_of self.new)) }

@@ -13,10 +13,12 @@ ghost use Rattle.s80_keeper.specs.Standing.{FilesStandFor, LeavesEither, ReadsFo
 ghost use Rattle.s80_keeper.specs.Start.{StartLeaves};
 ghost use Rattle.s80_model.specs.Asked.{adds, condenses, snapshot_note, Asks};
 ghost use Rattle.s80_model.specs.Replies.{is_trouble, reply_text, Work};
-ghost use Rattle.s80_model.specs.Section.{section_or};
+ghost use Rattle.s80_model.specs.Section.{section_or, IsBriefSection};
 ghost use Rattle.s80_model.specs.Settings.{Settings};
 ghost use Rattle.s80_session.specs.Ending.{Counts, CountsFor, MeetsNoDamage, NoFewer, OnOkOrMemory, StartsForReason};
 ghost use Rattle.s80_session.specs.Files.{IsAsking, IsAsLeft, IsElsewhere, IsOther, IsUnwritten, LogAfter};
+ghost use Rattle.s80_session.specs.FiledIn.{PutsFile};
+ghost use Rattle.s80_session.specs.Known.{IsFed, IsKnowing, IsLawfulAnywhere, StaysKnowing};
 ghost use Rattle.s80_session.specs.Putting.{IsAsBefore};
 ghost use Rattle.s80_session.specs.Replies.{HasRoom, HasRoomFor, LacksRoom};
 ghost use Rattle.s80_session.specs.Run.{HasKept, ShownFor};
@@ -32,6 +34,7 @@ use s80_change::{Change, Source};
 use s80_chunk::{Item, LONGEST, Role};
 use s80_disk::Outside;
 use s80_doit::{answer as answer_of, compile, evaluate, is_stopped};
+use s80_filing::{a_change_set_files_in, all_classes_file_in};
 use s80_form::{FitWord, Refusal, Refused};
 use s80_keeper::Keeper;
 use s80_machine::Ran;
@@ -62,7 +65,7 @@ pub struct Session {
 }
 
 impl Session {
-    ghost use Rattle.s80_form.specs.Form.{IsNoFormText};
+    ghost use Rattle.s80_form.specs.Form.{IsEvaluatedText};
     ghost use Rattle.s80_chunk.specs.Chunks.{IsChunkText, longest};
     ghost use Rattle.s80_doit.specs.DoIt.{IsDoItCode, IsMethodOfDoIt};
     ghost use Rattle.s80_session.specs.Ending.{IsDiskEnd, IsFlushEnd, IsKeepEnd, IsWorkEnd, IsWriteEnd};
@@ -102,6 +105,7 @@ impl Session {
         ensures resting { IfOk result IsResting }
         ensures untroubled { IfOk result (λ session. troubled_of session ≡ false) }
         ensures begun { IfOk result (HasBegun budget keep) }
+        ensures known { IfOk result (IsKnowing (O.shown outside.new)) }
         ensures later { NoFewer (O.faults outside.old) (O.faults outside.new) }
         ensures reason { StartsForReason (O.faults outside.old) (O.faults outside.new) result }
     {
@@ -145,6 +149,10 @@ impl Session {
         ensures any_moment { (work : Work) (put : List ℕ) → IsReadable item
             → IsAt (O.may_leave outside.old) (O.shown outside.old) self.old work put
             → LeavesOnly O.moment O.left_since outside.old outside.new (StepLeaves work put item) }
+        // What it files out of all classes, and of the change set, files in again.
+        ensures files_in { (work : Work) (put : List ℕ) → IsReadable item
+            → IsAt (O.may_leave outside.old) (O.shown outside.old) self.old work put
+            → OnOk result (PutsFile work item put (O.shown outside.new).taken) }
         // Whatever the disk stands for, files that the item doesn't write stay, in what is read and at any moment.
         ensures others { (other : FileId) → IsUnwritten item (keeper_of self.old).log.number other → (O.shown outside.new).files other ≡ (O.shown outside.old).files other }
         ensures elsewhere { LeavesOnly O.moment O.left_since outside.old outside.new (IsElsewhere (O.may_leave outside.old) (IsUnwritten item (keeper_of self.old).log.number)) }
@@ -161,12 +169,14 @@ impl Session {
         ensures left { (O.shown outside.new).left ≡ (O.shown outside.old).left }
         ensures counts { CountsFor item (O.faults outside.old) (O.faults outside.new) result }
     {
+        all_classes_file_in();
+        a_change_set_files_in();
         self.work(alloc, item, outside)?;
         self.flush(outside)
     }
 
-    /// Works one item, and holds its reply until a flush. What a chunk changes is pending until then; before a query, and the form of a
-    /// snapshot, all that is pending and held is flushed. So it is where memory is wanting.
+    /// Works one item, and holds its reply until a flush. What a chunk changes is pending until then; before a query, and the forms of a
+    /// snapshot and of condensing, all that is pending and held is flushed. So it is where memory is wanting.
     pub fn work<O: Outside>(
         &mut self,
         alloc: Global,
@@ -180,8 +190,8 @@ impl Session {
         ensures any_moment { (work : Work) (basis : Ground) → IsReadable item
             → IsAmid (O.may_leave outside.old) (O.shown outside.old) self.old work basis
             → LeavesOnly O.moment O.left_since outside.old outside.new (WorkLeaves work basis item) }
-        // Nothing is put and the mark stays where a chunk is worked that asks for no snapshot, and at any moment a crash leaves the list that was
-        // kept before.
+        // Nothing is put and the mark stays where a chunk is worked that asks neither for a snapshot nor to condense, and at any moment a crash
+        // leaves the list that was kept before.
         ensures grouped { (work : Work) (basis : Ground) → IsReadable item → IsGrouped item
             → IsAmid (O.may_leave outside.old) (O.shown outside.old) self.old work basis
             → OnOk result (LeavesOnly O.moment O.left_since outside.old outside.new (HasKept basis.kept (length basis.put))) }
@@ -204,6 +214,8 @@ impl Session {
         ensures unput { IsResting self.old → (O.shown outside.new).taken ≡ (O.shown outside.old).taken }
         ensures settled { IsAsking item → IsResting self.old → OnOk result (pending_of (keeper_of self.new) ≡ 0) }
         ensures left { (O.shown outside.new).left ≡ (O.shown outside.old).left }
+        ensures tells { (O.shown outside.new).tells ≡ (O.shown outside.old).tells }
+        ensures known { IsReadable item → IsFed item → IsKnowing (O.shown outside.old) self.old → StaysKnowing result (O.shown outside.new) self.new }
         ensures counts { CountsFor item (O.faults outside.old) (O.faults outside.new) result }
     {
         let Err(end) = self.work_item(alloc, item, outside) else {
@@ -232,6 +244,7 @@ impl Session {
         ensures log { (keeper_of self.new).log ≡ (keeper_of self.old).log }
         ensures unheld { held_of self.old ≡ [] → (O.shown outside.new).taken ≡ (O.shown outside.old).taken }
         ensures left { (O.shown outside.new).left ≡ (O.shown outside.old).left }
+        ensures tells { (O.shown outside.new).tells ≡ (O.shown outside.old).tells }
         ensures counts { Counts {T = Unit {0}} (O.faults outside.old) (O.faults outside.new) (Err result) }
     {
         match self.flush(outside) {
@@ -270,7 +283,9 @@ impl Session {
         ensures log { (keeper_of self.new).log ≡ (keeper_of self.old).log }
         ensures shown { O.shown outside.new ≡ record (O.shown outside.old) { files = (O.shown outside.new).files; taken = (O.shown outside.new).taken; told = (O.shown outside.new).told } }
         ensures left { (O.shown outside.new).left ≡ (O.shown outside.old).left }
+        ensures tells { (O.shown outside.new).tells ≡ (O.shown outside.old).tells }
         ensures ends { IfErr result IsFlushEnd }
+        ensures known { IsKnowing (O.shown outside.old) self.old → StaysKnowing result (O.shown outside.new) self.new }
         ensures counts { Counts (O.faults outside.old) (O.faults outside.new) result }
     {
         self.commit(outside)?;
@@ -298,6 +313,7 @@ impl Session {
         ensures settled { OnOk result (pending_of (keeper_of self.new) ≡ 0) }
         ensures shown { O.shown outside.new ≡ record (O.shown outside.old) { files = (O.shown outside.new).files } }
         ensures ends { IfErr result IsDiskEnd }
+        ensures known { IsKnowing (O.shown outside.old) self.old → StaysKnowing result (O.shown outside.new) self.new }
         ensures counts { Counts (O.faults outside.old) (O.faults outside.new) result }
     {
         if let Err(fault) = commit(&mut self.keeper, outside) {
@@ -367,6 +383,8 @@ impl Session {
         ensures unheld { IsResting self.old → OnErr result (held_of self.new ≡ []) }
         ensures settled { IsAsking item → IsResting self.old → OnOkOrMemory result (pending_of (keeper_of self.new) ≡ 0) }
         ensures left { (O.shown outside.new).left ≡ (O.shown outside.old).left }
+        ensures tells { (O.shown outside.new).tells ≡ (O.shown outside.old).tells }
+        ensures known { IsReadable item → IsFed item → IsKnowing (O.shown outside.old) self.old → StaysKnowing result (O.shown outside.new) self.new }
         ensures counts { CountsFor item (O.faults outside.old) (O.faults outside.new) result }
     {
         self.held.reserve(ACCEPTED.len())?;
@@ -450,7 +468,12 @@ impl Session {
         ensures unput { IsResting self.old → (O.shown outside.new).taken ≡ (O.shown outside.old).taken }
         ensures settled { IsAsking item → IsResting self.old → OnOkOrMemory result (pending_of (keeper_of self.new) ≡ 0) }
         ensures left { (O.shown outside.new).left ≡ (O.shown outside.old).left }
+        ensures tells { (O.shown outside.new).tells ≡ (O.shown outside.old).tells }
         ensures ends { IfErr result IsWorkEnd }
+        ensures known { IsReadable item → IsFed item → IsKnowing (O.shown outside.old) self.old → StaysKnowing result (O.shown outside.new) self.new }
+        // The section that is answered is brief.
+        ensures brief { IsReadable item → IsFed item → IsKnowing (O.shown outside.old) self.old → IsTrue (O.shown outside.new).tells
+            → IfOk result (λ answer. IsBriefSection (section_or answer.section (section_of self.new))) }
         ensures counts { CountsFor item (O.faults outside.old) (O.faults outside.new) result }
     {
         match item {
@@ -478,8 +501,8 @@ impl Session {
         }
     }
 
-    /// Keeps the change that a plain text is, or the note of the snapshot that it asks for, and evaluates it where it is a doIt. Refuses every
-    /// other text: one that is too long, has no tree, or doesn't fit a machine.
+    /// Keeps the change that a plain text is, or the note of the snapshot that it asks for, or condenses, or evaluates a doIt that it keeps.
+    /// Refuses every other text: one that is too long, has no tree, or doesn't fit a machine.
     fn keep_text<O: Outside>(
         &mut self,
         alloc: Global,
@@ -499,20 +522,24 @@ impl Session {
         ensures unmarked { IsChunkText text → length text ≤ longest → IsGrouped (SessionItem.Chunk (items.Plain text)) → (O.shown outside.new).files Mark ≡ (O.shown outside.old).files Mark }
         ensures silent { IsChunkText text → length text ≤ longest → IsGrouped (SessionItem.Chunk (items.Plain text))
             → ((O.shown outside.new).taken ≡ (O.shown outside.old).taken) × (held_of self.new ≡ held_of self.old) }
-        // Whatever the disk stands for, but for the mark and the log the files stay, in what is read and at any moment.
-        ensures others { (other : FileId) → other ≢ Mark → other ≢ log_file (keeper_of self.old).log.number → (O.shown outside.new).files other ≡ (O.shown outside.old).files other }
-        ensures elsewhere { LeavesOnly O.moment O.left_since outside.old outside.new (IsElsewhere (O.may_leave outside.old) (IsOther (keeper_of self.old).log.number)) }
+        // Whatever the disk stands for, files that the text doesn't write stay, in what is read and at any moment.
+        ensures others { (other : FileId) → IsUnwritten (SessionItem.Chunk (items.Plain text)) (keeper_of self.old).log.number other → (O.shown outside.new).files other ≡ (O.shown outside.old).files other }
+        ensures elsewhere { LeavesOnly O.moment O.left_since outside.old outside.new (IsElsewhere (O.may_leave outside.old) (IsUnwritten (SessionItem.Chunk (items.Plain text)) (keeper_of self.old).log.number)) }
+        ensures sound { IsTrue (O.shown outside.old).tells → (changes : List Change) → Knows (O.shown outside.old).files (keeper_of self.old) changes
+            → (Asks (SessionItem.Chunk (items.Plain text)) condenses → IsBuilt changes) → MeetsNoDamage result }
         ensures troubled { troubled_of self.new ≡ troubled_of self.old }
         ensures last_run { RunAfterText result (SessionItem.Chunk (items.Plain text)) self.old self.new }
         ensures budget { budget_of self.new ≡ budget_of self.old }
         ensures faultless { OnOkOrMemory result (IsFaultless self.new) }
         ensures left { (O.shown outside.new).left ≡ (O.shown outside.old).left }
+        ensures tells { (O.shown outside.new).tells ≡ (O.shown outside.old).tells }
         ensures unput { IsResting self.old → (O.shown outside.new).taken ≡ (O.shown outside.old).taken }
         ensures held { (held_of self.new ≡ held_of self.old) ⊎ (held_of self.new ≡ []) }
         ensures room { 3 ≤ room_of self.old → IfOk result (λ reply. HasRoom reply (room_of self.new)) }
-        ensures log { (keeper_of self.new).log.number ≡ (keeper_of self.old).log.number }
+        ensures log { LogAfter (SessionItem.Chunk (items.Plain text)) (keeper_of self.old).log.number (keeper_of self.new).log.number }
         ensures ends { IfErr result IsWorkEnd }
-        ensures counts { Counts (O.faults outside.old) (O.faults outside.new) result }
+        ensures known { IsChunkText text → length text ≤ longest → IsKnowing (O.shown outside.old) self.old → StaysKnowing result (O.shown outside.new) self.new }
+        ensures counts { CountsFor (SessionItem.Chunk (items.Plain text)) (O.faults outside.old) (O.faults outside.new) result }
     {
         accepted_forms_are_lawful();
         let length = text.bytes().len();
@@ -526,6 +553,7 @@ impl Session {
                 Ok(reply_to_keeping(refusal))
             }
             Ok(Plain::Snapshot) => self.keep_note(alloc, outside),
+            Ok(Plain::Condense) => self.condense(alloc, outside),
             Ok(Plain::Evaluate(text, method)) => self.keep_doit(alloc, text, &method, outside),
             Err(Refused::Memory) => Err(SessionEnd::Memory),
             Err(Refused::Refusal(refusal)) => Ok(Reply::Refused(refusal)),
@@ -542,25 +570,27 @@ impl Session {
     ) -> Result<Reply, SessionEnd>
         requires faultless { IsFaultless self.old }
         requires method { IsMethodOfDoIt text method.now }
-        ensures replied { (work : Work) (basis : Ground) → IsChunkText text → length text ≤ longest → IsNoFormText text
+        ensures replied { (work : Work) (basis : Ground) → IsChunkText text → length text ≤ longest → IsEvaluatedText text
             → IsAmid (O.may_leave outside.old) (O.shown outside.old) self.old work basis
             → Replied result (O.may_leave outside.new) (O.shown outside.new) self.new (was_of self.old) work basis (SessionItem.Chunk (items.Plain text)) }
-        ensures any_moment { (work : Work) (basis : Ground) → IsChunkText text → length text ≤ longest → IsNoFormText text
+        ensures any_moment { (work : Work) (basis : Ground) → IsChunkText text → length text ≤ longest → IsEvaluatedText text
             → IsAmid (O.may_leave outside.old) (O.shown outside.old) self.old work basis
             → LeavesOnly O.moment O.left_since outside.old outside.new (HasKept basis.kept (length basis.put)) }
         // Whatever the disk stands for, but for the log the files stay, and at any moment but for the mark and the log.
         ensures others { (other : FileId) → other ≢ log_file (keeper_of self.old).log.number → (O.shown outside.new).files other ≡ (O.shown outside.old).files other }
         ensures elsewhere { LeavesOnly O.moment O.left_since outside.old outside.new (IsElsewhere (O.may_leave outside.old) (IsOther (keeper_of self.old).log.number)) }
         ensures troubled { troubled_of self.new ≡ troubled_of self.old }
-        ensures last_run { IsNoFormText text → RunAfterText result (SessionItem.Chunk (items.Plain text)) self.old self.new }
+        ensures last_run { IsEvaluatedText text → RunAfterText result (SessionItem.Chunk (items.Plain text)) self.old self.new }
         ensures budget { budget_of self.new ≡ budget_of self.old }
         ensures faultless { OnOkOrMemory result (IsFaultless self.new) }
         ensures left { (O.shown outside.new).left ≡ (O.shown outside.old).left }
+        ensures tells { (O.shown outside.new).tells ≡ (O.shown outside.old).tells }
         ensures taken { (O.shown outside.new).taken ≡ (O.shown outside.old).taken }
         ensures held { held_of self.new ≡ held_of self.old }
         ensures room { 3 ≤ room_of self.old → IfOk result (λ reply. HasRoom reply (room_of self.new)) }
         ensures log { (keeper_of self.new).log.number ≡ (keeper_of self.old).log.number }
         ensures ends { IfErr result IsKeepEnd }
+        ensures known { IsChunkText text → length text ≤ longest → IsEvaluatedText text → IsKnowing (O.shown outside.old) self.old → StaysKnowing result (O.shown outside.new) self.new }
         ensures counts { Counts (O.faults outside.old) (O.faults outside.new) result }
     {
         let code = compile(alloc, self.keeper.system(), method)?;
@@ -610,11 +640,13 @@ impl Session {
         ensures budget { budget_of self.new ≡ budget_of self.old }
         ensures faultless { OnOkOrMemory result (IsFaultless self.new) }
         ensures left { (O.shown outside.new).left ≡ (O.shown outside.old).left }
+        ensures tells { (O.shown outside.new).tells ≡ (O.shown outside.old).tells }
         ensures taken { (O.shown outside.new).taken ≡ (O.shown outside.old).taken }
         ensures held { self.new.held ≡ self.old.held }
         ensures room { 3 ≤ room_of self.old → IfOk result (λ reply. HasRoom reply (room_of self.new)) }
         ensures log { (keeper_of self.new).log.number ≡ (keeper_of self.old).log.number }
         ensures ends { IfErr result IsKeepEnd }
+        ensures known { IsChunkText source → length source ≤ longest → IsKnowing (O.shown outside.old) self.old → StaysKnowing result (O.shown outside.new) self.new }
         ensures counts { Counts (O.faults outside.old) (O.faults outside.new) result }
     {
         classes_are_named();
@@ -657,8 +689,10 @@ impl Session {
         ensures log { (keeper_of self.new).log.number ≡ (keeper_of self.old).log.number }
         ensures faultless { OnOkOrMemory result (IsFaultless self.new) }
         ensures left { (O.shown outside.new).left ≡ (O.shown outside.old).left }
+        ensures tells { (O.shown outside.new).tells ≡ (O.shown outside.old).tells }
         ensures ends { IfErr result IsWorkEnd }
         ensures ends_at_rest { IsResting self.old → IfErr result IsKeepEnd }
+        ensures known { IsKnowing (O.shown outside.old) self.old → StaysKnowing result (O.shown outside.new) self.new }
         ensures counts { Counts (O.faults outside.old) (O.faults outside.new) result }
     {
         self.flush(outside)?;
@@ -688,9 +722,12 @@ impl Session {
         ensures rest { self.new ≡ record self.old { keeper = keeper_of self.new } }
         ensures faultless { OnOkOrMemory result (IsFaultless self.new) }
         ensures left { (O.shown outside.new).left ≡ (O.shown outside.old).left }
+        ensures tells { (O.shown outside.new).tells ≡ (O.shown outside.old).tells }
         ensures taken { (O.shown outside.new).taken ≡ (O.shown outside.old).taken }
         ensures log { (keeper_of self.new).log.number ≡ (keeper_of self.old).log.number }
         ensures ends { IfErr result IsKeepEnd }
+        ensures known { (IsTrue (O.shown outside.old).tells → IsLawfulAnywhere change) → IsKnowing (O.shown outside.old) self.old
+            → StaysKnowing result (O.shown outside.new) self.new }
         ensures counts { Counts (O.faults outside.old) (O.faults outside.new) result }
     {
         let prepared = match self.keeper.prepare(alloc, change) {

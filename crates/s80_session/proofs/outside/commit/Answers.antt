@@ -43,3 +43,7 @@ returns-clause-cause g c = rw (g.met.O.Outside.faults_is c.args.outside.now, g.m
 
 pub returns-clause-faults_stay : goal.returns-clause-faults_stay
 returns-clause-faults_stay g c = rw (g.met.O.Outside.faults_is c.args.outside.now, g.met.O.Outside.faults_is c.commit.new.disk) c.commit.ensures.faults_stay
+
+-- ---- what is known stays known
+pub returns-clause-written : goal.returns-clause-written
+returns-clause-written g c = rw (g.met.O.Outside.shown_is c.args.outside.now, g.met.O.Outside.shown_is c.commit.new.disk) c.commit.ensures.written

@@ -54,3 +54,7 @@ returns-clause-cause g c = rw (g.met.O.Outside.faults_is c.args.outside.now, g.m
 
 pub returns-clause-faults_stay : goal.returns-clause-faults_stay
 returns-clause-faults_stay g c = rw (g.met.O.Outside.faults_is c.args.outside.now, g.met.O.Outside.faults_is c.start.new.disk) c.start.ensures.faults_stay
+
+-- ---- what is known stays known
+pub returns-clause-whole : goal.returns-clause-whole
+returns-clause-whole g c = rw (g.met.O.Outside.shown_is c.args.outside.now, g.met.O.Outside.shown_is c.start.new.disk) c.start.ensures.whole

@@ -17,17 +17,20 @@ use Rattle.s80_model.specs.declared.reply.Answer.{Answer}
 use Rattle.s80_model.specs.declared.reply.Reply.{Reply}
 use Rattle.s80_model.specs.declared.reply.Reply.TheVariants.{Silent, Refused}
 use Rattle.s80_model.specs.declared.section.Section.TheVariants.{Top}
-use Rattle.s80_model.specs.Asked.{refuses, condenses, closes, Asks}
+use Rattle.s80_model.specs.Asked.{ask_of_too_long, refuses, condenses, closes, Asks}
 use Rattle.s80_model.specs.Replies.{Work}
 use Rattle.s80_model.specs.Section.{section_or}
+use Rattle.s80_session.specs.declared.end.SessionEnd.TheVariants as ends
 use Rattle.s80_session.specs.Ending.{CountsFor}
 use Rattle.s80_session.specs.Files.{IsAsking, IsAsLeft, IsElsewhere, IsOther, IsQuestion, IsUnwritten, LogAfter}
+use Rattle.s80_session.specs.Known.{IsFed}
 use Rattle.s80_session.specs.Replies.{HasRoomFor}
-use Rattle.s80_session.specs.Session.{Was, held_of, keeper_of, room_of, was_of, IsResting, RunAfterWork}
+use Rattle.s80_session.specs.Session.{Was, held_of, keeper_of, room_of, section_of, was_of, IsResting, RunAfterWork}
 use Rattle.s80_session.specs.Working.{Ground, IsAmid, IsGrouped, IsReadable, Answers, Unreplied, WorkLeaves}
-use Rattle.s80_session.proofs.Breaking.{broke_on, calm_anyway, done_on, err_counts, flush_end_calm, flush_end_works, keep_end_works}
+use Rattle.s80_session.proofs.Breaking.{broke_on, calm_anyway, done_counts, done_on, err_counts, flush_end_calm, flush_end_works, keep_end_works, memory_counts}
 use Rattle.s80_session.proofs.Flushing.{knows_committed}
 use Rattle.s80_session.proofs.Holding.{any_counts, any_room, staying_room, too_long_room}
+use Rattle.s80_session.proofs.Knowing.{brief_answered, brief_staying, text_ends, work_on}
 use Rattle.s80_session.proofs.lemmas.Elsewhere.{elsewhere_fewer, elsewhere_then, left_on, no_log}
 use Rattle.s80_session.proofs.lemmas.Grounds.{flush_works, flushed_works, nothing_happens, work_still}
 use Rattle.s80_session.proofs.Marking.{run_answered}
@@ -353,6 +356,12 @@ returns-in_err-work_query-in-Query-clause-sound g c = λ tells changes knows bui
     let P : SessionItem → Type 0 = λ i. Asks i condenses → IsBuilt changes in
     rw (p.1, p.2) (c.in_err-work_query-in-Query.ensures.sound (subst IsTrue (sym (ap (λ (o : Shown). o.tells) c.flush.ensures.shown)) tells) changes known (subst P c.in-Query.is built))
 
+pub returns-in_err-keep_text-in-Chunk-Plain-clause-sound : goal.returns-in_err-keep_text-in-Chunk-Plain-clause-sound
+returns-in_err-keep_text-in-Chunk-Plain-clause-sound g c = λ tells changes knows built.
+    let p = err_from_is_err_and c.from_residual.result c.from_residual.ensures.1 in
+    let P : SessionItem → Type 0 = λ i. Asks i condenses → IsBuilt changes in
+    rw (p.1, p.2) (c.in_err-keep_text-in-Chunk-Plain.ensures.sound tells changes knows (subst P (c.in-Chunk-Plain.is ∙ ap Chunk c.in-Chunk-Plain.field-0-is) built))
+
 -- the counts of faults
 pub returns-in_ok-work_query-in-Query-clause-counts : goal.returns-in_ok-work_query-in-Query-clause-counts
 returns-in_ok-work_query-in-Query-clause-counts g c =
@@ -498,15 +507,20 @@ returns-in_err-flush-in-Query-clause-silent g c = λ readable grouped. absurd (s
 
 pub returns-in_ok-keep_text-in-Chunk-Plain-clause-elsewhere : goal.returns-in_ok-keep_text-in-Chunk-Plain-clause-elsewhere
 returns-in_ok-keep_text-in-Chunk-Plain-clause-elsewhere g c =
+    let D = g.O.Disk in
     let o = c.args.outside.now in
-    let number = (keeper_of c.args.self.now).log.number in
-    elsewhere_fewer g.O.Disk.moment g.O.Disk.left_since o c.keep_text.new.outside (g.O.Disk.may_leave o) (IsOther number) (IsUnwritten c.args.item number) (λ other is. is.other) c.keep_text.ensures.elsewhere
+    let P : SessionItem → Type 0 = λ i. LeavesOnly D.moment D.left_since o c.keep_text.new.outside (IsElsewhere (D.may_leave o) (IsUnwritten i (keeper_of c.args.self.now).log.number)) in
+    subst P (sym (c.in-Chunk-Plain.is ∙ ap Chunk c.in-Chunk-Plain.field-0-is)) c.keep_text.ensures.elsewhere
 
 pub returns-in_ok-keep_text-in-Chunk-Plain-clause-others : goal.returns-in_ok-keep_text-in-Chunk-Plain-clause-others
-returns-in_ok-keep_text-in-Chunk-Plain-clause-others g c = λ other is. c.keep_text.ensures.others other is.other.no_mark is.other.no_log
+returns-in_ok-keep_text-in-Chunk-Plain-clause-others g c = λ other unwritten.
+    let P : SessionItem → Type 0 = λ i. IsUnwritten i (keeper_of c.args.self.now).log.number other in
+    c.keep_text.ensures.others other (subst P (c.in-Chunk-Plain.is ∙ ap Chunk c.in-Chunk-Plain.field-0-is) unwritten)
 
 pub returns-in_ok-keep_text-in-Chunk-Plain-clause-log : goal.returns-in_ok-keep_text-in-Chunk-Plain-clause-log
-returns-in_ok-keep_text-in-Chunk-Plain-clause-log g c = inl c.keep_text.ensures.log
+returns-in_ok-keep_text-in-Chunk-Plain-clause-log g c =
+    let P : SessionItem → Type 0 = λ i. LogAfter i (keeper_of c.args.self.now).log.number (keeper_of c.keep_text.new.self).log.number in
+    subst P (sym (c.in-Chunk-Plain.is ∙ ap Chunk c.in-Chunk-Plain.field-0-is)) c.keep_text.ensures.log
 
 pub returns-in_ok-keep_method-in-Chunk-Method-clause-elsewhere : goal.returns-in_ok-keep_method-in-Chunk-Method-clause-elsewhere
 returns-in_ok-keep_method-in-Chunk-Method-clause-elsewhere g c =
@@ -522,15 +536,20 @@ returns-in_ok-keep_method-in-Chunk-Method-clause-log g c = inl c.keep_method.ens
 
 pub returns-in_err-keep_text-in-Chunk-Plain-clause-elsewhere : goal.returns-in_err-keep_text-in-Chunk-Plain-clause-elsewhere
 returns-in_err-keep_text-in-Chunk-Plain-clause-elsewhere g c =
+    let D = g.O.Disk in
     let o = c.args.outside.now in
-    let number = (keeper_of c.args.self.now).log.number in
-    elsewhere_fewer g.O.Disk.moment g.O.Disk.left_since o c.keep_text.new.outside (g.O.Disk.may_leave o) (IsOther number) (IsUnwritten c.args.item number) (λ other is. is.other) c.keep_text.ensures.elsewhere
+    let P : SessionItem → Type 0 = λ i. LeavesOnly D.moment D.left_since o c.keep_text.new.outside (IsElsewhere (D.may_leave o) (IsUnwritten i (keeper_of c.args.self.now).log.number)) in
+    subst P (sym (c.in-Chunk-Plain.is ∙ ap Chunk c.in-Chunk-Plain.field-0-is)) c.keep_text.ensures.elsewhere
 
 pub returns-in_err-keep_text-in-Chunk-Plain-clause-others : goal.returns-in_err-keep_text-in-Chunk-Plain-clause-others
-returns-in_err-keep_text-in-Chunk-Plain-clause-others g c = λ other is. c.keep_text.ensures.others other is.other.no_mark is.other.no_log
+returns-in_err-keep_text-in-Chunk-Plain-clause-others g c = λ other unwritten.
+    let P : SessionItem → Type 0 = λ i. IsUnwritten i (keeper_of c.args.self.now).log.number other in
+    c.keep_text.ensures.others other (subst P (c.in-Chunk-Plain.is ∙ ap Chunk c.in-Chunk-Plain.field-0-is) unwritten)
 
 pub returns-in_err-keep_text-in-Chunk-Plain-clause-log : goal.returns-in_err-keep_text-in-Chunk-Plain-clause-log
-returns-in_err-keep_text-in-Chunk-Plain-clause-log g c = inl c.keep_text.ensures.log
+returns-in_err-keep_text-in-Chunk-Plain-clause-log g c =
+    let P : SessionItem → Type 0 = λ i. LogAfter i (keeper_of c.args.self.now).log.number (keeper_of c.keep_text.new.self).log.number in
+    subst P (sym (c.in-Chunk-Plain.is ∙ ap Chunk c.in-Chunk-Plain.field-0-is)) c.keep_text.ensures.log
 
 pub returns-in_err-keep_method-in-Chunk-Method-clause-elsewhere : goal.returns-in_err-keep_method-in-Chunk-Method-clause-elsewhere
 returns-in_err-keep_method-in-Chunk-Method-clause-elsewhere g c =
@@ -556,3 +575,153 @@ returns-in_err-flush-in-Query-clause-others g c = λ other is. c.flush.ensures.o
 
 pub returns-in_err-flush-in-Query-clause-log : goal.returns-in_err-flush-in-Query-clause-log
 returns-in_err-flush-in-Query-clause-log g c = inl (ap (λ (l : LogEnd). l.number) c.flush.ensures.log)
+
+-- ---- what is known stays known
+
+pub returns-in_ok-keep_text-in-Chunk-Plain-clause-known : goal.returns-in_ok-keep_text-in-Chunk-Plain-clause-known
+returns-in_ok-keep_text-in-Chunk-Plain-clause-known g c = λ readable fed knows.
+    let sound = subst IsReadable (c.in-Chunk-Plain.is ∙ ap Chunk c.in-Chunk-Plain.field-0-is) readable in
+    c.in_ok-keep_text-in-Chunk-Plain.ensures.known sound.0 sound.1 knows
+
+pub returns-in_err-keep_text-in-Chunk-Plain-clause-known : goal.returns-in_err-keep_text-in-Chunk-Plain-clause-known
+returns-in_err-keep_text-in-Chunk-Plain-clause-known g c = λ readable fed knows.
+    let sound = subst IsReadable (c.in-Chunk-Plain.is ∙ ap Chunk c.in-Chunk-Plain.field-0-is) readable in
+    let p = err_from_is_err_and c.from_residual.result c.from_residual.ensures.1 in
+    rw (p.1, p.2) (text_ends c.in_err-keep_text-in-Chunk-Plain.field-0.0 (g.O.Outside.shown c.keep_text.new.outside) c.keep_text.new.self (c.in_err-keep_text-in-Chunk-Plain.ensures.known sound.0 sound.1 knows))
+
+pub returns-in_ok-head_answer-in-Chunk-Head-clause-known : goal.returns-in_ok-head_answer-in-Chunk-Head-clause-known
+returns-in_ok-head_answer-in-Chunk-Head-clause-known g c = λ readable fed knows. knows
+
+pub returns-in_ok-keep_method-in-Chunk-Method-clause-known : goal.returns-in_ok-keep_method-in-Chunk-Method-clause-known
+returns-in_ok-keep_method-in-Chunk-Method-clause-known g c = λ readable fed knows.
+    let sound = subst IsReadable (c.in-Chunk-Method.is ∙ ap Chunk c.in-Chunk-Method.field-0-is) readable in
+    c.in_ok-keep_method-in-Chunk-Method.ensures.known sound.0 sound.1 knows
+
+pub returns-in_err-keep_method-in-Chunk-Method-clause-known : goal.returns-in_err-keep_method-in-Chunk-Method-clause-known
+returns-in_err-keep_method-in-Chunk-Method-clause-known g c = λ readable fed knows.
+    let sound = subst IsReadable (c.in-Chunk-Method.is ∙ ap Chunk c.in-Chunk-Method.field-0-is) readable in
+    let p = err_from_is_err_and c.from_residual-in_err-keep_method-in-Chunk-Method.result c.from_residual-in_err-keep_method-in-Chunk-Method.ensures.1 in
+    rw (p.1, p.2) (text_ends c.in_err-keep_method-in-Chunk-Method.field-0.0 (g.O.Outside.shown c.keep_method.new.outside) c.keep_method.new.self (c.in_err-keep_method-in-Chunk-Method.ensures.known sound.0 sound.1 knows))
+
+pub returns-in-Chunk-SectionEnd-clause-known : goal.returns-in-Chunk-SectionEnd-clause-known
+returns-in-Chunk-SectionEnd-clause-known g c = λ readable fed knows. knows
+
+pub returns-in-Chunk-TooLong-clause-known : goal.returns-in-Chunk-TooLong-clause-known
+returns-in-Chunk-TooLong-clause-known g c = λ readable fed knows. knows
+
+pub returns-in-Unended-clause-known : goal.returns-in-Unended-clause-known
+returns-in-Unended-clause-known g c = λ readable fed knows. knows
+
+-- a query is none of an input
+pub returns-in_ok-work_query-in-Query-clause-known : goal.returns-in_ok-work_query-in-Query-clause-known
+returns-in_ok-work_query-in-Query-clause-known g c = λ readable fed knows. absurd (subst IsFed c.in-Query.is fed)
+
+pub returns-in_err-work_query-in-Query-clause-known : goal.returns-in_err-work_query-in-Query-clause-known
+returns-in_err-work_query-in-Query-clause-known g c = λ readable fed knows. absurd (subst IsFed c.in-Query.is fed)
+
+pub returns-in_err-flush-in-Query-clause-known : goal.returns-in_err-flush-in-Query-clause-known
+returns-in_err-flush-in-Query-clause-known g c = λ readable fed knows. absurd (subst IsFed c.in-Query.is fed)
+
+-- ---- what keeps a change breaks off
+
+pub returns-in_err-keep_text-in-Chunk-Plain-clause-any_moment : goal.returns-in_err-keep_text-in-Chunk-Plain-clause-any_moment
+returns-in_err-keep_text-in-Chunk-Plain-clause-any_moment g c = λ work basis readable at.
+    let is = c.in-Chunk-Plain.is ∙ ap Chunk c.in-Chunk-Plain.field-0-is in
+    let sound = subst IsReadable is readable in
+    let P : SessionItem → Type 0 = λ i. LeavesOnly g.O.Disk.moment g.O.Disk.left_since c.args.outside.now c.keep_text.new.outside (WorkLeaves work basis i) in
+    subst P (sym is) (c.keep_text.ensures.any_moment work basis sound.0 sound.1 at)
+
+pub returns-in_err-keep_method-in-Chunk-Method-clause-answers : goal.returns-in_err-keep_method-in-Chunk-Method-clause-answers
+returns-in_err-keep_method-in-Chunk-Method-clause-answers g c = λ work basis readable at.
+    let is = c.in-Chunk-Method.is ∙ ap Chunk c.in-Chunk-Method.field-0-is in
+    let sound = subst IsReadable is readable in
+    let p = err_from_is_err_and c.from_residual-in_err-keep_method-in-Chunk-Method.result c.from_residual-in_err-keep_method-in-Chunk-Method.ensures.1 in
+    let P : SessionItem → Type 0 = λ i. Answers (Err c.in_err-keep_method-in-Chunk-Method.field-0.0) (g.O.Disk.may_leave c.keep_method.new.outside) (g.O.Outside.shown c.keep_method.new.outside) c.keep_method.new.self (was_of c.args.self.now) work basis i in
+    rw (p.1, p.2) (subst P (sym is) (c.in_err-keep_method-in-Chunk-Method.ensures.replied work basis sound.0 sound.1 at))
+
+-- ---- the section that is answered is brief
+
+pub returns-in_ok-keep_text-in-Chunk-Plain-clause-brief : goal.returns-in_ok-keep_text-in-Chunk-Plain-clause-brief
+returns-in_ok-keep_text-in-Chunk-Plain-clause-brief g c = λ readable fed knows told.
+    let sound = subst IsReadable (c.in-Chunk-Plain.is ∙ ap Chunk c.in-Chunk-Plain.field-0-is) readable in
+    brief_staying c.keep_text.new.self _ c.staying.result c.staying.ensures (c.in_ok-keep_text-in-Chunk-Plain.ensures.known sound.0 sound.1 knows told).0
+
+pub returns-in_ok-head_answer-in-Chunk-Head-clause-brief : goal.returns-in_ok-head_answer-in-Chunk-Head-clause-brief
+returns-in_ok-head_answer-in-Chunk-Head-clause-brief g c = λ readable fed knows told.
+    let was = knows told in
+    let sound = subst IsReadable (c.in-Chunk-Head.is ∙ ap Chunk c.in-Chunk-Head.field-0-is) readable in
+    let classes = ap (λ (s : SystemState). s.table.classes) c.system.ensures ∙ was.2.made.system.classes in
+    let work : Work = work_on was.1 (section_of c.args.self.now) in
+    let answers = c.in_ok-head_answer-in-Chunk-Head.ensures.answer work classes sound.1 in
+    brief_answered work (Chunk (items.Head c.in-Chunk-Head.text)) answers.0 c.in_ok-head_answer-in-Chunk-Head.field-0 answers.1 answers.2 was.0
+
+pub returns-in_ok-keep_method-in-Chunk-Method-clause-brief : goal.returns-in_ok-keep_method-in-Chunk-Method-clause-brief
+returns-in_ok-keep_method-in-Chunk-Method-clause-brief g c = λ readable fed knows told.
+    let sound = subst IsReadable (c.in-Chunk-Method.is ∙ ap Chunk c.in-Chunk-Method.field-0-is) readable in
+    brief_staying c.keep_method.new.self _ c.staying-in-Chunk-Method.result c.staying-in-Chunk-Method.ensures (c.in_ok-keep_method-in-Chunk-Method.ensures.known sound.0 sound.1 knows told).0
+
+pub returns-in-Chunk-SectionEnd-clause-brief : goal.returns-in-Chunk-SectionEnd-clause-brief
+returns-in-Chunk-SectionEnd-clause-brief g c = λ readable fed knows told. tt
+
+pub returns-in-Chunk-TooLong-clause-brief : goal.returns-in-Chunk-TooLong-clause-brief
+returns-in-Chunk-TooLong-clause-brief g c = λ readable fed knows told.
+    let was = knows told in
+    let work : Work = work_on was.1 (section_of c.args.self.now) in
+    let role = c.in-Chunk-TooLong.role in
+    brief_answered work (Chunk (items.TooLong role c.in-Chunk-TooLong.length)) (ask_of_too_long role c.in-Chunk-TooLong.length) c.too_long_answer.result refl (c.too_long_answer.ensures work refl) was.0
+
+pub returns-in-Unended-clause-brief : goal.returns-in-Unended-clause-brief
+returns-in-Unended-clause-brief g c = λ readable fed knows told. brief_staying c.args.self.now _ c.staying-in-Unended.result c.staying-in-Unended.ensures (knows told).0
+
+pub returns-in_ok-work_query-in-Query-clause-brief : goal.returns-in_ok-work_query-in-Query-clause-brief
+returns-in_ok-work_query-in-Query-clause-brief g c = λ readable fed knows told. absurd (subst IsFed c.in-Query.is fed)
+
+-- ---- the counts of a chunk's faults
+
+pub returns-in_ok-keep_text-in-Chunk-Plain-clause-counts : goal.returns-in_ok-keep_text-in-Chunk-Plain-clause-counts
+returns-in_ok-keep_text-in-Chunk-Plain-clause-counts g c =
+    let a = g.O.Outside.faults c.args.outside.now in
+    let b = g.O.Outside.faults c.keep_text.new.outside in
+    let P : SessionItem → Type 0 = λ i. CountsFor {T = Answer} i a b (Ok c.staying.result) in
+    subst P (sym (c.in-Chunk-Plain.is ∙ ap Chunk c.in-Chunk-Plain.field-0-is)) (done_on {T = Reply} {U = Answer} (Chunk (items.Plain c.in-Chunk-Plain.text)) a a b _ c.staying.result refl c.in_ok-keep_text-in-Chunk-Plain.ensures.counts)
+
+pub returns-in_err-keep_text-in-Chunk-Plain-clause-counts : goal.returns-in_err-keep_text-in-Chunk-Plain-clause-counts
+returns-in_err-keep_text-in-Chunk-Plain-clause-counts g c =
+    let a = g.O.Outside.faults c.args.outside.now in
+    let b = g.O.Outside.faults c.keep_text.new.outside in
+    let end = c.in_err-keep_text-in-Chunk-Plain.field-0.0 in
+    let P : SessionItem → Type 0 = λ i. CountsFor {T = Answer} i a b (Err end) in
+    let p = err_from_is_err_and c.from_residual.result c.from_residual.ensures.1 in
+    rw (p.1, p.2) (subst P (sym (c.in-Chunk-Plain.is ∙ ap Chunk c.in-Chunk-Plain.field-0-is)) (broke_on Reply Answer (Chunk (items.Plain c.in-Chunk-Plain.text)) a a b end refl c.in_err-keep_text-in-Chunk-Plain.ensures.counts))
+
+pub returns-in_ok-head_answer-in-Chunk-Head-clause-counts : goal.returns-in_ok-head_answer-in-Chunk-Head-clause-counts
+returns-in_ok-head_answer-in-Chunk-Head-clause-counts g c = let a = g.O.Outside.faults c.args.outside.now in any_counts c.args.item a a _ (done_counts a a c.in_ok-head_answer-in-Chunk-Head.field-0 refl)
+
+pub returns-in_err-head_answer-in-Chunk-Head-clause-counts : goal.returns-in_err-head_answer-in-Chunk-Head-clause-counts
+returns-in_err-head_answer-in-Chunk-Head-clause-counts g c =
+    let a = g.O.Outside.faults c.args.outside.now in
+    let p = err_from_is_err_and c.from_residual-in_err-head_answer-in-Chunk-Head.result c.from_residual-in_err-head_answer-in-Chunk-Head.ensures.1 in
+    rw (p.1, p.2) (any_counts {U = Answer} c.args.item a a (Err ends.Memory) (memory_counts Answer a a refl))
+
+pub returns-in_ok-keep_method-in-Chunk-Method-clause-counts : goal.returns-in_ok-keep_method-in-Chunk-Method-clause-counts
+returns-in_ok-keep_method-in-Chunk-Method-clause-counts g c =
+    let a = g.O.Outside.faults c.args.outside.now in
+    let b = g.O.Outside.faults c.keep_method.new.outside in
+    any_counts c.args.item a b _ (done_counts a b c.staying-in-Chunk-Method.result c.in_ok-keep_method-in-Chunk-Method.ensures.counts.reason)
+
+pub returns-in_err-keep_method-in-Chunk-Method-clause-counts : goal.returns-in_err-keep_method-in-Chunk-Method-clause-counts
+returns-in_err-keep_method-in-Chunk-Method-clause-counts g c =
+    let a = g.O.Outside.faults c.args.outside.now in
+    let b = g.O.Outside.faults c.keep_method.new.outside in
+    let end = c.in_err-keep_method-in-Chunk-Method.field-0.0 in
+    let p = err_from_is_err_and c.from_residual-in_err-keep_method-in-Chunk-Method.result c.from_residual-in_err-keep_method-in-Chunk-Method.ensures.1 in
+    rw (p.1, p.2) (any_counts {U = Answer} c.args.item a b (Err end) (err_counts Reply Answer a b end c.in_err-keep_method-in-Chunk-Method.ensures.counts))
+
+pub returns-in-Chunk-SectionEnd-clause-counts : goal.returns-in-Chunk-SectionEnd-clause-counts
+returns-in-Chunk-SectionEnd-clause-counts g c = let a = g.O.Outside.faults c.args.outside.now in any_counts c.args.item a a _ (done_counts a a _ refl)
+
+pub returns-in-Chunk-TooLong-clause-counts : goal.returns-in-Chunk-TooLong-clause-counts
+returns-in-Chunk-TooLong-clause-counts g c = let a = g.O.Outside.faults c.args.outside.now in any_counts c.args.item a a _ (done_counts a a c.too_long_answer.result refl)
+
+pub returns-in-Unended-clause-counts : goal.returns-in-Unended-clause-counts
+returns-in-Unended-clause-counts g c = let a = g.O.Outside.faults c.args.outside.now in any_counts c.args.item a a _ (done_counts a a c.staying-in-Unended.result refl)

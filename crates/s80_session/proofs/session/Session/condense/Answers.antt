@@ -15,6 +15,7 @@ use Rattle.s80_keeper.specs.Keeper.{Knows}
 use Rattle.s80_keeper.specs.Renewing.{HasWritten}
 use Rattle.s80_keeper.specs.Standing.{LeavesEither}
 use Rattle.s80_log.specs.Log.{LogEnd, log_file}
+use Rattle.s80_keeper.proofs.lemmas.Standing.{knows_written}
 use Rattle.s80_model.specs.declared.item.SessionItem.{SessionItem}
 use Rattle.s80_model.specs.declared.reply.Reply.{Reply}
 use Rattle.s80_model.specs.declared.reply.Reply.TheVariants.{Accepted, Refused}
@@ -25,12 +26,14 @@ use Rattle.s80_session.specs.declared.session.Session.{Session}
 use Rattle.s80_session.specs.Ending.{EndsForReasonOrDamage, IsKeepEnd, IsWorkEnd, MeetsNoDamage, NoFewer, OnOkOrMemory, SourceCounts}
 use Rattle.s80_session.specs.Ends.{refusal_at_fault}
 use Rattle.s80_session.specs.Files.{IsElsewhere, IsOther, IsUnwritten}
+use Rattle.s80_session.specs.Known.{StaysKnowing}
 use Rattle.s80_session.specs.Session.{keeper_of, kept_versions_of, IsResting}
 use Rattle.s80_session.specs.Working.{Ground, IsAmid, IsAt, WorkedAlone, WorkLeaves}
 use Rattle.s80_session.proofs.Breaking.{counts_whole, err_counts, flush_end_calm, flush_end_works, keep_end_works}
 use Rattle.s80_session.proofs.Condensing.{condensed_calm, condensed_err, condensed_log, condensed_ok, condensed_quiet, condensed_refused, condensed_whole, condensing_lasts, shorter}
 use Rattle.s80_session.proofs.Flushing.{knows_committed}
 use Rattle.s80_session.proofs.Holding.{source_counts}
+use Rattle.s80_session.proofs.Knowing.{condensed_known, condensed_still, flush_ends}
 use Rattle.s80_session.proofs.Reading.{fault_keep_end, faults_same, read_reason, reading_calm}
 use Rattle.s80_session.proofs.Stepping.{flush_alone}
 use Rattle.s80_session.proofs.lemmas.Elsewhere.{elsewhere_beside, elsewhere_fewer, elsewhere_then}
@@ -321,3 +324,54 @@ returns-in_err-refusal_at_fault-in-Err-clause-counts g c =
     let reason = subst Q (sym c.in_err-refusal_at_fault-in-Err.ensures) (read_reason Reply (Unit {0}) c.condense.result (keeper_of c.flush.new.self) c.in-Err.fault old new c.in-Err.is c.condense.ensures.faults c.condense.ensures.cause c.condense.ensures.faults_stay c.condense.ensures.closed (calm g after)) in
     let p = err_from_is_err_and c.from_residual-in_err-refusal_at_fault-in-Err.result c.from_residual-in_err-refusal_at_fault-in-Err.ensures.1 in
     rw (p.1, p.2) (subst P c.in_ok-flush.ensures.counts.reason (record { later = later g after; reason = reason }))
+
+-- ---- what is known stays known
+
+pub returns-in_err-flush-clause-known : goal.returns-in_err-flush-clause-known
+returns-in_err-flush-clause-known g c = λ knows.
+    let p = err_from_is_err_and c.from_residual.result c.from_residual.ensures.1 in
+    rw (p.1, p.2) (flush_ends c.in_err-flush.field-0.0 (g.O.Outside.shown c.flush.new.outside) c.flush.new.self (c.in_err-flush.ensures.known knows))
+
+-- what the paths behind the flush share
+module _ (g : _) (c : After-condense g) where
+  told_before : IsTrue (g.O.Outside.shown c.condense.new.outside).tells → IsTrue (g.O.Outside.shown c.flush.new.outside).tells
+  told_before told = subst IsTrue (ap (λ (o : Shown). o.tells) c.condense.ensures.shown) told
+
+  -- what the call makes of the list that was there
+  replaced : (changes : List Change) → IsTrue (g.O.Outside.shown c.flush.new.outside).tells → HasWritten (g.O.Outside.shown c.flush.new.outside).tells (g.O.Outside.shown c.flush.new.outside).files (keeper_of c.flush.new.self) changes
+      → IfReplaced c.condense.result (HasWritten (g.O.Outside.shown c.condense.new.outside).tells (g.O.Outside.shown c.condense.new.outside).files c.condense.new.keeper (kept changes (kept_versions_of c.flush.new.self)))
+  replaced changes told written =
+      let mid = g.O.Outside.shown c.flush.new.outside in
+      c.condense.ensures.known told changes written.made.built (knows_written mid.tells mid.files (keeper_of c.flush.new.self) changes told written)
+
+pub returns-in-Ok-clause-known : goal.returns-in-Ok-clause-known
+returns-in-Ok-clause-known g c = λ knows told.
+    let after = (goal.at.returns-in-Ok-clause-known g c).After-condense in
+    let new = g.O.Outside.shown c.condense.new.outside in
+    let before = told_before g after told in
+    let was = c.in_ok-flush.ensures.known knows before in
+    let short = kept was.1 (kept_versions_of c.flush.new.self) in
+    let P : Result (Unit {0}) KeepFault → Type 0 = λ r. IfReplaced r (HasWritten new.tells new.files c.condense.new.keeper short) in
+    (was.0, short, subst P c.in-Ok.is (replaced g after was.1 before was.2))
+
+pub returns-in_ok-refusal_at_fault-in-Err-clause-known : goal.returns-in_ok-refusal_at_fault-in-Err-clause-known
+returns-in_ok-refusal_at_fault-in-Err-clause-known g c = λ knows told.
+    let after = (goal.at.returns-in_ok-refusal_at_fault-in-Err-clause-known g c).After-condense in
+    let mid = g.O.Outside.shown c.flush.new.outside in
+    let new = g.O.Outside.shown c.condense.new.outside in
+    let was = c.in_ok-flush.ensures.known knows (told_before g after told) in
+    let P : Result (Unit {0}) KeepFault → Type 0 = λ r. AfterCondensing r (keeper_of c.flush.new.self) c.condense.new.keeper in
+    (was.0, was.1, condensed_still c.in-Err.fault c.in_ok-refusal_at_fault-in-Err.field-0 mid new (keeper_of c.flush.new.self) c.condense.new.keeper was.1 (sym c.in_ok-refusal_at_fault-in-Err.ensures) (subst P c.in-Err.is c.condense.ensures.after) (ap (λ (o : Shown). o.tells) c.condense.ensures.shown) c.condense.ensures.others was.2)
+
+pub returns-in_err-refusal_at_fault-in-Err-clause-known : goal.returns-in_err-refusal_at_fault-in-Err-clause-known
+returns-in_err-refusal_at_fault-in-Err-clause-known g c = λ knows.
+    let after = (goal.at.returns-in_err-refusal_at_fault-in-Err-clause-known g c).After-condense in
+    let new = g.O.Outside.shown c.condense.new.outside in
+    let Now : List Change → Type 0 = λ changes. HasWritten new.tells new.files c.condense.new.keeper (kept changes (kept_versions_of c.flush.new.self)) in
+    let Q : Result Refusal SessionEnd → Type 0 = λ r. IfErr r (λ end. StaysKnowing {T = Reply} (Err end) new (now g after)) in
+    let p = err_from_is_err_and c.from_residual-in_err-refusal_at_fault-in-Err.result c.from_residual-in_err-refusal_at_fault-in-Err.ensures.1 in
+    rw (p.1, p.2) (subst Q (sym c.in_err-refusal_at_fault-in-Err.ensures) (condensed_known Now c.in-Err.fault new (now g after) (λ told.
+    let before = told_before g after told in
+    let was = c.in_ok-flush.ensures.known knows before in
+    let P : Result (Unit {0}) KeepFault → Type 0 = λ r. IfReplaced r (Now was.1) in
+    (was.1, subst P c.in-Err.is (replaced g after was.1 before was.2)))))

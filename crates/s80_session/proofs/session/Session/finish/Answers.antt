@@ -9,6 +9,7 @@ use Rattle.s80_session.specs.Working.{BeginsAsking}
 use Rattle.s80_session.proofs.Answering.{done_on}
 use Rattle.s80_session.proofs.Finishing.{finished_clean, finished_unended, unended_input}
 use Rattle.s80_session.proofs.Fronts.{first_front}
+use Rattle.s80_session.proofs.Holding.{counts_on}
 use Rattle.s80_session.proofs.Marking.{both_runs, run_of_item}
 use Rattle.s80_session.proofs.Taking.{breaks, first_asks}
 use Rattle.s80_session.proofs.lemmas.Groups.{answers_last, group_worked}
@@ -58,3 +59,21 @@ returns-in-Clean-clause-last_run g c = c.work_items.ensures.last_run
 
 pub returns-in-Unended-clause-last_run : goal.returns-in-Unended-clause-last_run
 returns-in-Unended-clause-last_run g c = both_runs c.args.self.now c.work_items.new.self c.work.new.self c.work_items.ensures.last_run (run_of_item (Unit {0}) c.work.result Unended c.work_items.new.self c.work.new.self c.work.ensures.budget c.work.ensures.last_run)
+
+-- ---- what is known stays known
+
+pub returns-in_err-work_items-clause-known : goal.returns-in_err-work_items-clause-known
+returns-in_err-work_items-clause-known g c = λ knows.
+    let p = err_from_is_err_and c.from_residual.result c.from_residual.ensures.1 in
+    rw (p.1, p.2) (c.in_err-work_items.ensures.known knows)
+
+pub returns-in-Clean-clause-known : goal.returns-in-Clean-clause-known
+returns-in-Clean-clause-known g c = λ knows. c.in_ok-work_items.ensures.known knows
+
+pub returns-in-Unended-clause-known : goal.returns-in-Unended-clause-known
+returns-in-Unended-clause-known g c = λ knows. c.work.ensures.known tt tt (c.in_ok-work_items.ensures.known knows)
+
+-- ---- the counts of faults
+
+pub returns-in-Unended-clause-counts : goal.returns-in-Unended-clause-counts
+returns-in-Unended-clause-counts g c = (counts_on _ _ _ c.work.result c.work.ensures.counts c.in_ok-work_items.ensures.counts.reason).1

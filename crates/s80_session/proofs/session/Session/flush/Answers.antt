@@ -6,6 +6,7 @@ use Rattle.s80_session.specs.Files.{IsAsLeft, IsOther}
 use Rattle.s80_session.specs.Putting.{IsAsBefore}
 use Rattle.s80_session.specs.Session.{HasMarked, held_of, keeper_of, TakesHeld}
 use Rattle.s80_session.proofs.Flushing.{commit_last, flush_last, flush_marks, flushed_so, uncommitted}
+use Rattle.s80_session.proofs.Knowing.{knows_put}
 use Rattle.s80_session.proofs.lemmas.Elsewhere.{elsewhere_on, left_as_before}
 use Rattle.s80_session.proofs.lemmas.Grounds.{put_last}
 use Rattle.s80_session.proofs.session.Session.flush.Goals as goal
@@ -99,3 +100,14 @@ returns-in_err-commit-clause-unheld g c = λ none. ap (λ (s : Shown). s.taken) 
 
 pub returns-clause-unheld : goal.returns-clause-unheld
 returns-clause-unheld g c = λ none. ap (λ o. (g.O.Outside.shown o).taken) (c.put_held.ensures.idle (ap held_of c.commit.ensures.rest ∙ none)).0 ∙ ap (λ (s : Shown). s.taken) c.commit.ensures.shown
+
+-- ---- what is known stays known
+
+pub returns-in_err-commit-clause-known : goal.returns-in_err-commit-clause-known
+returns-in_err-commit-clause-known g c = λ knows.
+    let p = err_from_is_err_and c.from_residual.result c.from_residual.ensures.1 in
+    rw (p.1, p.2) (c.in_err-commit.ensures.known knows)
+
+pub returns-clause-known : goal.returns-clause-known
+returns-clause-known g c = λ knows.
+    knows_put c.put_held.result (g.O.Outside.shown c.commit.new.outside) (g.O.Outside.shown c.put_held.new.outside) c.commit.new.self c.put_held.new.self c.put_held.ensures.ends c.put_held.ensures.rest c.put_held.ensures.shown (c.in_ok-commit.ensures.known knows)

@@ -1,5 +1,5 @@
-use Rattle.std.proofs.Common.{◌≡◌, ◌++◌, ◌∷◌, [], ℕ, length, Option, None, refl, sym, Result, Ok, Err, ap, subst, ◌∙◌, arith}
-use Rattle.std.specs.Prelude.{◌≢◌, IfErr, ⊤}
+use Rattle.std.proofs.Common.{◌≡◌, ◌++◌, ◌∷◌, [], ℕ, List, length, Option, None, refl, sym, Result, Ok, Err, ap, subst, ◌∙◌, arith}
+use Rattle.std.specs.Prelude.{◌≢◌, IfErr, IsTrue, ⊤}
 use Rattle.std.proofs.lemmas.Result.{err_from_is_err_and}
 use Rattle.s80_change.specs.declared.change.Change.{Change}
 use Rattle.s80_change.specs.Block.{block, IsLawful}
@@ -7,12 +7,13 @@ use Rattle.s80_form.specs.declared.refusal.Refusal.{Refusal}
 use Rattle.s80_form.specs.declared.refusal.Refused.{Refused}
 use Rattle.s80_disk.specs.declared.disk.FileId.{FileId}
 use Rattle.s80_disk.specs.Moments.{LeavesOnly}
-use Rattle.s80_disk.specs.Shown.{Faults}
+use Rattle.s80_disk.specs.Shown.{Faults, Shown}
 use Rattle.s80_disk.proofs.lemmas.Showing.{told_beside}
 use Rattle.s80_log.specs.Log.{log_file}
 use Rattle.s80_keeper.specs.declared.keep.KeepFault.TheVariants.{Full}
 use Rattle.s80_keeper.specs.Keeper.{KeeperState, Keeps}
 use Rattle.s80_keeper.specs.Answers.{PlacesFor, Prepares}
+use Rattle.s80_keeper.specs.Renewing.{HasWritten}
 use Rattle.s80_apply.specs.List.{add, state_of}
 use Rattle.s80_apply.specs.Placed.{placed_of}
 use Rattle.s80_model.specs.Replies.{Work}
@@ -20,12 +21,14 @@ use Rattle.s80_session.specs.declared.end.SessionEnd.{SessionEnd}
 use Rattle.s80_session.specs.declared.session.Session.{Session}
 use Rattle.s80_session.specs.Ending.{HasReason, IsKeepEnd, NoFewer, OnOkOrMemory}
 use Rattle.s80_session.specs.Files.{IsElsewhere, IsOther}
+use Rattle.s80_session.specs.Known.{IsLawfulAnywhere, StaysKnowing}
 use Rattle.s80_session.specs.Session.{keeper_of}
 use Rattle.s80_session.specs.Run.{HasKept}
 use Rattle.s80_session.specs.Working.{Ground, IsAmid, IsLawfulFor, Unworked}
 use Rattle.s80_session.proofs.lemmas.Elsewhere.{elsewhere_beside}
 use Rattle.s80_session.proofs.lemmas.Grounds.{nothing_happens}
 use Rattle.s80_session.proofs.Adding.{still_at, refused, takes, lawful_on, kept}
+use Rattle.s80_session.proofs.Knowing.{kept_whole, prepared_lawful, written_prepared}
 use Rattle.s80_session.proofs.Reading.{fault_ends, fault_keep_end, fault_unkept, keep_calm, keep_ends, keep_log, kept_reason}
 use Rattle.s80_session.proofs.session.Session.keep.Goals as goal
 use Rattle.s80_session.proofs.session.Session.keep.Goals.{After-keep_later}
@@ -220,3 +223,51 @@ returns-in_err-refusal_at_fault-in-Err-clause-ends g c =
     let p = err_from_is_err_and c.from_residual.result c.from_residual.ensures.1 in
     let P : Result Refusal SessionEnd → Type 0 = λ r. IfErr r IsKeepEnd in
     rw (p.1, p.2) (subst P (sym c.in_err-refusal_at_fault-in-Err.ensures) (fault_keep_end c.in-Err.fault))
+
+-- ---- what is known stays known
+
+pub returns-in-Err-Refusal-clause-known : goal.returns-in-Err-Refusal-clause-known
+returns-in-Err-Refusal-clause-known g c = λ lawful knows told.
+    let o = g.O.Outside.shown c.args.outside.now in
+    let was = knows told in
+    (was.0, was.1, written_prepared o.tells o.files (keeper_of c.args.self.now) c.prepare.new.self was.1 c.prepare.ensures.same (c.prepare.ensures.system (state_of was.1) was.2.made.system) (c.prepare.ensures.same_places (placed_of was.1) was.2.made.places) (c.prepare.ensures.history was.1 was.2.made.history) was.2)
+
+-- what the paths behind the keeping share
+module _ (g : _) (c : After-keep_later g) (changes : List Change) (written : HasWritten (g.O.Outside.shown c.args.outside.now).tells (g.O.Outside.shown c.args.outside.now).files (keeper_of c.args.self.now) changes) where
+  ready_known : HasWritten (g.O.Outside.shown c.args.outside.now).tells (g.O.Outside.shown c.args.outside.now).files c.prepare.new.self changes
+  ready_known = written_prepared (g.O.Outside.shown c.args.outside.now).tells (g.O.Outside.shown c.args.outside.now).files (keeper_of c.args.self.now) c.prepare.new.self changes c.prepare.ensures.same (c.prepare.ensures.system (state_of changes) written.made.system) (c.prepare.ensures.same_places (placed_of changes) written.made.places) (c.prepare.ensures.history changes written.made.history) written
+
+  prepares : Prepares (state_of changes) (keeper_of c.args.self.now).log.end c.args.change c.prepare.new.self.system (Ok c.in-Ok.prepared)
+  prepares = c.in-Ok.ensures.answer (state_of changes) written.made.system
+
+  lawful_there : IsLawfulAnywhere c.args.change → IsLawful c.in-Ok.prepared.change
+  lawful_there lawful = prepared_lawful changes c.args.change c.prepare.new.self.system c.in-Ok.prepared prepares.0 prepares.1 (lawful changes written.list.lawful)
+
+  -- what was prepared has room
+  roomy_there : (n : ℕ) → c.keep_later.result ≡ Err (Full n) → ⊥
+  roomy_there n is =
+      let full = (c.keep_later.ensures.full n).0 is in
+      let end = ap (λ (k : KeeperState). k.log.end) c.prepare.ensures.same in
+      let size = ap (λ (x : Change). length (block x)) prepares.0 in
+      omega (arith, full.2, prepares.2, end, size)
+
+pub returns-in-Ok-keep_later-clause-known : goal.returns-in-Ok-keep_later-clause-known
+returns-in-Ok-keep_later-clause-known g c = λ lawful knows told.
+    let after = (goal.at.returns-in-Ok-keep_later-clause-known g c).After-keep_later in
+    let before = subst IsTrue (ap (λ (o : Shown). o.tells) c.keep_later.ensures.shown) told in
+    let was = knows before in
+    (was.0, was.1 ++ c.in-Ok.prepared.change ∷ [], c.in-Ok-keep_later.ensures.written was.1 (ready_known g after was.1 was.2) (lawful_there g after was.1 was.2 (lawful before)) (prepares g after was.1 was.2).1 (c.in-Ok.ensures.places (placed_of was.1) was.2.made.places))
+
+pub returns-in_ok-refusal_at_fault-in-Err-clause-known : goal.returns-in_ok-refusal_at_fault-in-Err-clause-known
+returns-in_ok-refusal_at_fault-in-Err-clause-known g c = λ lawful knows told.
+    let after = (goal.at.returns-in_ok-refusal_at_fault-in-Err-clause-known g c).After-keep_later in
+    let was = knows (subst IsTrue (ap (λ (o : Shown). o.tells) c.keep_later.ensures.shown) told) in
+    absurd (fault_ends c.keep_later.result c.in-Err.fault c.in_ok-refusal_at_fault-in-Err.field-0 c.in-Err.is (roomy_there g after was.1 was.2) (sym c.in_ok-refusal_at_fault-in-Err.ensures))
+
+pub returns-in_err-refusal_at_fault-in-Err-clause-known : goal.returns-in_err-refusal_at_fault-in-Err-clause-known
+returns-in_err-refusal_at_fault-in-Err-clause-known g c = λ lawful knows.
+    let new = g.O.Outside.shown c.keep_later.new.outside in
+    let now : Session = record c.args.self.now { keeper = c.keep_later.new.keeper } in
+    let P : Result Refusal SessionEnd → Type 0 = λ r. IfErr r (λ end. StaysKnowing {T = Option Refusal} (Err end) new now) in
+    let p = err_from_is_err_and c.from_residual.result c.from_residual.ensures.1 in
+    rw (p.1, p.2) (subst P (sym c.in_err-refusal_at_fault-in-Err.ensures) (kept_whole (Option Refusal) c.keep_later.result c.in-Ok.prepared c.prepare.new.self c.keep_later.new.keeper c.in-Err.fault new now c.in-Err.is c.keep_later.ensures.after))

@@ -1,7 +1,7 @@
 use Rattle.std.proofs.Common.{◌≤◌, inl, inr, ℕ, Bool, List, length, Option, Ok, ap, refl, sym, subst, ◌∙◌}
 use Rattle.std.proofs.lemmas.Result.{err_from_is_err_and}
 use Rattle.s80_change.specs.declared.change.Change.TheVariants.{DoIt}
-use Rattle.s80_form.specs.Form.{IsNoFormText}
+use Rattle.s80_form.specs.Form.{IsEvaluatedText}
 use Rattle.s80_form.specs.declared.refusal.Refusal.{Refusal}
 use Rattle.s80_chunk.specs.declared.item.Item.TheVariants as items
 use Rattle.s80_chunk.specs.Chunks.{IsChunkText, longest}
@@ -14,11 +14,13 @@ use Rattle.s80_apply.specs.System.{IsSystemOf, SystemState}
 use Rattle.s80_model.specs.declared.item.SessionItem.TheVariants.{Chunk}
 use Rattle.s80_model.specs.Asked.{evaluates}
 use Rattle.s80_model.specs.Replies.{AsksIn, Work}
+use Rattle.s80_session.specs.Known.{IsKnowing}
 use Rattle.s80_session.specs.Session.{last_run_of, was_of}
 use Rattle.s80_session.specs.Run.{HasKept}
 use Rattle.s80_session.specs.Working.{Ground, IsAmid, IsLawfulFor, Kept}
 use Rattle.s80_session.proofs.Asking.{doit_lawful, method_fits}
 use Rattle.s80_session.proofs.Evaluating.{asks_doit, replied_evaluated, replied_unkept, unevaluated}
+use Rattle.s80_session.proofs.Knowing.{doit_anywhere, keeping_ends}
 use Rattle.s80_session.proofs.lemmas.Grounds.{nothing_happens}
 use Rattle.s80_session.proofs.Marking.{ran_last}
 use Rattle.s80_session.proofs.Stepping.{unreplied}
@@ -30,7 +32,7 @@ returns-in_err-code-clause-any_moment g c = λ work basis chunk short none at.
     nothing_happens g.O.Disk.moment g.O.Disk.left_since _ (g.O.Outside.shown c.args.outside.now) _ c.args.outside.now work basis (λ told image left. let x = g.met.O.Disk.only_now c.args.outside.now told image left in (x.0, x.1 ∙ told_beside g.met.O.Outside.beside_is g.met.O.Outside.shown_is c.args.outside.now)) at
 
 -- what the paths behind the keeping share
-module _ (g : _) (c : After-keep g) (work : Work) (basis : Ground) (chunk : IsChunkText c.args.text) (short : length c.args.text ≤ longest) (none : IsNoFormText c.args.text) (at : IsAmid (g.O.Disk.may_leave c.args.outside.now) (g.O.Outside.shown c.args.outside.now) c.args.self.now work basis) where
+module _ (g : _) (c : After-keep g) (work : Work) (basis : Ground) (chunk : IsChunkText c.args.text) (short : length c.args.text ≤ longest) (none : IsEvaluatedText c.args.text) (at : IsAmid (g.O.Disk.may_leave c.args.outside.now) (g.O.Outside.shown c.args.outside.now) c.args.self.now work basis) where
   fits : Fits c.args.text
   fits = method_fits c.args.text c.args.method.now c.requires.method
 
@@ -113,3 +115,17 @@ returns-in-None-clause-last_run g c = λ none.
 
 pub returns-clause-last_run : goal.returns-clause-last_run
 returns-clause-last_run g c = λ none. inl (ap last_run_of c.keep.ensures.rest)
+
+-- ---- what is known stays known
+
+pub returns-in_err-keep-clause-known : goal.returns-in_err-keep-clause-known
+returns-in_err-keep-clause-known g c = λ chunk short evaluated knows.
+    let p = err_from_is_err_and c.from_residual-in_err-keep.result c.from_residual-in_err-keep.ensures.1 in
+    rw (p.1, p.2) (keeping_ends c.in_err-keep.field-0.0 (g.O.Outside.shown c.keep.new.outside) c.keep.new.self (c.in_err-keep.ensures.known (λ told. doit_anywhere c.args.text c.args.method.now c.requires.method chunk short evaluated) knows))
+
+pub returns-in-None-clause-known : goal.returns-in-None-clause-known
+returns-in-None-clause-known g c = λ chunk short evaluated knows.
+    subst (λ s. IsKnowing (g.O.Outside.shown c.keep.new.outside) s) (sym c.evaluate.ensures.rest) (c.in_ok-keep.ensures.known (λ told. doit_anywhere c.args.text c.args.method.now c.requires.method chunk short evaluated) knows)
+
+pub returns-clause-known : goal.returns-clause-known
+returns-clause-known g c = λ chunk short evaluated knows. c.in_ok-keep.ensures.known (λ told. doit_anywhere c.args.text c.args.method.now c.requires.method chunk short evaluated) knows

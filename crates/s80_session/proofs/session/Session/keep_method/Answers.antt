@@ -10,11 +10,13 @@ use Rattle.s80_disk.proofs.lemmas.Showing.{told_beside}
 use Rattle.s80_model.specs.declared.item.SessionItem.TheVariants.{Chunk}
 use Rattle.s80_model.specs.Replies.{Work}
 use Rattle.s80_model.specs.Section.{IsBriefSection}
-use Rattle.s80_session.specs.Session.{last_run_of, room_of, was_of}
+use Rattle.s80_session.specs.Known.{IsLawfulAnywhere}
+use Rattle.s80_session.specs.Session.{last_run_of, room_of, section_of, was_of}
 use Rattle.s80_session.specs.Run.{HasKept}
 use Rattle.s80_session.specs.Working.{Ground, IsAmid, IsLawfulFor}
 use Rattle.s80_session.proofs.lemmas.Grounds.{nothing_happens}
 use Rattle.s80_session.proofs.Holding.{keeping_room, too_long_room}
+use Rattle.s80_session.proofs.Knowing.{keeping_ends}
 use Rattle.s80_session.proofs.Lawful.{source_lawful}
 use Rattle.s80_session.proofs.Stepping.{replied_source, passed_top, passed_refused, unreplied}
 use Rattle.s80_session.proofs.session.Session.keep_method.Goals as goal
@@ -77,3 +79,23 @@ returns-in_ok-refusal-in-Open-clause-room g c = λ enough.
 
 pub returns-then-length-gt-LONGEST-clause-room : goal.returns-then-length-gt-LONGEST-clause-room
 returns-then-length-gt-LONGEST-clause-room g c = λ enough. too_long_room _ roles.Method (length c.bytes-length.result.now) c.too_long_answer.result _ c.too_long_answer.ensures
+
+-- ---- what is known stays known
+
+-- whichever list accepts it, the method is lawful where the head of its section is brief
+module _ (g : _) (c : After-keep g) (text : IsChunkText c.args.source) (short : length c.args.source ≤ longest) where
+  anywhere : IsBriefSection (section_of c.args.self.now) → IsLawfulAnywhere (changes.Method c.in_ok-method-in-Open.method)
+  anywhere brief all each =
+      let P : Change → Type 0 = λ x. IsLawfulFor all x in
+      subst P (sym c.in_ok-method-in-Open.ensures) (source_lawful all c.in-Open.head c.in_ok-source.source c.args.source (c.classes_are_named.ensures all) (subst IsBriefSection c.in-Open.is brief) (c.in_ok-source.ensures.text, c.in_ok-source.ensures.check) text short)
+
+pub returns-in_err-refusal-in-Open-clause-known : goal.returns-in_err-refusal-in-Open-clause-known
+returns-in_err-refusal-in-Open-clause-known g c = λ text short knows.
+    let after = (goal.at.returns-in_err-refusal-in-Open-clause-known g c).After-keep in
+    let p = err_from_is_err_and c.from_residual-in_err-refusal-in-Open.result c.from_residual-in_err-refusal-in-Open.ensures.1 in
+    rw (p.1, p.2) (keeping_ends c.in_err-refusal-in-Open.field-0.0 (g.O.Outside.shown c.keep.new.outside) c.keep.new.self (c.in_err-refusal-in-Open.ensures.known (λ told. anywhere g after text short (knows told).0) knows))
+
+pub returns-in_ok-refusal-in-Open-clause-known : goal.returns-in_ok-refusal-in-Open-clause-known
+returns-in_ok-refusal-in-Open-clause-known g c = λ text short knows.
+    let after = (goal.at.returns-in_ok-refusal-in-Open-clause-known g c).After-keep in
+    c.in_ok-refusal-in-Open.ensures.known (λ told. anywhere g after text short (knows told).0) knows

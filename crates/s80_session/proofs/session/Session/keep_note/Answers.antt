@@ -17,6 +17,7 @@ use Rattle.s80_session.specs.Working.{Ground, IsAmid, IsLawfulFor, Kept, adding,
 use Rattle.s80_session.proofs.Noting.{keeping_lasts, note_lawful, noting_lasts, uncommitted_unnoted, unkept_unnoted}
 use Rattle.s80_session.proofs.Breaking.{done_counts, err_counts_on, flush_end_calm, flush_end_works, keep_end_works, memory_counts}
 use Rattle.s80_session.proofs.Holding.{keeping_room}
+use Rattle.s80_session.proofs.Knowing.{flush_ends, keeping_ends, note_anywhere}
 use Rattle.s80_session.proofs.Stepping.{flush_alone}
 use Rattle.s80_session.proofs.lemmas.Elsewhere.{elsewhere_then}
 use Rattle.s80_session.proofs.lemmas.Grounds.{flush_works}
@@ -206,3 +207,23 @@ returns-in_err-commit-clause-counts g c =
 
 pub returns-clause-counts : goal.returns-clause-counts
 returns-clause-counts g c = done_counts (g.O.Outside.faults c.args.outside.now) (g.O.Outside.faults c.commit.new.outside) c.reply_to_keeping.result (c.in_ok-commit.ensures.counts.reason ∙ c.in_ok-refusal.ensures.counts.reason ∙ c.in_ok-flush.ensures.counts.reason)
+
+-- ---- what is known stays known
+
+pub returns-in_err-flush-clause-known : goal.returns-in_err-flush-clause-known
+returns-in_err-flush-clause-known g c = λ knows.
+    let p = err_from_is_err_and c.from_residual.result c.from_residual.ensures.1 in
+    rw (p.1, p.2) (flush_ends c.in_err-flush.field-0.0 (g.O.Outside.shown c.flush.new.outside) c.flush.new.self (c.in_err-flush.ensures.known knows))
+
+pub returns-in_err-refusal-clause-known : goal.returns-in_err-refusal-clause-known
+returns-in_err-refusal-clause-known g c = λ knows.
+    let p = err_from_is_err_and c.from_residual-in_err-refusal.result c.from_residual-in_err-refusal.ensures.1 in
+    rw (p.1, p.2) (keeping_ends c.in_err-refusal.field-0.0 (g.O.Outside.shown c.keep.new.outside) c.keep.new.self (c.in_err-refusal.ensures.known (λ told. note_anywhere c.in_ok-text.text c.in_ok-text.ensures) (c.in_ok-flush.ensures.known knows)))
+
+pub returns-in_err-commit-clause-known : goal.returns-in_err-commit-clause-known
+returns-in_err-commit-clause-known g c = λ knows.
+    let p = err_from_is_err_and c.from_residual-in_err-commit.result c.from_residual-in_err-commit.ensures.1 in
+    rw (p.1, p.2) (flush_ends c.in_err-commit.field-0.0 (g.O.Outside.shown c.commit.new.outside) c.commit.new.self (c.in_err-commit.ensures.known (c.in_ok-refusal.ensures.known (λ told. note_anywhere c.in_ok-text.text c.in_ok-text.ensures) (c.in_ok-flush.ensures.known knows))))
+
+pub returns-clause-known : goal.returns-clause-known
+returns-clause-known g c = λ knows. c.in_ok-commit.ensures.known (c.in_ok-refusal.ensures.known (λ told. note_anywhere c.in_ok-text.text c.in_ok-text.ensures) (c.in_ok-flush.ensures.known knows))

@@ -7,6 +7,8 @@ use Rattle.s80_session.specs.Session.{was_of}
 use Rattle.s80_session.proofs.Answering.{run_of_rest}
 use Rattle.s80_session.proofs.Finishing.{finished_ends}
 use Rattle.s80_session.proofs.Fronts.{first_front, first_of_all}
+use Rattle.s80_session.proofs.Breaking.{err_sources_on}
+use Rattle.s80_session.proofs.Holding.{counts_on}
 use Rattle.s80_session.proofs.Marking.{both_runs, no_run}
 use Rattle.s80_session.proofs.OneGroup.{little_at_rest}
 use Rattle.s80_session.proofs.Taking.{broke_at_start, starts_done}
@@ -86,3 +88,31 @@ returns-clause-any_moment g c = λ work input before left_is at.
 
 pub returns-clause-last_run : goal.returns-clause-last_run
 returns-clause-last_run g c = both_runs c.args.self.now c.finish.new.self c.flush.new.self (both_runs c.args.self.now c.take_all.new.self c.finish.new.self c.take_all.ensures.last_run c.finish.ensures.last_run) (run_of_rest c.finish.new.self c.flush.new.self c.flush.ensures.rest)
+
+-- ---- what is known stays known
+
+pub returns-in_err-take_all-clause-known : goal.returns-in_err-take_all-clause-known
+returns-in_err-take_all-clause-known g c = λ knows.
+    let p = err_from_is_err_and c.from_residual-in_err-take_all.result c.from_residual-in_err-take_all.ensures.1 in
+    rw (p.1, p.2) (c.in_err-take_all.ensures.known knows)
+
+pub returns-in_err-finish-clause-known : goal.returns-in_err-finish-clause-known
+returns-in_err-finish-clause-known g c = λ knows.
+    let p = err_from_is_err_and c.from_residual-in_err-finish.result c.from_residual-in_err-finish.ensures.1 in
+    rw (p.1, p.2) (c.in_err-finish.ensures.known (c.in_ok-take_all.ensures.known knows))
+
+pub returns-clause-known : goal.returns-clause-known
+returns-clause-known g c = λ knows. c.flush.ensures.known (c.in_ok-finish.ensures.known (c.in_ok-take_all.ensures.known knows))
+
+-- ---- the counts of faults
+
+pub returns-in_err-finish-clause-counts : goal.returns-in_err-finish-clause-counts
+returns-in_err-finish-clause-counts g c =
+    let a = g.O.Outside.faults c.args.outside.now in
+    let m = g.O.Outside.faults c.take_all.new.outside in
+    let b = g.O.Outside.faults c.finish.new.outside in
+    let p = err_from_is_err_and c.from_residual-in_err-finish.result c.from_residual-in_err-finish.ensures.1 in
+    rw (p.1, p.2) (err_sources_on (Unit {0}) (Unit {0}) a m b c.in_err-finish.field-0.0 c.in_ok-take_all.ensures.counts.reason c.in_err-finish.ensures.counts)
+
+pub returns-clause-counts : goal.returns-clause-counts
+returns-clause-counts g c = (counts_on _ _ _ c.flush.result c.flush.ensures.counts (c.in_ok-finish.ensures.counts.reason ∙ c.in_ok-take_all.ensures.counts.reason)).1

@@ -1,9 +1,12 @@
 use Rattle.std.proofs.Common.{◌≡◌, ap, refl, sym, subst, ◌∙◌}
 use Rattle.std.proofs.lemmas.Result.{err_from_is_err_and}
-use Rattle.std.specs.Prelude.{MatchOption}
+use Rattle.std.specs.Prelude.{IsTrue, MatchOption}
 use Rattle.std.specs.Int.NonZero.{non_zero_u32_get}
 use Rattle.s80_disk.specs.Shown.{Shown}
+use Rattle.s80_log.specs.Log.{log_file}
+use Rattle.s80_session.proofs.Knowing.{starts_written}
 use Rattle.s80_session.proofs.Stepping.{starts_err}
+use Rattle.s80_session.proofs.lemmas.Elsewhere.{no_mark}
 use Rattle.s80_session.proofs.session.Session.start.Goals as goal
 
 pub returns-in_err-keeper-clause-started : goal.returns-in_err-keeper-clause-started
@@ -24,3 +27,13 @@ returns-clause-started g c = λ settings changes put budget versions moment read
       told = ap (λ (o : Shown). o.told) c.start_keeper.ensures.shown ∙ told;
       held = c.none.ensures;
     }
+
+-- ---- what is known stays known
+pub returns-clause-known : goal.returns-clause-known
+returns-clause-known g c = λ told.
+    let o = g.O.Outside.shown c.args.outside.now in
+    let new = g.O.Outside.shown c.start_keeper.new.outside in
+    let tells = subst IsTrue (ap (λ (s : Shown). s.tells) c.start_keeper.ensures.shown) told in
+    let is = c.in_ok-keeper.ensures.answer tells in
+    let number = c.in_ok-keeper.keeper.log.number in
+    (tt, is.0, starts_written new.tells o.files new.files c.in_ok-keeper.keeper is.0 is.1 is.2 (c.start_keeper.ensures.others (log_file number) (no_mark number)) (c.in_ok-keeper.ensures.whole tells))

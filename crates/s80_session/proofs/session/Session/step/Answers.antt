@@ -3,6 +3,7 @@ use Rattle.std.proofs.lemmas.Result.{err_from_is_err_and}
 use Rattle.s80_session.specs.Files.{IsOther, IsUnwritten}
 use Rattle.s80_session.specs.Session.{keeper_of, was_of}
 use Rattle.s80_session.specs.Working.{at_rest}
+use Rattle.s80_session.proofs.FiledIn.{puts_file, FileLaws}
 use Rattle.s80_session.proofs.Grouped.{broken_trouble, flush_whole, put_trouble, step_lasts, stepped_err, stepped_ok, work_lasts}
 use Rattle.s80_session.proofs.Holding.{counts_on, counts_then}
 use Rattle.s80_session.proofs.Marking.{run_flushed}
@@ -26,6 +27,12 @@ returns-in_err-work-clause-troubled g c =
 pub returns-clause-stepped : goal.returns-clause-stepped
 returns-clause-stepped g c = λ work put readable at.
     stepped_ok c.flush.result (g.O.Disk.may_leave c.work.new.outside) (g.O.Disk.may_leave c.flush.new.outside) (g.O.Outside.shown c.work.new.outside) (g.O.Outside.shown c.flush.new.outside) c.work.new.self c.flush.new.self (was_of c.args.self.now) work put c.args.item c.flush.ensures.rest.troubled c.flush.ensures.rest.last_run c.flush.ensures.flushed (c.in_ok-work.ensures.worked work (at_rest work put) readable at)
+
+pub returns-clause-files_in : goal.returns-clause-files_in
+returns-clause-files_in g c = λ work put readable at.
+    let laws : FileLaws = record { all = c.all_classes_file_in.ensures; set = c.a_change_set_files_in.ensures } in
+    let stepped = stepped_ok c.flush.result (g.O.Disk.may_leave c.work.new.outside) (g.O.Disk.may_leave c.flush.new.outside) (g.O.Outside.shown c.work.new.outside) (g.O.Outside.shown c.flush.new.outside) c.work.new.self c.flush.new.self (was_of c.args.self.now) work put c.args.item c.flush.ensures.rest.troubled c.flush.ensures.rest.last_run c.flush.ensures.flushed (c.in_ok-work.ensures.worked work (at_rest work put) readable at) in
+    puts_file laws work at.keeps.built at.keeps.holds.list c.flush.result (g.O.Disk.may_leave c.flush.new.outside) (g.O.Outside.shown c.flush.new.outside) c.flush.new.self (was_of c.args.self.now) put c.args.item stepped
 
 pub returns-clause-any_moment : goal.returns-clause-any_moment
 returns-clause-any_moment g c = λ work put readable at.

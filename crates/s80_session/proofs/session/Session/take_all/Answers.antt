@@ -1,9 +1,13 @@
-use Rattle.std.proofs.Common.{refl, ◌∙◌, arith}
+use Rattle.std.proofs.Common.{refl, ◌∙◌, ℕ, Err, ap, arith}
 use Rattle.std.proofs.lemmas.List.{length-take-le}
 use Rattle.std.proofs.lemmas.Result.{err_from_is_err_and}
 use Rattle.s80_disk.proofs.lemmas.Showing.{told_beside}
+use Rattle.s80_disk.specs.Shown.{Shown}
 use Rattle.s80_session.specs.Session.{was_of}
 use Rattle.s80_session.proofs.Answering.{no_fewer_on, run_of_rest}
+use Rattle.s80_session.proofs.Knowing.{knows_left, whole_ends}
+use Rattle.s80_session.proofs.Breaking.{err_sources_on}
+use Rattle.s80_session.proofs.Holding.{source_counts}
 use Rattle.s80_session.proofs.Marking.{both_runs, no_run}
 use Rattle.s80_session.proofs.OneGroup.{little_at_rest}
 use Rattle.s80_session.proofs.Works.{piece_ends, piece_flush_ends, piece_flush_run, piece_run, take_ends, take_last, take_run, takes_piece, takes_start}
@@ -22,6 +26,8 @@ pieces-init g c = record {
   within = omega arith;
   buffer = c.requires.buffer;
   resting = c.requires.resting;
+  tells = refl;
+  known = λ knows. knows;
 }
 
 pub returns-in_err-count-clause-took : goal.returns-in_err-count-clause-took
@@ -84,6 +90,8 @@ pieces-preserved g c = record {
   within = c.in_ok-count.ensures.within;
   buffer = c.take_piece.ensures.room ∙ c.pieces.invariant.buffer;
   resting = c.in_ok-flush.ensures.resting;
+  tells = c.flush.ensures.tells ∙ c.work_piece.ensures.tells ∙ ap (λ (o : Shown). o.tells) c.take_piece.ensures.shown ∙ c.pieces.invariant.tells;
+  known = λ knows. c.in_ok-flush.ensures.known (c.in_ok-work_piece.ensures.known (knows_left (g.O.Outside.shown c.pieces.outside) (g.O.Outside.shown c.take_piece.new.outside) c.pieces.self c.take_piece.ensures.shown (c.pieces.invariant.known knows)));
 }
 
 pub returns-clause-took : goal.returns-clause-took
@@ -103,3 +111,51 @@ pub returns-clause-reading : goal.returns-clause-reading
 returns-clause-reading g c =
     let some = c.pieces.invariant.reading in
     (some.0, some.1, c.end_input.ensures.read some.0 some.1 some.2)
+
+-- ---- what is known stays known
+
+pub returns-in_err-count-clause-known : goal.returns-in_err-count-clause-known
+returns-in_err-count-clause-known g c = λ knows.
+    let p = err_from_is_err_and c.from_residual.result c.from_residual.ensures.1 in
+    rw (p.1, p.2) (whole_ends (g.O.Outside.faults c.pieces.outside) (g.O.Outside.faults c.take_piece.new.outside) c.in_err-count.field-0.0 (g.O.Outside.shown c.take_piece.new.outside) c.pieces.self c.in_err-count.ensures.counts)
+
+pub returns-in_err-work_piece-clause-known : goal.returns-in_err-work_piece-clause-known
+returns-in_err-work_piece-clause-known g c = λ knows.
+    let p = err_from_is_err_and c.from_residual-in_err-work_piece.result c.from_residual-in_err-work_piece.ensures.1 in
+    rw (p.1, p.2) (c.in_err-work_piece.ensures.known (knows_left (g.O.Outside.shown c.pieces.outside) (g.O.Outside.shown c.take_piece.new.outside) c.pieces.self c.take_piece.ensures.shown (c.pieces.invariant.known knows)))
+
+pub returns-in_err-flush-clause-known : goal.returns-in_err-flush-clause-known
+returns-in_err-flush-clause-known g c = λ knows.
+    let p = err_from_is_err_and c.from_residual-in_err-flush.result c.from_residual-in_err-flush.ensures.1 in
+    rw (p.1, p.2) (c.in_err-flush.ensures.known (c.in_ok-work_piece.ensures.known (knows_left (g.O.Outside.shown c.pieces.outside) (g.O.Outside.shown c.take_piece.new.outside) c.pieces.self c.take_piece.ensures.shown (c.pieces.invariant.known knows))))
+
+pub returns-clause-known : goal.returns-clause-known
+returns-clause-known g c = λ knows. knows_left (g.O.Outside.shown c.pieces.outside) (g.O.Outside.shown c.take_piece.new.outside) c.pieces.self c.take_piece.ensures.shown (c.pieces.invariant.known knows)
+
+-- ---- the counts of faults
+
+pub returns-in_err-count-clause-counts : goal.returns-in_err-count-clause-counts
+returns-in_err-count-clause-counts g c =
+    let a = g.O.Outside.faults c.args.outside.now in
+    let m = g.O.Outside.faults c.pieces.outside in
+    let b = g.O.Outside.faults c.take_piece.new.outside in
+    let end = c.in_err-count.field-0.0 in
+    let p = err_from_is_err_and c.from_residual.result c.from_residual.ensures.1 in
+    rw (p.1, p.2) (err_sources_on ℕ (Unit {0}) a m b end c.pieces.invariant.faults_stay (source_counts {U = ℕ} m b (Err end) c.in_err-count.ensures.counts))
+
+pub returns-in_err-work_piece-clause-counts : goal.returns-in_err-work_piece-clause-counts
+returns-in_err-work_piece-clause-counts g c =
+    let a = g.O.Outside.faults c.args.outside.now in
+    let m = g.O.Outside.faults c.take_piece.new.outside in
+    let b = g.O.Outside.faults c.work_piece.new.outside in
+    let p = err_from_is_err_and c.from_residual-in_err-work_piece.result c.from_residual-in_err-work_piece.ensures.1 in
+    rw (p.1, p.2) (err_sources_on (Unit {0}) (Unit {0}) a m b c.in_err-work_piece.field-0.0 (c.in_ok-count.ensures.counts.reason ∙ c.pieces.invariant.faults_stay) c.in_err-work_piece.ensures.counts)
+
+pub returns-in_err-flush-clause-counts : goal.returns-in_err-flush-clause-counts
+returns-in_err-flush-clause-counts g c =
+    let a = g.O.Outside.faults c.args.outside.now in
+    let m = g.O.Outside.faults c.work_piece.new.outside in
+    let b = g.O.Outside.faults c.flush.new.outside in
+    let end = c.in_err-flush.field-0.0 in
+    let p = err_from_is_err_and c.from_residual-in_err-flush.result c.from_residual-in_err-flush.ensures.1 in
+    rw (p.1, p.2) (err_sources_on (Unit {0}) (Unit {0}) a m b end (c.in_ok-work_piece.ensures.counts.reason ∙ c.in_ok-count.ensures.counts.reason ∙ c.pieces.invariant.faults_stay) (source_counts {U = Unit {0}} m b (Err end) c.in_err-flush.ensures.counts))

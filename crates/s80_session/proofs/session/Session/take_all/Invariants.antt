@@ -3,6 +3,7 @@ use Rattle.s80_chunk.specs.Held.{fed}
 use Rattle.s80_model.specs.Replies.{Work}
 use Rattle.s80_session.specs.Ending.{NoFewer}
 use Rattle.s80_session.specs.Run.{input_limit}
+use Rattle.s80_session.specs.Known.{IsKnowing}
 use Rattle.s80_session.specs.Session.{IsResting, RunSince, Was}
 use Rattle.s80_session.specs.Working.{HasReadSome, IsDone}
 use Rattle.s80_session.proofs.Works.{TakesOn}
@@ -23,6 +24,8 @@ invariant-pieces g l = record {
   within : l.taken ≤ input_limit;
   buffer : length l.buf ≡ 65536;
   resting : IsResting l.self;
+  tells : (g.O.Outside.shown l.outside).tells ≡ (g.O.Outside.shown l.fn.outside).tells;
+  known : IsKnowing (g.O.Outside.shown l.fn.outside) l.fn.self → IsKnowing (g.O.Outside.shown l.outside) l.self;
 }
 
 abbrev pub decreases-pieces : goal.decreases-pieces

@@ -12,6 +12,7 @@ use Rattle.s80_session.specs.Working.{Ground, IsAmid, IsReadable, Unreplied}
 use Rattle.s80_session.proofs.Breaking.{counts_memory, counts_whole, err_counts_on}
 use Rattle.s80_session.proofs.Grouped.{memory_lasts, worked_err, worked_memory}
 use Rattle.s80_session.proofs.Holding.{any_counts}
+use Rattle.s80_session.proofs.Knowing.{whole_ends}
 use Rattle.s80_session.proofs.Marking.{broken_run}
 use Rattle.s80_session.proofs.lemmas.Elsewhere.{elsewhere_fewer, elsewhere_then, still_other}
 use Rattle.s80_session.proofs.session.Session.work.Goals as goal
@@ -110,3 +111,12 @@ returns-then-is_memory-clause-sound g c = λ tells changes knows built.
 pub returns-clause-worked : goal.returns-clause-worked
 returns-clause-worked g c = λ work basis readable at.
     worked_err c.in-Err.end (g.O.Disk.may_leave c.work_item.new.outside) (g.O.Outside.shown c.work_item.new.outside) c.work_item.new.self (was_of c.args.self.now) work basis c.args.item c.if-is_memory.ensures (c.in-Err.ensures.worked work basis readable at)
+
+-- ---- what is known stays known
+
+pub returns-then-is_memory-clause-known : goal.returns-then-is_memory-clause-known
+returns-then-is_memory-clause-known g c = λ readable fed knows.
+    whole_ends (g.O.Outside.faults c.work_item.new.outside) (g.O.Outside.faults c.end_for_memory.new.outside) c.end_for_memory.result (g.O.Outside.shown c.end_for_memory.new.outside) c.end_for_memory.new.self c.end_for_memory.ensures.counts
+
+pub returns-clause-known : goal.returns-clause-known
+returns-clause-known g c = λ readable fed knows. c.in-Err.ensures.known readable fed knows

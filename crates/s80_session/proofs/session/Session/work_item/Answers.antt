@@ -1,17 +1,18 @@
-use Rattle.std.proofs.Common.{◌≡◌, [], inl, inr, ⊎_elim, length, Err, refl, ap, ◌∙◌}
+use Rattle.std.proofs.Common.{◌≡◌, [], inl, inr, ⊎_elim, length, Err, refl, sym, ap, subst, ◌∙◌}
 use Rattle.std.proofs.lemmas.Result.{err_from_is_err_and}
 use Rattle.s80_disk.specs.Moments.{LeavesOnly}
 use Rattle.s80_disk.proofs.lemmas.Showing.{told_beside}
 use Rattle.s80_keeper.specs.Keeper.{pending_of}
 use Rattle.s80_model.specs.declared.reply.Answer.{Answer}
 use Rattle.s80_model.specs.Replies.{Work}
-use Rattle.s80_model.specs.Section.{section_or}
+use Rattle.s80_model.specs.Section.{section_or, IsBriefSection}
 use Rattle.s80_session.specs.declared.end.SessionEnd.TheVariants as ends
 use Rattle.s80_session.specs.Run.{HasKept}
 use Rattle.s80_session.specs.Session.{budget_of, held_of, keeper_of, kept_versions_of, last_run_of, room_of, section_of, troubled_of, was_of, IsResting}
 use Rattle.s80_session.specs.Working.{Ground, IsAmid}
 use Rattle.s80_session.proofs.Breaking.{broke_on, memory_counts, memory_only}
 use Rattle.s80_session.proofs.Holding.{amid_alike, any_counts, counts_then, done_both, has_held, held_run, item_held, memory_both, unheld, unheld_run}
+use Rattle.s80_session.proofs.Knowing.{answer_ends, knows_entered}
 use Rattle.s80_session.proofs.lemmas.Grounds.{nothing_happens, work_still}
 use Rattle.s80_session.proofs.session.Session.work_item.Goals as goal
 use Rattle.s80_session.proofs.session.Session.work_item.Goals.{After-answer_to, After-reserve}
@@ -180,3 +181,16 @@ pub returns-in_err-hold-clause-unheld : goal.returns-in_err-hold-clause-unheld
 returns-in_err-hold-clause-unheld g c = λ resting.
     let p = err_from_is_err_and c.from_residual-in_err-hold.result c.from_residual-in_err-hold.ensures.1 in
     rw p.1 (c.in_err-hold.ensures.same.0 ∙ unheld_then g (goal.at.returns-in_err-hold-clause-unheld g c).After-answer_to resting)
+
+-- ---- what is known stays known
+
+pub returns-in_err-reply-clause-known : goal.returns-in_err-reply-clause-known
+returns-in_err-reply-clause-known g c = λ readable fed knows.
+    let p = err_from_is_err_and c.from_residual-in_err-reply.result c.from_residual-in_err-reply.ensures.1 in
+    rw (p.1, p.2) (answer_ends c.in_err-reply.field-0.0 (g.O.Outside.shown c.answer_to.new.outside) c.answer_to.new.self (c.in_err-reply.ensures.known readable fed knows))
+
+pub returns-clause-known : goal.returns-clause-known
+returns-clause-known g c = λ readable fed knows.
+    let held = c.hold.ensures.rest in
+    let section = c.enter.ensures.section ∙ ap (section_or c.in_ok-reply.field-0.section) (ap section_of held) in
+    knows_entered (g.O.Outside.shown c.answer_to.new.outside) c.answer_to.new.self c.enter.new.self (ap keeper_of c.enter.ensures.rest ∙ ap keeper_of held) (λ told. subst IsBriefSection (sym section) (c.in_ok-reply.ensures.brief readable fed knows told)) (c.in_ok-reply.ensures.known readable fed knows)

@@ -3,6 +3,7 @@ use Rattle.s80_chunk.specs.declared.item.Item.{Item}
 use Rattle.s80_chunk.specs.Held.{fed}
 use Rattle.s80_model.specs.Replies.{Work}
 use Rattle.s80_session.specs.Ending.{NoFewer}
+use Rattle.s80_session.specs.Known.{IsKnowing}
 use Rattle.s80_session.specs.Session.{HasLittle, IsFaultless, RunSince, Was}
 use Rattle.s80_session.specs.Working.{HasReadSome, IsWorking}
 use Rattle.s80_session.proofs.Works.{Feeds}
@@ -23,6 +24,8 @@ invariant-loop-done g l = record {
   opened : l.reader.ended ≡ false;
   faultless : IsFaultless l.self;
   little : HasLittle l.self;
+  tells : (g.O.Outside.shown l.outside).tells ≡ (g.O.Outside.shown l.fn.outside).tells;
+  known : IsKnowing (g.O.Outside.shown l.fn.outside) l.fn.self → IsKnowing (g.O.Outside.shown l.outside) l.self;
 }
 
 abbrev pub decreases-loop-done : goal.decreases-loop-done
