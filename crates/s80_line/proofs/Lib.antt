@@ -1,0 +1,5 @@
+pub mod Agrees
+pub mod Lines
+pub mod Numbers
+pub mod Outcomes
+pub mod Utf8

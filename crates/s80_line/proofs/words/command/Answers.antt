@@ -1,0 +1,12 @@
+use Rattle.std.proofs.Common.{ap₂, ◌∙◌}
+use Rattle.std.proofs.lemmas.Result.{IfOk-weaker}
+use Rattle.clap.specs.Words.{with_rule}
+use Rattle.s80_line.proofs.words.command.Goals as goal
+
+pub returns : goal.returns
+returns c =
+    let one = c.in_ok-arg.ensures.shape c.option.ensures.local ∙ ap₂ with_rule c.bare_command.ensures c.option.ensures.rule in
+    let two = c.in_ok-command.ensures.shape c.option-2.ensures.local ∙ ap₂ with_rule one c.option-2.ensures.rule in
+    let three = c.in_ok-arg-2.ensures.shape c.required.ensures.local ∙ ap₂ with_rule two c.required.ensures.rule in
+    let four = c.in_ok-arg-3.ensures.shape c.required-2.ensures.local ∙ ap₂ with_rule three c.required-2.ensures.rule in
+    IfOk-weaker c.arg-5.result _ _ (λ r added. added.shape c.rest.ensures.local ∙ ap₂ with_rule four c.rest.ensures.rule) c.arg-5.ensures
