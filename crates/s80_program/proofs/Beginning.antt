@@ -1,19 +1,14 @@
 -- The beginning of a command: the folder is chosen, and a session starts.
-use Rattle.std.proofs.Common.{◌≡◌, ◌≢◌, ◌⊎◌, inl, inr, ⊎_elim, ℕ, ◌≤◌, List, [], length, refl, sym, ap, subst, ◌∙◌, Err, Option, Some, None, Bool, true, false, take, arith}
-use Rattle.std.specs.Prelude.{◌==◌, if◌then◌else◌}
+use Rattle.std.proofs.Common.{◌≡◌, ◌⊎◌, inl, inr, ⊎_elim, ℕ, ◌≤◌, List, [], length, refl, sym, ap, subst, ◌∙◌, Err, Option, Some, None, Bool, arith}
 use Rattle.std.proofs.lemmas.List.{append-nil}
 use Rattle.s80_chunk.specs.Chunks.Reads.{stop}
 use Rattle.s80_change.specs.declared.change.Change.{Change}
-use Rattle.s80_apply.specs.List.{IsBuilt}
 use Rattle.s80_disk.specs.Image.{Image}
 use Rattle.s80_disk.specs.Moments.{LeavesOnly}
-use Rattle.s80_disk.proofs.lemmas.Run.{joined, weaker}
+use Rattle.s80_disk.proofs.lemmas.Run.{joined, started, weaker}
 use Rattle.s80_disk.specs.Shown.{Shown}
 use Rattle.s80_keeper.specs.declared.start.Damage.{Damage}
 use Rattle.s80_disk.specs.declared.disk.FileId.{FileId}
-use Rattle.s80_disk.specs.declared.disk.FileId.TheVariants.{Mark, Log0, Log1}
-use Rattle.s80_log.specs.Log.{log_file}
-use Rattle.s80_keeper.specs.Keeper.{KeeperState, Knows}
 use Rattle.s80_keeper.specs.Standing.{FilesStandFor, LeavesEither, StandsFor, ReadsFor}
 use Rattle.s80_keeper.specs.Start.{IsDamage, StartLeaves}
 use Rattle.s80_keeper.proofs.lemmas.Damages.{damaged_has_log}
@@ -104,6 +99,10 @@ pub kept_at_start : (item : Option SessionItem) (work : Work) (input before : Li
 kept_at_start None work input before told c h = keeps_at_start work input before told c h
 kept_at_start (Some item) work input before told c h = inl h
 
+-- no call was made
+pub as_before : {D : Type 0} (moment : D → ℕ) (left_since : D → ℕ → ℕ → Image → Type 0) (may_leave : Image → Type 0) (told : ℕ) (now : D) → ((n : ℕ) (c : Image) → left_since now (moment now) n c → may_leave c × (n ≡ told)) → LeavesOnly moment left_since now now (IsAsBefore may_leave told 0)
+as_before moment left_since may_leave told now only = started moment left_since now (IsAsBefore may_leave told 0) (λ n c left. let x = only n c left in record { no_fewer = omega (arith, x.1); no_more = omega (arith, x.1); was = x.0 })
+
 module _ {D : Type 0} (moment : D → ℕ) (left_since : D → ℕ → ℕ → Image → Type 0) (item : Option SessionItem) (work : Work) (input before : List ℕ) where
   abbrev P : ℕ → Image → Type 0
   P = KeepsFor item work input before
@@ -169,26 +168,3 @@ damage_found files ends.TooLong is h = absurd h
 -- where each file reads as before, nothing that is shown changes
 pub unchanged : (old mid now : Shown) → mid ≡ old → now ≡ record mid { files = now.files } → ((file : FileId) → now.files file ≡ mid.files file) → now ≡ old
 unchanged old mid now chosen is same = is ∙ (λ i. record mid { files = λ file. same file i }) ∙ chosen
-
--- the list for which files stand was built
-pub stands_built : (files : Image) (changes : List Change) → FilesStandFor files changes → IsBuilt changes
-stands_built files changes (inl (empty, is)) = subst IsBuilt (sym is) tt
-stands_built files changes (inr (mark, stands, none, built)) = built
-
--- what the files have of the keeper's log, where the mark alone was written
-log_or_log : (b : Bool) → (if b then Log0 else Log1) ≢ Mark
-log_or_log true is = cc is
-log_or_log false is = cc is
-
-no_mark : (number : ℕ) → log_file number ≢ Mark
-no_mark number = log_or_log (number == 0)
-
-pub knows_on : (files now : Image) (keeper : KeeperState) (changes : List Change) → ((other : FileId) → other ≢ Mark → now other ≡ files other) → Knows files keeper changes → Knows now keeper changes
-knows_on files now keeper changes same h = record {
-  log = ap (take keeper.log.end) (same (log_file keeper.log.number) (no_mark keeper.log.number)) ∙ h.log;
-  lawful = h.lawful;
-  system = h.system;
-  places = h.places;
-  history = h.history;
-  count = h.count;
-}

@@ -1,7 +1,8 @@
 -- The status of work that ended so.
 use Rattle.std.proofs.Common.{◌≡◌, ◌≢◌, inl, inr, ℕ, List, ◌++◌, sym, ap, subst, ◌∙◌, Result, Ok, Err, Option, None, Some, Bool, true, false}
 use Rattle.std.proofs.lemmas.List.{append-nil}
-use Rattle.std.specs.Prelude.{◌||◌}
+use Rattle.std.specs.Prelude.{◌||◌, IsTrue}
+use Rattle.s80_chunk.specs.declared.item.Item.TheVariants as items
 use Rattle.s80_disk.specs.Image.{Image}
 use Rattle.s80_disk.specs.Shown.{Shown, Faults}
 use Rattle.s80_session.specs.declared.end.SessionEnd.{SessionEnd}
@@ -10,7 +11,8 @@ use Rattle.s80_machine.specs.Came.{RanValue}
 use Rattle.s80_model.specs.declared.item.SessionItem.{SessionItem}
 use Rattle.s80_model.specs.declared.item.SessionItem.TheVariants.{Chunk, Unended, Query}
 use Rattle.s80_model.specs.Asked.{Ask, evaluates}
-use Rattle.s80_session.specs.Ending.{HasReason, EndsForReason, EndsForReasonOrDamage, StartsForReason, Counts, CountsFor, MeetsNoDamage, SourceCounts}
+use Rattle.s80_session.specs.Ending.{HasReason, EndsForReason, EndsForReasonOrDamage, StartsForReason, Counts, CountsFor, MeetsNoDamage, SourceCounts, TextCounts}
+use Rattle.s80_session.specs.Known.{StaysKnowing}
 use Rattle.s80_model.specs.declared.item.Filed.TheVariants as filed
 use Rattle.s80_model.specs.declared.item.Query.TheVariants as queries
 use Rattle.s80_model.specs.Replies.{AsksIn, Work, is_trouble, reply_text, reply_to, work_after}
@@ -87,21 +89,17 @@ any_value T U (ends.Disk failed) before now h = h
 any_value T U (ends.Damaged damage) before now h = h
 any_value T U ends.TooLong before now h = h
 
--- a run's counts are those of what may meet a damage
-pub run_counts : (T : Type 0) (r : Result T SessionEnd) (before now : Faults) → Counts before now r → SourceCounts before now r
+-- counts of what meets no damage are those of what may meet one
+run_counts : (T : Type 0) (r : Result T SessionEnd) (before now : Faults) → Counts before now r → SourceCounts before now r
 run_counts T (Ok done) before now h = record { later = h.later; reason = h.reason }
 run_counts T (Err end) before now h = record { later = h.later; reason = or_damage T T end before now h.reason }
 
-pub no_damage : (T : Type 0) (r : Result T SessionEnd) (before now : Faults) → Counts before now r → MeetsNoDamage r
-no_damage T (Ok done) before now h = tt
-no_damage T (Err ends.Memory) before now h = tt
-no_damage T (Err (ends.Read failed)) before now h = tt
-no_damage T (Err (ends.Write failed)) before now h = tt
-no_damage T (Err (ends.Disk failed)) before now h = tt
-no_damage T (Err (ends.Damaged damage)) before now h = h.reason
-no_damage T (Err ends.TooLong) before now h = tt
+-- a plain text may meet one where it asks to condense
+text_counts : (T : Type 0) (text : List ℕ) (r : Result T SessionEnd) (before now : Faults) → TextCounts text before now r → SourceCounts before now r
+text_counts T text r before now (inl h) = run_counts T r before now h
+text_counts T text r before now (inr h) = h.1
 
--- so are an item's
+-- so are the counts of an item
 pub item_counts : (T : Type 0) (item : SessionItem) (r : Result T SessionEnd) (before now : Faults) → CountsFor item before now r → SourceCounts before now r
 item_counts T (Query (queries.Source spec selector)) r before now h = h
 item_counts T (Query queries.Recover) r before now h = run_counts T r before now h
@@ -114,7 +112,11 @@ item_counts T (Query (queries.FileOut (filed.Class name))) r before now h = run_
 item_counts T (Query (queries.FileOut filed.Set)) r before now h = h
 item_counts T (Query queries.Snapshot) r before now h = run_counts T r before now h
 item_counts T (Query queries.Condense) r before now h = h
-item_counts T (Chunk item) r before now h = run_counts T r before now h
+item_counts T (Chunk (items.Plain text)) r before now h = text_counts T text r before now h
+item_counts T (Chunk (items.Head text)) r before now h = run_counts T r before now h
+item_counts T (Chunk (items.Method text)) r before now h = run_counts T r before now h
+item_counts T (Chunk items.SectionEnd) r before now h = run_counts T r before now h
+item_counts T (Chunk (items.TooLong role length)) r before now h = run_counts T r before now h
 item_counts T Unended r before now h = run_counts T r before now h
 
 pub item_counts_ok : (T U : Type 0) (done : T) (value : U) (before now : Faults) → SourceCounts before now (Ok done) → SourceCounts before now (Ok value)
@@ -130,6 +132,15 @@ no_damage_err T U (ends.Write failed) h = tt
 no_damage_err T U (ends.Disk failed) h = tt
 no_damage_err T U (ends.Damaged damage) h = h
 no_damage_err T U ends.TooLong h = tt
+
+-- what is known of a run that broke off: no damage was met, where the disk tells what it holds
+pub still_known : (o : Shown) (session : Session) (end : SessionEnd) → IsTrue o.tells → StaysKnowing {T = Unit {0}} (Err end) o session → MeetsNoDamage {T = Bool} (Err end)
+still_known o session ends.Memory tells h = tt
+still_known o session (ends.Read failed) tells h = tt
+still_known o session (ends.Write failed) tells h = tt
+still_known o session (ends.Disk failed) tells h = tt
+still_known o session (ends.Damaged damage) tells h = h tells
+still_known o session ends.TooLong tells h = tt
 
 pub reason_err : (end : SessionEnd) (before now : Faults) → HasReason before now end → StatusHasReason before now (status_after (Err end))
 reason_err ends.Memory before now h = h

@@ -169,7 +169,7 @@ part_front one now work item ask count before all timed asked taken whole =
     let P : List Ask → Type 0 = λ l. PutsFront now.taken work before l in
     subst P (sym rest.1) (take count line, drop count line ++ after, taken, ap (λ (l : List ℕ). l ++ after) (sym (take-append-drop count line)) ∙ append_assoc (take count line) (drop count line) after)
 
-nothing_put : (now : Shown) (work : Work) (before : List ℕ) (all : List Ask) → now.taken ≡ Some before → PutsFront now.taken work before all
+pub nothing_put : (now : Shown) (work : Work) (before : List ℕ) (all : List Ask) → now.taken ≡ Some before → PutsFront now.taken work before all
 nothing_put now work before all taken = front_put now work before [] all (taken ∙ ap Some (sym (append-nil before)))
 
 item_front : OneList → (s : Status) (may_leave : Image → Type 0) (now : Shown) (work : Work) (item : SessionItem) (before : List ℕ) (all : List Ask) → IsTimed work.settings item → ItemLeaves s may_leave now work item before → AllAsk work (item ∷ []) all → PutsFront now.taken work before all

@@ -66,17 +66,18 @@ item_for Run = None
 item_for (Do text) = Some (Chunk (item_of Plain (behind_separators text)))
 item_for (Tell query) = Some (Query query)
 
--- how many ticks a doIt may take
-abbrev pub default_budget : ℕ
-default_budget = 1000000
+-- what the options say: how many ticks a doIt may take, and how many versions of each method a condensed list keeps
+pub record Options : Type 0 where
+  pub budget : ℕ
+  pub kept_versions : ℕ
 
--- what a run is given that is told nothing else, with the seconds of its clock, where that tells them
-abbrev pub default_settings : Option ℕ → Settings
-default_settings moment = record { budget = default_budget; kept_versions = 1; moment = moment }
+-- what a run is given, with the seconds of its clock, where that tells them
+abbrev pub settings_of : Options → Option ℕ → Settings
+settings_of options moment = record { budget = options.budget; kept_versions = options.kept_versions; moment = moment }
 
 -- what it asks is one thing: where it files out, the clock tells its seconds
-abbrev pub IsTimedCommand : Option ℕ → Command → Type 0
-IsTimedCommand moment command = IfSome (item_for command) (IsTimed (default_settings moment))
+abbrev pub IsTimedCommand : Options → Option ℕ → Command → Type 0
+IsTimedCommand options moment command = IfSome (item_for command) (IsTimed (settings_of options moment))
 
 -- it asks for something to be told, and no more
 abbrev pub IsAskingCommand : Command → Type 0

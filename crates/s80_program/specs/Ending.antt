@@ -36,6 +36,10 @@ status_after (Err (ends.Disk failed)) = status.DiskFault
 status_after (Err (ends.Damaged damage)) = status.Damaged
 status_after (Err ends.TooLong) = status.InputTooLong
 
+-- memory was wanting to read the words, and nothing was called
+abbrev pub IsUnread : {O : Type 0} → Status → O → O → Type 0
+IsUnread ended before now = (ended ≡ status.OutOfMemory) × (now ≡ before)
+
 -- a call of the disk failed
 abbrev pub IsDiskEnd : SessionEnd → Type 0
 IsDiskEnd (ends.Disk failed) = Unit {0}
@@ -63,7 +67,7 @@ number_of status.InputTooLong = 8
 abbrev pub message_of : Status → Option (List ℕ)
 message_of status.Done = None
 message_of status.DoneWithRefusals = None
-message_of status.Usage = Some (codes "st80: usage: st80 [--budget N] FOLDER COMMAND [ARGUMENTS]")
+message_of status.Usage = Some (codes "st80: usage: st80 [--budget N] [--keep K] FOLDER COMMAND [ARGUMENTS]")
 message_of status.ReadFault = Some (codes "st80: read fault")
 message_of status.WriteFault = Some (codes "st80: write fault")
 message_of status.DiskFault = Some (codes "st80: disk fault")

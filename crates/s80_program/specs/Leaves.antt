@@ -12,7 +12,7 @@ use Rattle.s80_session.specs.Run.{HasKept, ShownFor, Answered, Finished, CutOff,
 use Rattle.s80_session.specs.Working.{IsLost, IsPast, StepLeaves}
 use Rattle.s80_program.specs.declared.status.Status.{Status}
 use Rattle.s80_program.specs.declared.status.Status.TheVariants as status
-use Rattle.s80_program.specs.Command.{Command, Run, Do, Tell, default_settings, item_for}
+use Rattle.s80_program.specs.Command.{Command, Options, Run, Do, Tell, item_for, settings_of}
 
 -- an outside that tells its contents: what its disk reads stands for this list, this input is left, and these bytes were taken
 pub record StartsWith (may_leave : Image → Type 0) (o : Shown) (changes : List Change) (input before : List ℕ) : Type 0 where
@@ -21,9 +21,9 @@ pub record StartsWith (may_leave : Image → Type 0) (o : Shown) (changes : List
   pub taken : o.taken ≡ Some before
   pub told : o.told ≡ length before
 
--- before the first item, with the seconds of the clock, where it tells them
-abbrev pub beginning : Option ℕ → List Change → Work
-beginning moment changes = begun (default_settings moment) changes
+-- before the first item, with these options, and with the seconds of the clock, where it tells them
+abbrev pub beginning : Options → Option ℕ → List Change → Work
+beginning options moment changes = begun (settings_of options moment) changes
 
 -- what a run leaves of the work from which it begins, by its status
 abbrev pub RunLeaves : Status → (Image → Type 0) → Shown → Work → List ℕ → List ℕ → Type 0

@@ -1,34 +1,26 @@
 -- The words of the command line.
-use Rattle.std.specs.Prelude.{◌≡◌, ◌≢◌, ℕ, List, [], ◌∷◌, All, IsUtf8}
-use Rattle.s80_program.specs.Command.{Command, IsUseful, command_word, arguments_of}
-
--- a word that begins as an option does: with `-`, and longer than that
-abbrev pub IsOption : List ℕ → Type 0
-IsOption [] = ⊥
-IsOption (b ∷ []) = ⊥
-IsOption (b ∷ c ∷ rest) = b ≡ 45
-
--- a word that is taken as it stands
-pub record IsPlain (word : List ℕ) : Type 0 where
-  pub encoded : IsUtf8 word
-  pub no_option : IsOption word → ⊥
-
--- a word that names a folder
-pub record IsFolder (word : List ℕ) : Type 0 where
-  pub plain : IsPlain word
-  pub some : word ≢ []
+use Rattle.std.specs.Prelude.{◌≡◌, ℕ, List, Some}
+use Rattle.s80_line.specs.declared.line.Line.{Line}
+use Rattle.s80_line.specs.Line.{IsLine, LineParts}
+use Rattle.s80_line.specs.Shown.{shown}
+use Rattle.s80_program.specs.Command.{Command, Options, IsUseful, command_word, arguments_of}
 
 -- the words behind the folder are a command and its arguments
-pub record AreOf (words : List (List ℕ)) (command : Command) : Type 0 where
-  pub words_are : words ≡ command_word command ∷ arguments_of command
-  pub plain : All IsPlain (arguments_of command)
+pub record AreOf (word : List ℕ) (arguments : List (List ℕ)) (command : Command) : Type 0 where
+  pub word_is : word ≡ command_word command
+  pub arguments_are : arguments ≡ arguments_of command
   pub useful : IsUseful command
 
--- the words ask for a command in this folder: the program's name, the folder, the command and its arguments
-pub record Asks (words : List (List ℕ)) (folder : List ℕ) (command : Command) : Type 0 where
-  pub program : List ℕ
-  pub behind : List (List ℕ)
-  pub words_are : words ≡ program ∷ folder ∷ behind
-  pub encoded : IsUtf8 program
-  pub named : IsFolder folder
-  pub command_is : AreOf behind command
+-- the options of a line
+abbrev pub options_of : LineParts → Options
+options_of line = record { budget = line.budget; kept_versions = line.keep }
+
+abbrev pub options_in : Line → Options
+options_in line = options_of (shown line)
+
+-- the words are a line that asks for a command with these options
+pub record Asks (words : List (List ℕ)) (options : Options) (command : Command) : Type 0 where
+  pub line : LineParts
+  pub read : IsLine words (Some line)
+  pub options_are : options ≡ options_of line
+  pub command_is : AreOf line.command line.arguments command

@@ -1,6 +1,5 @@
 // What the program does with its words.
-ghost use Rattle.std.specs.Prelude.{◌≡◌, ◌≢◌, ◌⊎◌, ◌<◌, ◌++◌, ℕ, List, [], length, IsTrue, false, None, Some, IfOk, IfErr, IfSome};
-ghost use Rattle.s80_apply.specs.List.{IsBuilt};
+ghost use Rattle.std.specs.Prelude.{◌≡◌, ◌≢◌, ◌⊎◌, ◌<◌, ◌≤◌, ℕ, List, [], IsTrue, false, None, Some, IfOk, IfErr, IfSome};
 ghost use Rattle.s80_change.specs.declared.change.Change.{Change};
 ghost use Rattle.s80_chunk.specs.Chunks.{item_of};
 ghost use Rattle.s80_disk.specs.declared.disk.FileId.{FileId};
@@ -10,35 +9,30 @@ ghost use Rattle.s80_session.specs.Files.{IsAsking};
 ghost use Rattle.s80_disk.specs.Moments.{LeavesOnly};
 ghost use Rattle.s80_keeper.specs.declared.start.Damage.{Damage};
 ghost use Rattle.s80_keeper.specs.Start.{IsDamage};
-ghost use Rattle.s80_keeper.specs.Keeper.{Knows};
 ghost use Rattle.s80_keeper.specs.Standing.{FilesStandFor};
 ghost use Rattle.s80_model.specs.Asked.{Ask};
 ghost use Rattle.s80_session.specs.Ending.{Counts, MeetsNoDamage, SourceCounts};
+ghost use Rattle.s80_session.specs.Known.{IsKnowing};
 ghost use Rattle.s80_session.specs.Putting.{IsAsBefore};
 ghost use Rattle.s80_session.specs.Run.{Keeps, ShownFor};
-ghost use Rattle.s80_session.specs.Session.{keeper_of, last_run_of, troubled_of, IsResting};
+ghost use Rattle.s80_session.specs.Session.{last_run_of, troubled_of, IsResting};
 ghost use Rattle.s80_session.specs.Working.{IsAt, IsReadable, StepLeaves};
-ghost use Rattle.s80_program.specs.Ending.{IsDiskEnd, NoFault, StatusHasReason, status_after, IsWhole};
+ghost use Rattle.s80_program.specs.Ending.{IsDiskEnd, IsUnread, NoFault, StatusHasReason, status_after, IsWhole};
 ghost use Rattle.s80_program.specs.Leaves.{StartsWith, Leaves, RunLeaves, ItemLeaves, CommandKeeps, KilledKeeps, AllAsks, IsWithin, PutsFront, TellsDamage, beginning};
-ghost use Rattle.s80_program.specs.Command.{Command, IsAskingCommand, IsTimedCommand, IsUseful, behind_separators, item_for};
-ghost use Rattle.s80_program.specs.Words.{Asks};
+ghost use Rattle.s80_program.specs.Command.{Command, Options, IsAskingCommand, IsTimedCommand, IsUseful, behind_separators, item_for};
+ghost use Rattle.s80_program.specs.Words.{Asks, options_in};
 ghost use Rattle.s80_program.specs.Task.{command_of};
 
 use crate::outside::attach;
 use crate::status::Status;
-use crate::words::{Task, behind_separators, request_of};
+use crate::words::{Task, behind_separators, task_of};
 use s80_base::{OutOfMemory, Text};
 use s80_chunk::{Item, LONGEST, Role};
 use s80_disk::Outside;
+use s80_line::{Line, read_line};
 use s80_model::{Filed, Query, SessionItem, one_ask};
 use s80_session::{Session, SessionEnd};
 use std::alloc::Global;
-
-/// How many ticks a doIt may take.
-const DEFAULT_BUDGET: u64 = 1_000_000;
-
-/// How many of the newest versions of each method a condensed list keeps.
-const DEFAULT_KEEP: u32 = 1;
 
 /// Does what the words ask for: the program's name, a folder and a command. `run` keeps each chunk of the input that is a change of classes, a
 /// method or a doIt in the folder, on the disk, and then answers it: a doIt with what it wrote and what it comes to, and else by a line.
@@ -49,53 +43,54 @@ const DEFAULT_KEEP: u32 = 1;
 pub fn st80<O: Outside>(alloc: Global, words: &[Text], outside: &mut O) -> Status
     // Bad usage is answered exactly where the words ask for nothing, and then the outside isn't called.
     ensures usage { result ≡ Status.Usage
-        → ((folder : List ℕ) (command : Command) → Asks words.now folder command → ⊥) × (outside.new ≡ outside.old) }
-    ensures lawful { result ≢ Status.Usage → (folder : List ℕ) × (command : Command) × Asks words.now folder command }
+        → ((options : Options) (command : Command) → Asks words.now options command → ⊥) × (outside.new ≡ outside.old) }
+    ensures lawful { result ≢ Status.Usage → ((options : Options) × (command : Command) × Asks words.now options command) ⊎ IsUnread result outside.old outside.new }
 
     // A fault is answered only where its count rose in this call, and every other status only where no count did.
     ensures reason { StatusHasReason (O.faults outside.old) (O.faults outside.new) result }
 
     // From a disk that stands for a list of changes, the bytes written are the model keeper's replies to the items of the command.
-    ensures leaves { (folder : List ℕ) (command : Command) (changes : List Change) (input before : List ℕ)
-        → Asks words.now folder command
+    ensures leaves { (options : Options) (command : Command) (changes : List Change) (input before : List ℕ)
+        → Asks words.now options command
         → StartsWith (O.may_leave outside.old) (O.shown outside.old) changes input before
-        → Leaves command result (O.may_leave outside.new) (O.shown outside.new) (beginning (O.shown outside.old).seconds changes) input before }
+        → Leaves command result (O.may_leave outside.new) (O.shown outside.new) (beginning options (O.shown outside.old).seconds changes) input before
+        ⊎ IsUnread result outside.old outside.new }
 
     // A crash at any moment, inside a write too, leaves files that stand for the list after the first items, and no change is lost that
     // was answered by then.
-    ensures any_moment { (folder : List ℕ) (command : Command) (changes : List Change) (input before : List ℕ)
-        → Asks words.now folder command
+    ensures any_moment { (options : Options) (command : Command) (changes : List Change) (input before : List ℕ)
+        → Asks words.now options command
         → StartsWith (O.may_leave outside.old) (O.shown outside.old) changes input before
         → ShownFor (O.may_leave outside.old) (O.shown outside.old) changes
-        → LeavesOnly O.moment O.left_since outside.old outside.new (CommandKeeps command (beginning (O.shown outside.old).seconds changes) input before) }
+        → LeavesOnly O.moment O.left_since outside.old outside.new (CommandKeeps command (beginning options (O.shown outside.old).seconds changes) input before) }
 
     // So it is behind a run that was killed as it committed: its disk reads for the list, and a crash might leave that list or the one before.
-    ensures killed { (folder : List ℕ) (command : Command) (changes was : List Change) (input before : List ℕ)
-        → Asks words.now folder command
+    ensures killed { (options : Options) (command : Command) (changes was : List Change) (input before : List ℕ)
+        → Asks words.now options command
         → StartsWith (O.may_leave outside.old) (O.shown outside.old) changes input before
         → ((c : FileId → List ℕ) → O.may_leave outside.old c → FilesStandFor c changes ⊎ FilesStandFor c was)
-        → LeavesOnly O.moment O.left_since outside.old outside.new (KilledKeeps command (beginning (O.shown outside.old).seconds changes) was input before) }
+        → LeavesOnly O.moment O.left_since outside.old outside.new (KilledKeeps command (beginning options (O.shown outside.old).seconds changes) was input before) }
 
     // However it ends, what it wrote is a front of the replies to all that the command asks, if the clock tells its seconds to one that files out.
-    ensures front { (folder : List ℕ) (command : Command) (changes : List Change) (input before : List ℕ) (asks : List Ask)
-        → Asks words.now folder command
+    ensures front { (options : Options) (command : Command) (changes : List Change) (input before : List ℕ) (asks : List Ask)
+        → Asks words.now options command
         → StartsWith (O.may_leave outside.old) (O.shown outside.old) changes input before
-        → IsTimedCommand (O.shown outside.old).seconds command
-        → AllAsks command (beginning (O.shown outside.old).seconds changes) input asks
-        → PutsFront (O.shown outside.new).taken (beginning (O.shown outside.old).seconds changes) before asks }
+        → IsTimedCommand options (O.shown outside.old).seconds command
+        → AllAsks command (beginning options (O.shown outside.old).seconds changes) input asks
+        → PutsFront (O.shown outside.new).taken (beginning options (O.shown outside.old).seconds changes) before asks }
 
     // With no fault and an input within the limit it comes to the end, or is out of memory.
-    ensures complete { (folder : List ℕ) (command : Command) (changes : List Change) (input before : List ℕ)
-        → Asks words.now folder command
+    ensures complete { (options : Options) (command : Command) (changes : List Change) (input before : List ℕ)
+        → Asks words.now options command
         → StartsWith (O.may_leave outside.old) (O.shown outside.old) changes input before
         → IsWithin command input
         → NoFault (O.faults outside.old) (O.faults outside.new)
         → IsWhole result }
 
     // A command that asks for something changes no file, but that logs which are empty get their first mark.
-    ensures asked { (folder : List ℕ) (command : Command) → Asks words.now folder command → IsAskingCommand command
+    ensures asked { (options : Options) (command : Command) → Asks words.now options command → IsAskingCommand command
         → (file : FileId) → file ≢ Mark → (O.shown outside.new).files file ≡ (O.shown outside.old).files file }
-    ensures marked { (folder : List ℕ) (command : Command) → Asks words.now folder command → IsAskingCommand command
+    ensures marked { (options : Options) (command : Command) → Asks words.now options command → IsAskingCommand command
         → IsTrue (O.shown outside.old).tells → 0 < longer_log (O.shown outside.old).files
         → (file : FileId) → (O.shown outside.new).files file ≡ (O.shown outside.old).files file }
 
@@ -103,14 +98,20 @@ pub fn st80<O: Outside>(alloc: Global, words: &[Text], outside: &mut O) -> Statu
     // what it might have left before.
     ensures found { result ≡ Status.Damaged → IsTrue (O.shown outside.old).tells
         → (damage : Damage) × IsDamage (O.shown outside.old).files damage }
-    ensures damaged { (folder : List ℕ) (command : Command) (damage : Damage) → Asks words.now folder command
+    ensures damaged { (options : Options) (command : Command) (damage : Damage) → Asks words.now options command
         → IsTrue (O.shown outside.old).tells → IsDamage (O.shown outside.old).files damage
         → TellsDamage result × (O.shown outside.new ≡ O.shown outside.old)
         × LeavesOnly O.moment O.left_since outside.old outside.new (IsAsBefore (O.may_leave outside.old) (O.shown outside.old).told 0) }
 {
     one_ask();
-    match request_of(words) {
-        Some(request) => status_of(work(alloc, request.folder, request.task, outside)),
+    let Ok(line) = read_line(alloc, words) else {
+        return Status::OutOfMemory;
+    };
+    let Some(line) = line else {
+        return Status::Usage;
+    };
+    match task_of(&line.command, line.arguments.as_slice()) {
+        Some(task) => status_of(work(alloc, &line, task, outside)),
         None => Status::Usage,
     }
 }
@@ -118,22 +119,23 @@ pub fn st80<O: Outside>(alloc: Global, words: &[Text], outside: &mut O) -> Statu
 /// Does a task in a folder. Says whether some item was refused or stopped.
 fn work<O: Outside>(
     alloc: Global,
-    folder: &Text,
+    line: &Line,
     task: Task<'_>,
     outside: &mut O,
 ) -> Result<bool, SessionEnd>
-    requires { IsUseful (command_of task) }
+    requires useful { IsUseful (command_of task) }
+    requires keep { 1 ≤ line.now.keep }
     ensures worked { (changes : List Change) (input before : List ℕ)
         → StartsWith (O.may_leave outside.old) (O.shown outside.old) changes input before
-        → Leaves (command_of task.entry) (status_after result) (O.may_leave outside.new) (O.shown outside.new) (beginning (O.shown outside.old).seconds changes) input before }
+        → Leaves (command_of task.entry) (status_after result) (O.may_leave outside.new) (O.shown outside.new) (beginning (options_in line.now) (O.shown outside.old).seconds changes) input before }
     ensures any_moment { (changes : List Change) (input before : List ℕ)
         → StartsWith (O.may_leave outside.old) (O.shown outside.old) changes input before
         → ShownFor (O.may_leave outside.old) (O.shown outside.old) changes
-        → LeavesOnly O.moment O.left_since outside.old outside.new (CommandKeeps (command_of task.entry) (beginning (O.shown outside.old).seconds changes) input before) }
+        → LeavesOnly O.moment O.left_since outside.old outside.new (CommandKeeps (command_of task.entry) (beginning (options_in line.now) (O.shown outside.old).seconds changes) input before) }
     ensures killed { (changes was : List Change) (input before : List ℕ)
         → StartsWith (O.may_leave outside.old) (O.shown outside.old) changes input before
         → ((c : FileId → List ℕ) → O.may_leave outside.old c → FilesStandFor c changes ⊎ FilesStandFor c was)
-        → LeavesOnly O.moment O.left_since outside.old outside.new (KilledKeeps (command_of task.entry) (beginning (O.shown outside.old).seconds changes) was input before) }
+        → LeavesOnly O.moment O.left_since outside.old outside.new (KilledKeeps (command_of task.entry) (beginning (options_in line.now) (O.shown outside.old).seconds changes) was input before) }
     ensures asked { IsAskingCommand (command_of task.entry)
         → (file : FileId) → file ≢ Mark → (O.shown outside.new).files file ≡ (O.shown outside.old).files file }
     ensures marked { IsAskingCommand (command_of task.entry) → IsTrue (O.shown outside.old).tells → 0 < longer_log (O.shown outside.old).files
@@ -146,8 +148,8 @@ fn work<O: Outside>(
     ensures reason { StatusHasReason (O.faults outside.old) (O.faults outside.new) (status_after result) }
     ensures useful { status_after result ≢ Status.Usage }
 {
-    open_folder(outside, folder)?;
-    let mut session = Session::start(alloc, outside, DEFAULT_BUDGET, DEFAULT_KEEP)?;
+    open_folder(outside, &line.folder)?;
+    let mut session = Session::start(alloc, outside, line.budget, line.keep)?;
     do_task(&mut session, alloc, task, outside)
 }
 
@@ -173,16 +175,15 @@ fn do_task<O: Outside>(
 ) -> Result<bool, SessionEnd>
     requires resting { IsResting session.old }
     requires useful { IsUseful (command_of task) }
-    ensures worked { (changes : List Change) (input before : List ℕ) → (O.shown outside.old).left ≡ Some input
+    ensures worked { (options : Options) (changes : List Change) (input before : List ℕ) → (O.shown outside.old).left ≡ Some input
         → troubled_of session.old ≡ false → last_run_of session.old ≡ None
-        → IsAt (O.may_leave outside.old) (O.shown outside.old) session.old (beginning (O.shown outside.old).seconds changes) before
-        → Leaves (command_of task.entry) (status_after result) (O.may_leave outside.new) (O.shown outside.new) (beginning (O.shown outside.old).seconds changes) input before }
-    ensures any_moment { (changes : List Change) (input before : List ℕ) → (O.shown outside.old).left ≡ Some input
-        → IsAt (O.may_leave outside.old) (O.shown outside.old) session.old (beginning (O.shown outside.old).seconds changes) before
-        → LeavesOnly O.moment O.left_since outside.old outside.new (CommandKeeps (command_of task.entry) (beginning (O.shown outside.old).seconds changes) input before) }
+        → IsAt (O.may_leave outside.old) (O.shown outside.old) session.old (beginning options (O.shown outside.old).seconds changes) before
+        → Leaves (command_of task.entry) (status_after result) (O.may_leave outside.new) (O.shown outside.new) (beginning options (O.shown outside.old).seconds changes) input before }
+    ensures any_moment { (options : Options) (changes : List Change) (input before : List ℕ) → (O.shown outside.old).left ≡ Some input
+        → IsAt (O.may_leave outside.old) (O.shown outside.old) session.old (beginning options (O.shown outside.old).seconds changes) before
+        → LeavesOnly O.moment O.left_since outside.old outside.new (CommandKeeps (command_of task.entry) (beginning options (O.shown outside.old).seconds changes) input before) }
     ensures asked { IsAskingCommand (command_of task.entry) → (file : FileId) → (O.shown outside.new).files file ≡ (O.shown outside.old).files file }
-    ensures sound { IsTrue (O.shown outside.old).tells → (changes : List Change) → IsBuilt changes
-        → Knows (O.shown outside.old).files (keeper_of session.old) changes → MeetsNoDamage result }
+    ensures sound { IsTrue (O.shown outside.old).tells → IsKnowing (O.shown outside.old) session.old → MeetsNoDamage result }
     ensures counts { SourceCounts (O.faults outside.old) (O.faults outside.new) result }
 {
     match item_for(alloc, task)? {
@@ -238,14 +239,15 @@ fn run_input<O: Outside>(
     outside: &mut O,
 ) -> Result<bool, SessionEnd>
     requires resting { IsResting session.old }
-    ensures worked { (changes : List Change) (input before : List ℕ) → (O.shown outside.old).left ≡ Some input
+    ensures worked { (options : Options) (changes : List Change) (input before : List ℕ) → (O.shown outside.old).left ≡ Some input
         → troubled_of session.old ≡ false → last_run_of session.old ≡ None
-        → IsAt (O.may_leave outside.old) (O.shown outside.old) session.old (beginning (O.shown outside.old).seconds changes) before
-        → RunLeaves (status_after result) (O.may_leave outside.new) (O.shown outside.new) (beginning (O.shown outside.old).seconds changes) input before }
-    ensures any_moment { (changes : List Change) (input before : List ℕ) → (O.shown outside.old).left ≡ Some input
-        → IsAt (O.may_leave outside.old) (O.shown outside.old) session.old (beginning (O.shown outside.old).seconds changes) before
-        → LeavesOnly O.moment O.left_since outside.old outside.new (Keeps (beginning (O.shown outside.old).seconds changes) input before) }
-    ensures counts { Counts (O.faults outside.old) (O.faults outside.new) result }
+        → IsAt (O.may_leave outside.old) (O.shown outside.old) session.old (beginning options (O.shown outside.old).seconds changes) before
+        → RunLeaves (status_after result) (O.may_leave outside.new) (O.shown outside.new) (beginning options (O.shown outside.old).seconds changes) input before }
+    ensures any_moment { (options : Options) (changes : List Change) (input before : List ℕ) → (O.shown outside.old).left ≡ Some input
+        → IsAt (O.may_leave outside.old) (O.shown outside.old) session.old (beginning options (O.shown outside.old).seconds changes) before
+        → LeavesOnly O.moment O.left_since outside.old outside.new (Keeps (beginning options (O.shown outside.old).seconds changes) input before) }
+    ensures sound { IsTrue (O.shown outside.old).tells → IsKnowing (O.shown outside.old) session.old → MeetsNoDamage result }
+    ensures counts { SourceCounts (O.faults outside.old) (O.faults outside.new) result }
 {
     session.run_items(alloc, outside)?;
     Ok(session.troubled())
@@ -260,16 +262,15 @@ fn answer_item<O: Outside>(
 ) -> Result<bool, SessionEnd>
     requires resting { IsResting session.old }
     requires readable { IsReadable item }
-    ensures worked { (changes : List Change) (before : List ℕ) → troubled_of session.old ≡ false
-        → IsAt (O.may_leave outside.old) (O.shown outside.old) session.old (beginning (O.shown outside.old).seconds changes) before
-        → ItemLeaves (status_after result) (O.may_leave outside.new) (O.shown outside.new) (beginning (O.shown outside.old).seconds changes) item before }
-    ensures any_moment { (changes : List Change) (before : List ℕ)
-        → IsAt (O.may_leave outside.old) (O.shown outside.old) session.old (beginning (O.shown outside.old).seconds changes) before
-        → LeavesOnly O.moment O.left_since outside.old outside.new (StepLeaves (beginning (O.shown outside.old).seconds changes) before item) }
+    ensures worked { (options : Options) (changes : List Change) (before : List ℕ) → troubled_of session.old ≡ false
+        → IsAt (O.may_leave outside.old) (O.shown outside.old) session.old (beginning options (O.shown outside.old).seconds changes) before
+        → ItemLeaves (status_after result) (O.may_leave outside.new) (O.shown outside.new) (beginning options (O.shown outside.old).seconds changes) item before }
+    ensures any_moment { (options : Options) (changes : List Change) (before : List ℕ)
+        → IsAt (O.may_leave outside.old) (O.shown outside.old) session.old (beginning options (O.shown outside.old).seconds changes) before
+        → LeavesOnly O.moment O.left_since outside.old outside.new (StepLeaves (beginning options (O.shown outside.old).seconds changes) before item) }
     ensures asked { IsAsking item → (file : FileId) → (O.shown outside.new).files file ≡ (O.shown outside.old).files file }
     ensures left { (O.shown outside.new).left ≡ (O.shown outside.old).left }
-    ensures sound { IsTrue (O.shown outside.old).tells → (changes : List Change) → IsBuilt changes
-        → Knows (O.shown outside.old).files (keeper_of session.old) changes → MeetsNoDamage result }
+    ensures sound { IsTrue (O.shown outside.old).tells → IsKnowing (O.shown outside.old) session.old → MeetsNoDamage result }
     ensures counts { SourceCounts (O.faults outside.old) (O.faults outside.new) result }
 {
     session.step(alloc, item, outside)?;

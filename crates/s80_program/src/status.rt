@@ -35,7 +35,9 @@ impl Status {
     {
         match self {
             Status::Done | Status::DoneWithRefusals => None,
-            Status::Usage => Some("st80: usage: st80 [--budget N] FOLDER COMMAND [ARGUMENTS]"),
+            Status::Usage => Some(
+                "st80: usage: st80 [--budget N] [--keep K] FOLDER COMMAND [ARGUMENTS]",
+            ),
             Status::ReadFault => Some("st80: read fault"),
             Status::WriteFault => Some("st80: write fault"),
             Status::DiskFault => Some("st80: disk fault"),

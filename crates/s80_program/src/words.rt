@@ -1,7 +1,7 @@
-// The words of the command line.
-ghost use Rattle.std.specs.Prelude.{◌≡◌, ◌↔◌, ◌∷◌, [], ℕ, List, IsTrue, IsUtf8, IfSome, IfNone};
+// The command that words ask for.
+ghost use Rattle.std.specs.Prelude.{◌≡◌, ◌∷◌, [], IfSome, IfNone};
 ghost use Rattle.s80_program.specs.Command.{Command, behind_separators};
-ghost use Rattle.s80_program.specs.Words.{IsOption, IsPlain, IsFolder, AreOf, Asks};
+ghost use Rattle.s80_program.specs.Words.{AreOf};
 ghost use Rattle.s80_program.specs.Task.{command_of};
 
 use s80_base::{Text, is_separator};
@@ -37,42 +37,10 @@ pub(crate) enum Task<'w> {
     Condense,
 }
 
-/// A task, and the folder that it is for.
-#[derive(Clone, Copy)]
-pub(crate) struct Request<'w> {
-    pub folder: &'w Text,
-    pub task: Task<'w>,
-}
-
-fn is_text(word: &Text) -> bool
-    ensures { IsTrue result ↔ IsUtf8 word.now }
-{
-    std::str::from_utf8(word.bytes()).is_ok()
-}
-
-/// Whether a word begins as an option does.
-fn is_option(word: &Text) -> bool
-    ensures { IsTrue result ↔ IsOption word.now }
-{
-    matches!(word.bytes(), [b'-', _, ..])
-}
-
-fn is_plain(word: &Text) -> bool
-    ensures { IsTrue result ↔ IsPlain word.now }
-{
-    is_text(word) && !is_option(word)
-}
-
-fn is_folder(word: &Text) -> bool
-    ensures { IsTrue result ↔ IsFolder word.now }
-{
-    is_plain(word) && !word.bytes().is_empty()
-}
-
 /// The task that a word asks for by itself.
-fn task_alone(word: &Text) -> Option<Task<'_>>
-    ensures found { IfSome result (λ task. AreOf (word.now ∷ []) (command_of task)) }
-    ensures none { IfNone result ((command : Command) → AreOf (word.now ∷ []) command → ⊥) }
+fn task_alone(word: &Text) -> Option<Task<'static>>
+    ensures found { IfSome result (λ task. AreOf word.now [] (command_of task)) }
+    ensures none { IfNone result ((command : Command) → AreOf word.now [] command → ⊥) }
 {
     let bytes = word.bytes();
     if bytes == b"run".as_slice() {
@@ -104,12 +72,9 @@ fn task_alone(word: &Text) -> Option<Task<'_>>
 
 /// The task that a word asks for with a name behind it.
 fn task_on<'w>(word: &Text, name: &'w Text) -> Option<Task<'w>>
-    ensures found { IfSome result (λ task. AreOf (word.now ∷ name.now ∷ []) (command_of task)) }
-    ensures none { IfNone result ((command : Command) → AreOf (word.now ∷ name.now ∷ []) command → ⊥) }
+    ensures found { IfSome result (λ task. AreOf word.now (name.now ∷ []) (command_of task)) }
+    ensures none { IfNone result ((command : Command) → AreOf word.now (name.now ∷ []) command → ⊥) }
 {
-    if !is_plain(name) {
-        return None;
-    }
     if word.bytes() == b"browse".as_slice() {
         return Some(Task::Browse(name));
     }
@@ -133,15 +98,9 @@ pub(crate) fn behind_separators(text: &Text) -> &[u8]
 
 /// The task that a word asks for with two words behind it.
 fn task_on_both<'w>(word: &Text, spec: &'w Text, selector: &'w Text) -> Option<Task<'w>>
-    ensures found { IfSome result (λ task. AreOf (word.now ∷ spec.now ∷ selector.now ∷ []) (command_of task)) }
-    ensures none { IfNone result ((command : Command) → AreOf (word.now ∷ spec.now ∷ selector.now ∷ []) command → ⊥) }
+    ensures found { IfSome result (λ task. AreOf word.now (spec.now ∷ selector.now ∷ []) (command_of task)) }
+    ensures none { IfNone result ((command : Command) → AreOf word.now (spec.now ∷ selector.now ∷ []) command → ⊥) }
 {
-    if !is_plain(spec) {
-        return None;
-    }
-    if !is_plain(selector) {
-        return None;
-    }
     if word.bytes() == b"source".as_slice() {
         return Some(Task::Source(spec, selector));
     }
@@ -151,33 +110,15 @@ fn task_on_both<'w>(word: &Text, spec: &'w Text, selector: &'w Text) -> Option<T
     None
 }
 
-/// The task that the words behind the folder ask for.
-fn task_of(words: &[Text]) -> Option<Task<'_>>
-    ensures found { IfSome result (λ task. AreOf words.now (command_of task)) }
-    ensures none { IfNone result ((command : Command) → AreOf words.now command → ⊥) }
+/// The task that a command's word and its arguments ask for.
+pub(crate) fn task_of<'w>(word: &Text, arguments: &'w [Text]) -> Option<Task<'w>>
+    ensures found { IfSome result (λ task. AreOf word.now arguments.now (command_of task)) }
+    ensures none { IfNone result ((command : Command) → AreOf word.now arguments.now command → ⊥) }
 {
-    match words {
-        [word] => task_alone(word),
-        [word, name] => task_on(word, name),
-        [word, spec, selector] => task_on_both(word, spec, selector),
+    match arguments {
+        [] => task_alone(word),
+        [name] => task_on(word, name),
+        [spec, selector] => task_on_both(word, spec, selector),
         _ => None,
     }
-}
-
-/// What the words ask for, if anything.
-pub(crate) fn request_of(words: &[Text]) -> Option<Request<'_>>
-    ensures found { IfSome result (λ request. Asks words.now request.folder.now (command_of request.task)) }
-    ensures none { IfNone result ((folder : List ℕ) (command : Command) → Asks words.now folder command → ⊥) }
-{
-    let [program, folder, behind @ ..] = words else {
-        return None;
-    };
-    if !is_folder(folder) {
-        return None;
-    }
-    if !is_text(program) {
-        return None;
-    }
-    let task = task_of(behind)?;
-    Some(Request { folder, task })
 }
