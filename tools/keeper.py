@@ -29,6 +29,7 @@ SMALLTALK_FORMS = {
     (b"removeClassNamed:",): ("remove-class", ["symbol"]),
     (b"noChanges",): ("noChanges", []),
     (b"snapshot",): ("snapshot", []),
+    (b"condenseChanges",): ("condense", []),
 }
 NOTE = b'"----SNAPSHOT----"'
 SIDES = ("instance", "class")
@@ -514,7 +515,7 @@ class Keeper:
         if item.kind == "end":
             return [Way(b"", False, work._replace(section=None))]
         if item.kind == "condense":
-            return [Way(b"ok\n", False, work.replaced(condensed(self.kernel, work)))]
+            return [self.condensing(work)]
         if item.kind == "method" and work.section == "refused":
             return [Way(b"", False, work)]
         if len(item.text) > LONGEST:
@@ -524,9 +525,14 @@ class Keeper:
         except Fault as fault:
             return [refused(behind_head(work, item), b"2 %s at %d" % (fault.kind.encode(), fault.place))]
 
+    def condensing(self, work):
+        return Way(b"ok\n", False, work.replaced(condensed(self.kernel, work)))
+
     def plain(self, work, text):
         doit = parse_doit(text)
         change = definition_of(doit) or form_of(doit)
+        if change and change.word == "condense":
+            return [self.condensing(work)]
         if change:
             refusal = refusal_of(work.state, self.kernel, change)
             return [refused(work, refusal) if refusal else accepted(work, change)]

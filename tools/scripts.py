@@ -46,7 +46,7 @@ BUMP = b"bump %s _ %s isNil ifTrue: [1] ifFalse: [%s + 1]. ^%s"
 BUMP_BODY, BUMPS = re.compile(rb"bump (\w+) _ .*", re.S), re.compile(rb"(\w+) bump\. (\w+) bump")
 BUMPED = [b"a", b"b", b"c", b"D", b"E"]
 NEARLY = re.compile(rb"(?:\(|\^|x _ |\| x \| )?(\w+) (class )?"
-                    rb"(comment:|instanceVariableNames:|removeSelector:|organization|removeClassNamed:|removeFromSystem|noChanges|snapshot).*", re.S)
+                    rb"(comment:|instanceVariableNames:|removeSelector:|organization|removeClassNamed:|removeFromSystem|noChanges|snapshot|condenseChanges).*", re.S)
 
 
 def answers(text, state):
@@ -187,7 +187,7 @@ def form_words(chance):
         return side_variables(chance, name)
     if kind < 10:
         return (removal if kind < 8 else move)(chance, name, selector, side)
-    return class_removal(chance, name) if kind == 10 else (b"Smalltalk", chance.choice([b"noChanges", b"snapshot"]))
+    return class_removal(chance, name) if kind == 10 else (b"Smalltalk", chance.choice([b"noChanges", b"snapshot", b"condenseChanges"]))
 
 
 def form(chance):
@@ -203,8 +203,8 @@ def nearly(chance):
     other = [words[0] + b" class " + rest, b"nil " + rest]
     around = [b"(%s)" % text, b"^%s" % text, b"x _ %s" % text, b"| x | %s" % text, text + b"; yourself", text + b". 3", text + b" size"]
     has_argument = words[-2].endswith(b":")
-    has_other = words[1] in (b"comment:", b"removeFromSystem", b"noChanges", b"snapshot", b"removeClassNamed:")
-    return chance.choice(around + parted * has_argument + other * has_other + [b"A noChanges", b"B snapshot", b"A removeClassNamed: #B"])
+    has_other = words[1] in (b"comment:", b"removeFromSystem", b"noChanges", b"snapshot", b"condenseChanges", b"removeClassNamed:")
+    return chance.choice(around + parted * has_argument + other * has_other + [b"A noChanges", b"B snapshot", b"A condenseChanges", b"A removeClassNamed: #B"])
 
 
 def tale(chance):
