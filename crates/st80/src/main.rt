@@ -1,6 +1,7 @@
 //! `st80 FOLDER COMMAND`: a day's work in Smalltalk-80, kept in a folder that no crash loses.
 #![tactic(auto)]
 
+mod places;
 mod real;
 mod words;
 
@@ -11,13 +12,20 @@ ghost use Rattle.s80_program.specs.Ending.{number_of};
 pub use real::RealOutside;
 pub use s80_program::{Status, st80};
 use std::env;
+use std::io::IsTerminal;
 use std::process::ExitCode;
 use words::words_of;
 
+/// Whether places are told: where somebody sees standard error, or asks for it.
+fn is_explaining(rt: &HostRuntime) -> bool {
+    rt.stderr().is_terminal() || env::var(rt, "ST80_EXPLAIN").is_ok()
+}
+
 /// Runs on the standard streams and the machine's files.
 fn run(rt: HostRuntime) -> Status {
+    let explains = is_explaining(&rt);
     match words_of(rt.alloc(), env::args(&rt)) {
-        Ok(words) => st80(rt.alloc(), &words, &mut RealOutside::make(rt)),
+        Ok(words) => st80(rt.alloc(), &words, &mut RealOutside::make(rt, explains)),
         Err(status) => status,
     }
 }

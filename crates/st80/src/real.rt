@@ -1,10 +1,12 @@
 // The outside of a program that runs: the standard streams, a folder and the machine's clock.
 ghost use Rattle.std.specs.Prelude.{◌≡◌, ◌≤◌, ◌<◌, ◌+◌, ◌^◌, ℕ, List, false, None, refl, [], length, IfOk, IsTrue, OnOk};
 ghost use Rattle.std.proofs.Common.{ap, sym};
+ghost use Rattle.std.specs.Io.{ReadsAtMost};
 ghost use Rattle.s80_disk.specs.declared.disk.FileId.{FileId};
 ghost use Rattle.s80_disk.specs.Real.{faults_of_real};
 ghost use Rattle.s80_disk.specs.Untold.{untold, files_untold, no_moment_untold};
 
+use crate::places::Places;
 use s80_base::{Call, Clock, Failed, Sink, Source, Text, fault};
 use s80_disk::{Disk, FileId, Outside, RealDisk, read_some, write_some};
 use std::fs::{File, Files};
@@ -15,21 +17,57 @@ use std::time::{SystemTime, UNIX_EPOCH};
 /// Standard input and output, the five files of a folder, and the machine's clock. It tells nothing of what these hold, but how
 /// many bytes it has put.
 #[derive(Drop)]
-pub struct RealOutside<R: Files<File = File> + AllocGlobal + Input + Print + SystemClock + Drop> {
+pub struct RealOutside<
+    R: Files<File = File> + AllocGlobal + Input + Print + Eprint + SystemClock + Drop,
+> {
     disk: RealDisk<R>,
     told: u64,
     read_faults: u64,
     write_faults: u64,
+    /// Where items stand, if places are to be told. Then the input is given item by item.
+    places: Option<Places>,
 }
 
-impl<R: Files<File = File> + AllocGlobal + Input + Print + SystemClock + Drop> RealOutside<R> {
-    /// An outside on which no folder is chosen yet.
-    pub fn make(rt: R) -> Self {
+impl<R: Files<File = File> + AllocGlobal + Input + Print + Eprint + SystemClock + Drop> RealOutside<
+    R,
+> {
+    /// An outside on which no folder is chosen yet. Where it explains, standard error gets the place of each item that is refused or stopped.
+    pub fn make(rt: R, explains: bool) -> Self {
+        let places = explains.then(|| Places::make(rt.alloc()));
         RealOutside {
             disk: RealDisk::make(rt),
             told: 0,
             read_faults: 0,
             write_faults: 0,
+            places,
+        }
+    }
+
+    /// Tells the place of an item that this reply refuses or stops.
+    fn explain(&mut self, reply: &[u8])
+        ensures rest { (self.new.disk ≡ self.old.disk) × (self.new.told ≡ self.old.told)
+            × (self.new.read_faults ≡ self.old.read_faults) × (self.new.write_faults ≡ self.old.write_faults) }
+    {
+        let Some(places) = &mut self.places else {
+            return;
+        };
+        if let Some((place, line)) = places.told(reply) {
+            let (row, column) = (place.line, place.column);
+            let told = str::from_utf8(line).unwrap_or("");
+            let _ = eprintln!(self.disk.runtime(); "st80: line {row}, column {column}: {told}");
+        }
+    }
+
+    /// The next bytes of standard input.
+    fn read(&mut self, buf: &mut [u8]) -> io::Result<usize>
+        ensures bound { ReadsAtMost result buf.new }
+        ensures rest { (self.new.disk ≡ self.old.disk) × (self.new.told ≡ self.old.told)
+            × (self.new.read_faults ≡ self.old.read_faults) × (self.new.write_faults ≡ self.old.write_faults) }
+    {
+        let mut reader = self.disk.runtime().reader();
+        match &mut self.places {
+            Some(places) => places.take(&mut reader, buf),
+            None => read_some(&mut reader, buf),
         }
     }
 }
@@ -45,7 +83,7 @@ fn seconds_now<R: SystemClock>(rt: &R) -> u64 {
     }
 }
 
-impl<R: Files<File = File> + AllocGlobal + Input + Print + SystemClock + Drop> Source
+impl<R: Files<File = File> + AllocGlobal + Input + Print + Eprint + SystemClock + Drop> Source
     for RealOutside<R> {
     ghost left = { λ _. None };
 
@@ -54,14 +92,14 @@ impl<R: Files<File = File> + AllocGlobal + Input + Print + SystemClock + Drop> S
     ghost take_keeps = { λ o p. (p.disk ≡ o.disk) × (p.told ≡ o.told) × (p.write_faults ≡ o.write_faults) };
 
     fn take(&mut self, buf: &mut [u8]) -> Result<usize, Failed> {
-        match read_some(&mut self.disk.runtime().reader(), buf) {
+        match self.read(buf) {
             Ok(count) => Ok(count),
             Err(_) => Err(fault(&mut self.read_faults, Call::Take)),
         }
     }
 }
 
-impl<R: Files<File = File> + AllocGlobal + Input + Print + SystemClock + Drop> Sink
+impl<R: Files<File = File> + AllocGlobal + Input + Print + Eprint + SystemClock + Drop> Sink
     for RealOutside<R> {
     ghost taken = { λ _. None };
 
@@ -76,6 +114,7 @@ impl<R: Files<File = File> + AllocGlobal + Input + Print + SystemClock + Drop> S
         if u64::MAX - self.told < piece.len() as u64 {
             return Err(fault(&mut self.write_faults, Call::Put));
         }
+        self.explain(piece);
         match write_some(&mut io::writer(self.disk.runtime()), piece) {
             Ok(count) => {
                 self.told += count as u64;
@@ -86,7 +125,7 @@ impl<R: Files<File = File> + AllocGlobal + Input + Print + SystemClock + Drop> S
     }
 }
 
-impl<R: Files<File = File> + AllocGlobal + Input + Print + SystemClock + Drop> Clock
+impl<R: Files<File = File> + AllocGlobal + Input + Print + Eprint + SystemClock + Drop> Clock
     for RealOutside<R> {
     ghost seconds = { λ _. None };
 
@@ -97,7 +136,7 @@ impl<R: Files<File = File> + AllocGlobal + Input + Print + SystemClock + Drop> C
     }
 }
 
-impl<R: Files<File = File> + AllocGlobal + Input + Print + SystemClock + Drop> Disk
+impl<R: Files<File = File> + AllocGlobal + Input + Print + Eprint + SystemClock + Drop> Disk
     for RealOutside<R> {
     ghost tells = { λ _. false };
 
@@ -151,7 +190,7 @@ impl<R: Files<File = File> + AllocGlobal + Input + Print + SystemClock + Drop> D
     }
 }
 
-impl<R: Files<File = File> + AllocGlobal + Input + Print + SystemClock + Drop> Outside
+impl<R: Files<File = File> + AllocGlobal + Input + Print + Eprint + SystemClock + Drop> Outside
     for RealOutside<R> {
     ghost shown = { λ o. record {
       tells = Self.tells o;

@@ -1,0 +1,219 @@
+// Places in the input: where what is refused or stopped stands, for whoever sits at a terminal or asks for it.
+ghost use Rattle.std.specs.Prelude.{◌≤◌, length};
+ghost use Rattle.std.specs.Io.{ReadsAtMost};
+
+use s80_base::is_separator;
+use s80_disk::read_some;
+use std::alloc::Global;
+use std::io::{self, Read};
+use std::mem;
+
+/// How many bytes are read ahead at a time.
+const AHEAD: usize = 4096;
+
+/// How many bytes of an item are remembered: more than the longest text has with each mark doubled.
+const REMEMBERED: usize = 1 << 18;
+
+/// A line and a column of the input, from 1 on. A line ends with CR, LF or both, and columns count characters.
+#[derive(Clone, Copy)]
+pub(crate) struct Place {
+    pub line: u64,
+    pub column: u64,
+    /// It stands behind a CR, so that an LF begins no line more.
+    returned: bool,
+}
+
+impl Place {
+    fn first() -> Place {
+        Place {
+            line: 1,
+            column: 1,
+            returned: false,
+        }
+    }
+
+    /// The place behind this byte.
+    fn behind(self, byte: u8) -> Place {
+        let returned = byte == b'\r';
+        match byte {
+            b'\n' if self.returned => Place { returned, ..self },
+            b'\n' | b'\r' => Place {
+                line: self.line.saturating_add(1),
+                column: 1,
+                returned,
+            },
+            // The bytes of a character behind its first.
+            0x80..=0xBF => Place { returned, ..self },
+            _ => Place {
+                column: self.column.saturating_add(1),
+                returned,
+                ..self
+            },
+        }
+    }
+}
+
+/// An item of the input: where its text begins, and its bytes from there on, as far as they are remembered.
+#[derive(Drop)]
+struct Item {
+    start: Place,
+    bytes: Vec<u8>,
+}
+
+impl Item {
+    /// One whose text is to begin here.
+    fn at(alloc: Global, start: Place) -> Item {
+        Item {
+            start,
+            bytes: Vec::new(alloc),
+        }
+    }
+
+    /// The place of so many bytes of its text, in which each doubled mark is one.
+    fn place_at(&self, count: u64) -> Place {
+        let mut place = self.start;
+        let mut left = count;
+        let mut marked = false;
+        for byte in self.bytes.iter() {
+            let is_second = marked && *byte == b'!';
+            marked = *byte == b'!' && !is_second;
+            if left == 0 && !is_second {
+                return place;
+            }
+            left = left.saturating_sub(u64::from(!is_second));
+            place = place.behind(*byte);
+        }
+        place
+    }
+}
+
+/// Reads the input item by item, and remembers where the last one stands.
+#[derive(Drop)]
+pub(crate) struct Places {
+    ahead: [u8; AHEAD],
+    held: usize,
+    at: usize,
+    now: Place,
+    item: Item,
+    /// The item's text has begun.
+    begun: bool,
+    /// It stands behind a mark of the text that may be the first of two.
+    marked: bool,
+    /// The item that ended last, to which replies belong until the next one ends.
+    ended: Item,
+    /// Some item ended, of which no place is told yet.
+    is_due: bool,
+}
+
+impl Places {
+    pub(crate) fn make(alloc: Global) -> Places {
+        Places {
+            ahead: [0; AHEAD],
+            held: 0,
+            at: 0,
+            now: Place::first(),
+            item: Item::at(alloc, Place::first()),
+            begun: false,
+            marked: false,
+            ended: Item::at(alloc, Place::first()),
+            is_due: false,
+        }
+    }
+
+    /// The next bytes, none behind the end of an item but the one that shows the end.
+    pub(crate) fn take<F: Read>(&mut self, reader: &mut F, buf: &mut [u8]) -> io::Result<usize>
+        ensures bound { ReadsAtMost result buf.new }
+    {
+        if self.at >= self.held {
+            self.held = read_some(reader, &mut self.ahead)?;
+            self.at = 0;
+        }
+        let count = self.next_item(buf);
+        if count == 0 {
+            self.end_item();
+        }
+        Ok(count)
+    }
+
+    /// Hands out what was read ahead, up to the end of an item.
+    fn next_item(&mut self, buf: &mut [u8]) -> usize
+        ensures { result ≤ length buf.new }
+    {
+        let room = buf.len();
+        for (count, slot) in buf.iter_mut().enumerate() {
+            if self.at >= self.held {
+                return count;
+            }
+            let Some(byte) = self.ahead.get(self.at).copied() else {
+                return count;
+            };
+            *slot = byte;
+            self.at += 1;
+            if self.step(byte) {
+                return count + 1;
+            }
+        }
+        room
+    }
+
+    /// Goes on behind a byte. Says whether an item ended before it.
+    fn step(&mut self, byte: u8) -> bool {
+        let ends = self.marked && byte != b'!';
+        if ends {
+            self.end_item();
+        }
+        self.marked = self.begun && byte == b'!' && !self.marked;
+        if !self.begun && !is_separator(byte) {
+            self.item.start = self.now;
+            self.begun = byte != b'!';
+        }
+        if self.begun && self.item.bytes.len() < REMEMBERED {
+            // Where memory is wanting the rest of the item has no places of its own.
+            let _ = self.item.bytes.push(byte);
+        }
+        self.now = self.now.behind(byte);
+        ends
+    }
+
+    /// What was read last is an item.
+    fn end_item(&mut self) {
+        mem::swap(&mut self.ended, &mut self.item);
+        self.item.bytes.clear();
+        self.item.start = self.now;
+        self.begun = false;
+        self.marked = false;
+        self.is_due = true;
+    }
+
+    /// The last line of a reply and its place, if it is a refusal or a stop of an item whose place isn't told yet.
+    pub(crate) fn told<'r>(&mut self, reply: &'r [u8]) -> Option<(Place, &'r [u8])> {
+        let line = last_line(reply);
+        if !self.is_due || !is_trouble(line) {
+            return None;
+        }
+        self.is_due = false;
+        let place = match fault_in(line) {
+            Some(count) => self.ended.place_at(count),
+            None => self.ended.start,
+        };
+        Some((place, line))
+    }
+}
+
+fn last_line(reply: &[u8]) -> &[u8] {
+    let lines = reply.strip_suffix(b"\n").unwrap_or(reply);
+    lines.rsplit(|byte| *byte == b'\n').next().unwrap_or(lines)
+}
+
+fn is_trouble(line: &[u8]) -> bool {
+    line.starts_with(b"refused ") || line.starts_with(b"stopped ")
+}
+
+/// The place in the text that a refusal names, as in `refused 2 unexpected at 44`.
+fn fault_in(line: &[u8]) -> Option<u64> {
+    if !line.starts_with(b"refused 2 ") {
+        return None;
+    }
+    let word = line.rsplit(|byte| *byte == b' ').next()?;
+    str::from_utf8(word).ok()?.parse().ok()
+}
