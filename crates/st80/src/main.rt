@@ -9,6 +9,7 @@ ghost use Rattle.std.specs.Prelude.{◌≡◌};
 ghost use Rattle.std.specs.Process.{exit_status};
 ghost use Rattle.s80_program.specs.Ending.{number_of};
 
+pub use places::Telling;
 pub use real::RealOutside;
 pub use s80_program::{Status, st80};
 use std::env;
@@ -16,16 +17,23 @@ use std::io::IsTerminal;
 use std::process::ExitCode;
 use words::words_of;
 
-/// Whether places are told: where somebody sees standard error, or asks for it.
-fn is_explaining(rt: &HostRuntime) -> bool {
-    rt.stderr().is_terminal() || env::var(rt, "ST80_EXPLAIN").is_ok()
+/// What standard error is told of the input: places where somebody sees them or asks for them, and prompts where that one types.
+fn telling(rt: &HostRuntime) -> Telling {
+    let is_seen = rt.stderr().is_terminal();
+    if is_seen && rt.stdin().is_terminal() {
+        Telling::Prompts
+    } else if is_seen || env::var(rt, "ST80_EXPLAIN").is_ok() {
+        Telling::Places
+    } else {
+        Telling::Nothing
+    }
 }
 
 /// Runs on the standard streams and the machine's files.
 fn run(rt: HostRuntime) -> Status {
-    let explains = is_explaining(&rt);
+    let telling = telling(&rt);
     match words_of(rt.alloc(), env::args(&rt)) {
-        Ok(words) => st80(rt.alloc(), &words, &mut RealOutside::make(rt, explains)),
+        Ok(words) => st80(rt.alloc(), &words, &mut RealOutside::make(rt, telling)),
         Err(status) => status,
     }
 }

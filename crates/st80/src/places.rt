@@ -2,6 +2,7 @@
 ghost use Rattle.std.specs.Prelude.{◌≤◌, length};
 ghost use Rattle.std.specs.Io.{ReadsAtMost};
 
+use memchr::memmem;
 use s80_base::is_separator;
 use s80_disk::read_some;
 use std::alloc::Global;
@@ -13,6 +14,25 @@ const AHEAD: usize = 4096;
 
 /// How many bytes of an item are remembered: more than the longest text has with each mark doubled.
 const REMEMBERED: usize = 1 << 18;
+
+/// What standard error is told beside the line of a status.
+#[derive(Clone, Copy, PartialEq)]
+pub enum Telling {
+    Nothing,
+    /// The place of each item that is refused or stopped.
+    Places,
+    /// Places, and prompts to somebody who types.
+    Prompts,
+}
+
+/// What is told of an item that is refused or stopped.
+#[derive(Clone, Copy)]
+pub(crate) struct Told<'r> {
+    pub place: Place,
+    /// The last line of its reply.
+    pub line: &'r [u8],
+    pub hint: Option<&'static str>,
+}
 
 /// A line and a column of the input, from 1 on. A line ends with CR, LF or both, and columns count characters.
 #[derive(Clone, Copy)]
@@ -69,8 +89,8 @@ impl Item {
         }
     }
 
-    /// The place of so many bytes of its text, in which each doubled mark is one.
-    fn place_at(&self, count: u64) -> Place {
+    /// The place behind so many bytes of its text, in which each doubled mark is one, and the byte there, if there is one.
+    fn place_at(&self, count: u64) -> (Place, Option<u8>) {
         let mut place = self.start;
         let mut left = count;
         let mut marked = false;
@@ -78,12 +98,12 @@ impl Item {
             let is_second = marked && *byte == b'!';
             marked = *byte == b'!' && !is_second;
             if left == 0 && !is_second {
-                return place;
+                return (place, Some(*byte));
             }
             left = left.saturating_sub(u64::from(!is_second));
             place = place.behind(*byte);
         }
-        place
+        (place, None)
     }
 }
 
@@ -103,10 +123,12 @@ pub(crate) struct Places {
     ended: Item,
     /// Some item ended, of which no place is told yet.
     is_due: bool,
+    /// A line is asked for by a prompt.
+    prompts: bool,
 }
 
 impl Places {
-    pub(crate) fn make(alloc: Global) -> Places {
+    pub(crate) fn make(alloc: Global, prompts: bool) -> Places {
         Places {
             ahead: [0; AHEAD],
             held: 0,
@@ -117,7 +139,21 @@ impl Places {
             marked: false,
             ended: Item::at(alloc, Place::first()),
             is_due: false,
+            prompts,
         }
+    }
+
+    /// What asks for a line, where one has to be read and somebody types: at the beginning of the input, of a chunk, or inside one.
+    pub(crate) fn prompt(&self) -> Option<&'static str> {
+        if !self.prompts || self.at < self.held {
+            return None;
+        }
+        Some(match (self.held, self.begun) {
+            (0, _) =>
+                "st80: a chunk ends with !, a section of methods with ! !, and the input with Ctrl-D\nst80> ",
+            (_, false) => "st80> ",
+            (_, true) => "...> ",
+        })
     }
 
     /// The next bytes, none behind the end of an item but the one that shows the end.
@@ -185,18 +221,22 @@ impl Places {
         self.is_due = true;
     }
 
-    /// The last line of a reply and its place, if it is a refusal or a stop of an item whose place isn't told yet.
-    pub(crate) fn told<'r>(&mut self, reply: &'r [u8]) -> Option<(Place, &'r [u8])> {
+    /// The last line of a reply with its place, if it is a refusal or a stop of an item whose place isn't told yet.
+    pub(crate) fn told<'r>(&mut self, reply: &'r [u8]) -> Option<Told<'r>> {
         let line = last_line(reply);
         if !self.is_due || !is_trouble(line) {
             return None;
         }
         self.is_due = false;
-        let place = match fault_in(line) {
+        let (place, byte) = match fault_in(line) {
             Some(count) => self.ended.place_at(count),
-            None => self.ended.start,
+            None => (self.ended.start, None),
         };
-        Some((place, line))
+        Some(Told {
+            place,
+            line,
+            hint: hint(line, byte),
+        })
     }
 }
 
@@ -207,6 +247,27 @@ fn last_line(reply: &[u8]) -> &[u8] {
 
 fn is_trouble(line: &[u8]) -> bool {
     line.starts_with(b"refused ") || line.starts_with(b"stopped ")
+}
+
+/// What is often behind such a refusal or stop: one of the slips of files that were written by hand or by other systems. The byte is the one where
+/// the text is at fault.
+fn hint(line: &[u8], fault: Option<u8>) -> Option<&'static str> {
+    if line.starts_with(b"refused 13 ")
+        && (has(line, b" stamp: ") || has(line, b" commentStamp: "))
+    {
+        return Some("perhaps the file comes from Squeak or Pharo, whose heads have stamps");
+    }
+    if line.starts_with(b"refused 2 unended-token ") && matches!(fault, Some(b'\'' | b'"')) {
+        return Some("perhaps a ! inside it isn't doubled");
+    }
+    if line.starts_with(b"stopped 2 ") && line.ends_with(b" methodsFor:") {
+        return Some("perhaps the section before it has no ! ! at its end");
+    }
+    None
+}
+
+fn has(line: &[u8], part: &[u8]) -> bool {
+    memmem::find(line, part).is_some()
 }
 
 /// The place in the text that a refusal names, as in `refused 2 unexpected at 44`.

@@ -6,7 +6,7 @@ ghost use Rattle.s80_disk.specs.declared.disk.FileId.{FileId};
 ghost use Rattle.s80_disk.specs.Real.{faults_of_real};
 ghost use Rattle.s80_disk.specs.Untold.{untold, files_untold, no_moment_untold};
 
-use crate::places::Places;
+use crate::places::{Places, Telling};
 use s80_base::{Call, Clock, Failed, Sink, Source, Text, fault};
 use s80_disk::{Disk, FileId, Outside, RealDisk, read_some, write_some};
 use std::fs::{File, Files};
@@ -31,9 +31,13 @@ pub struct RealOutside<
 impl<R: Files<File = File> + AllocGlobal + Input + Print + Eprint + SystemClock + Drop> RealOutside<
     R,
 > {
-    /// An outside on which no folder is chosen yet. Where it explains, standard error gets the place of each item that is refused or stopped.
-    pub fn make(rt: R, explains: bool) -> Self {
-        let places = explains.then(|| Places::make(rt.alloc()));
+    /// An outside on which no folder is chosen yet, and what standard error is told of the input.
+    pub fn make(rt: R, telling: Telling) -> Self {
+        let places = match telling {
+            Telling::Nothing => None,
+            Telling::Places => Some(Places::make(rt.alloc(), false)),
+            Telling::Prompts => Some(Places::make(rt.alloc(), true)),
+        };
         RealOutside {
             disk: RealDisk::make(rt),
             told: 0,
@@ -51,10 +55,14 @@ impl<R: Files<File = File> + AllocGlobal + Input + Print + Eprint + SystemClock 
         let Some(places) = &mut self.places else {
             return;
         };
-        if let Some((place, line)) = places.told(reply) {
-            let (row, column) = (place.line, place.column);
-            let told = str::from_utf8(line).unwrap_or("");
-            let _ = eprintln!(self.disk.runtime(); "st80: line {row}, column {column}: {told}");
+        let Some(told) = places.told(reply) else {
+            return;
+        };
+        let (row, column) = (told.place.line, told.place.column);
+        let line = str::from_utf8(told.line).unwrap_or("");
+        let _ = eprintln!(self.disk.runtime(); "st80: line {row}, column {column}: {line}");
+        if let Some(hint) = told.hint {
+            let _ = eprintln!(self.disk.runtime(); "st80: {hint}");
         }
     }
 
@@ -66,7 +74,12 @@ impl<R: Files<File = File> + AllocGlobal + Input + Print + Eprint + SystemClock 
     {
         let mut reader = self.disk.runtime().reader();
         match &mut self.places {
-            Some(places) => places.take(&mut reader, buf),
+            Some(places) => {
+                if let Some(prompt) = places.prompt() {
+                    let _ = eprint!(self.disk.runtime(); "{prompt}");
+                }
+                places.take(&mut reader, buf)
+            }
             None => read_some(&mut reader, buf),
         }
     }
