@@ -19,7 +19,7 @@ use Rattle.s80_prims.specs.declared.stop.End.{End}
 use Rattle.s80_prims.specs.declared.stop.End.TheVariants.{Answer, Stopped}
 use Rattle.s80_meaning.specs.Agreement.{Agree, AreOne, IsCodeFor}
 use Rattle.s80_meaning.specs.Meaning.{Methods}
-use Rattle.s80_meaning.specs.Renamed.{EndAlike}
+use Rattle.s80_meaning.specs.Renamed.{EndAlike, small_of}
 use Rattle.s80_meaning.specs.Tree.{Meant, meant_in}
 use Rattle.s80_doit.specs.Answer.{AreOfState, IsMeantBy, IsMethodAt, doit_meant}
 use Rattle.s80_doit.specs.DoIt.{AreGiven, IsDoItCode, is_stopped}
@@ -129,3 +129,10 @@ stopped_alike (Answer v) (Answer x) h = refl
 stopped_alike (Stopped stop) (Stopped reason) h = refl
 stopped_alike (Answer v) (Stopped stop) h = absurd h
 stopped_alike (Stopped stop) (Answer v) h = absurd h
+
+-- they answer the same SmallInteger, or none
+pub smalls_alike : (one other : End) → EndAlike one other → small_of other ≡ small_of one
+smalls_alike (Answer v) (Answer x) h = h
+smalls_alike (Stopped stop) (Stopped reason) h = refl
+smalls_alike (Answer v) (Stopped stop) h = absurd h
+smalls_alike (Stopped stop) (Answer v) h = absurd h

@@ -1,5 +1,5 @@
 -- Whatever their numbers, the classes of a state and what its sources mean are the same.
-use Rattle.std.proofs.Common.{◌≡◌, ◌∙◌, refl, sym, ap, subst, ℕ, List, Bool, Option, Some, None, option_and_then}
+use Rattle.std.proofs.Common.{◌≡◌, ◌∙◌, refl, sym, ap, subst, ℕ, ℤ, List, Bool, Option, Some, None, option_and_then}
 use Rattle.std.specs.FinMap as map
 use Rattle.s80_base.specs.declared.names.Side.{Side}
 use Rattle.s80_tree.specs.Tree.{DoItParts, MethodParts}
@@ -13,11 +13,11 @@ use Rattle.s80_apply.specs.State.{MethodRow, State}
 use Rattle.s80_prims.specs.declared.stop.Outcome.{Outcome}
 use Rattle.s80_print.specs.Outcome.{outcome_text}
 use Rattle.s80_meaning.specs.Meaning.{Methods, eval}
-use Rattle.s80_meaning.specs.Renamed.{AreOneHouse, IsByName, IsHouse}
+use Rattle.s80_meaning.specs.Renamed.{AreOneHouse, IsByName, IsHouse, small_of}
 use Rattle.s80_meaning.specs.Tree.{Meant, meant_in}
-use Rattle.s80_doit.specs.Answer.{AreOfState, EvaluatesTo, IsMeantBy, IsMethodAt, doit_meant}
+use Rattle.s80_doit.specs.Answer.{AnswersSmall, AreOfState, EvaluatesTo, IsMeantBy, IsMethodAt, doit_meant}
 use Rattle.s80_doit.specs.DoIt.{is_stopped}
-use Rattle.s80_doit.proofs.Evaluated.{stopped_alike}
+use Rattle.s80_doit.proofs.Evaluated.{smalls_alike, stopped_alike}
 use Rattle.s80_doit.proofs.Setting.{KernelLasts, there}
 
 abbrev pub OneMethodTree : Type 0
@@ -73,3 +73,14 @@ module _ (changes : List Change) where
         f.told_is ∙ ap (outcome_text f.table) outcome_is ∙ alike.2.text ∙ sym e.told_is,
         f.stopped_is ∙ ap (λ (o : Outcome). is_stopped o.end) outcome_is ∙ stopped_alike e.outcome.end alike.0.end alike.2.end ∙ sym e.stopped_is,
       )
+
+  pub one_small : KernelLasts → OneMethodTree → OneDoItTree → ByName → (text : List ℕ) (budget : ℕ) (told other : List ℕ) (stopped also : Bool) (small another : Option ℤ) → AnswersSmall state text budget told stopped small
+      → AnswersSmall state text budget other also another → another ≡ small
+  one_small lasts one one_doit by_name text budget told other stopped also small another a b =
+      let e = a.evaluation in
+      let f = b.evaluation in
+      let same : f.tree ≡ e.tree = one_doit text f.tree e.tree f.tree_is e.tree_is in
+      let alike = by_name e.table f.table e.methods f.methods (doit_meant e.tree) budget (one_house lasts one e.table f.table e.methods f.methods e.are f.are) e.outcome e.evaluates in
+      let is : Some f.outcome ≡ Some alike.0 = sym f.evaluates ∙ ap (λ (t : DoItParts). eval f.table f.methods (doit_meant t) budget) same ∙ alike.1 in
+      let outcome_is : f.outcome ≡ alike.0 = cc in
+      b.small_is ∙ ap (λ (o : Outcome). small_of o.end) outcome_is ∙ smalls_alike e.outcome.end alike.0.end alike.2.end ∙ sym a.small_is

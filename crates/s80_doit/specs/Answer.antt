@@ -1,5 +1,5 @@
 -- What a doIt comes to, by the classes of a state and the sources of its methods: whatever their code, and whatever the classes' numbers.
-use Rattle.std.specs.Prelude.{◌≡◌, ℕ, List, [], Bool, Option, Some, None}
+use Rattle.std.specs.Prelude.{◌≡◌, ℕ, ℤ, List, [], Bool, Option, Some, None}
 use Rattle.std.specs.FinMap as map
 use Rattle.s80_base.specs.declared.names.Side.{Side}
 use Rattle.s80_tree.specs.Tree.{DoItParts, MethodParts}
@@ -13,6 +13,7 @@ use Rattle.s80_apply.specs.State.{MethodRow, State}
 use Rattle.s80_prims.specs.declared.stop.Outcome.{Outcome}
 use Rattle.s80_print.specs.Outcome.{outcome_text}
 use Rattle.s80_meaning.specs.Meaning.{Methods, eval}
+use Rattle.s80_meaning.specs.Renamed.{small_of}
 use Rattle.s80_meaning.specs.Tree.{Meant, meant_in}
 use Rattle.s80_doit.specs.DoIt.{is_stopped}
 
@@ -48,3 +49,8 @@ pub record EvaluatesTo (state : State) (text : List ℕ) (budget : ℕ) (told : 
   pub evaluates : eval table methods (doit_meant tree) budget ≡ Some outcome
   pub told_is : told ≡ outcome_text table outcome
   pub stopped_is : stopped ≡ is_stopped outcome.end
+
+-- the same, where the tree answers this SmallInteger, or none
+pub record AnswersSmall (state : State) (text : List ℕ) (budget : ℕ) (told : List ℕ) (stopped : Bool) (small : Option ℤ) : Type 0 where
+  pub evaluation : EvaluatesTo state text budget told stopped
+  pub small_is : small ≡ small_of evaluation.outcome.end

@@ -7,6 +7,7 @@ ghost use Rattle.s80_print.specs.Outcome.{outcome_text};
 ghost use Rattle.s80_prims.specs.Known.{HasKernel};
 ghost use Rattle.s80_apply.specs.State.{State};
 ghost use Rattle.s80_apply.specs.System.{IsSystemOf};
+ghost use Rattle.s80_meaning.specs.Renamed.{small_of};
 ghost use Rattle.s80_doit.specs.Answer.{EvaluatesTo};
 ghost use Rattle.s80_doit.specs.DoIt.{AreGiven, IsDoItCode, IsMethodOfDoIt, IsRunOf, is_stopped};
 
@@ -21,6 +22,7 @@ use s80_base::{OutOfMemory, Text};
 use s80_machine::{Ran, a_run_ends};
 use s80_meaning::run;
 use s80_method::shapes_have_as_many_variables;
+use s80_object::Value;
 use s80_prims::End;
 use s80_print::outcome_text;
 use s80_syntax::MethodTree;
@@ -73,6 +75,17 @@ pub fn answer(alloc: Global, system: &System, ran: &Ran) -> Result<Text, OutOfMe
 {
     kernel_is_there(system);
     outcome_text(alloc, system.classes(), ran.outcome())
+}
+
+/// The SmallInteger that a run answered, if it answered one.
+pub fn small_answer(ran: &Ran) -> Option<i32>
+    ensures { result ≡ small_of ran.now.outcome.end }
+{
+    match ran.outcome().end {
+        End::Answer(Value::Small(n)) => Some(n),
+        End::Answer(_) => None,
+        End::Stopped(_) => None,
+    }
 }
 
 /// Whether a run was stopped before it had an answer.

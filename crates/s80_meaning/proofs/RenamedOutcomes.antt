@@ -6,14 +6,14 @@ use Rattle.s80_class.specs.Classes.{Name}
 use Rattle.s80_class.specs.Table.{Table, name_of}
 use Rattle.s80_class.proofs.lemmas.Numbers.{value}
 use Rattle.s80_object.specs.declared.value.Value.{Value}
-use Rattle.s80_object.specs.declared.value.Value.TheVariants.{Nil}
+use Rattle.s80_object.specs.declared.value.Value.TheVariants.{Small, Character, Nil, True, False, Symbol, Number, ClassRef, Object, Context, Transcript, Smalltalk}
 use Rattle.s80_prims.specs.declared.stop.End.TheVariants as end
 use Rattle.s80_prims.specs.declared.stop.Outcome.{Outcome}
 use Rattle.s80_print.specs.Outcome.{line_end}
 use Rattle.s80_machine.specs.Shared.{outcome_of}
 use Rattle.s80_machine.specs.World.{World, Variable, doit, own, first_value, first_world}
 use Rattle.s80_meaning.specs.Meaning.{Out, Methods, activated, ended, eval, evaluated}
-use Rattle.s80_meaning.specs.Renamed.{AreOneHouse, AreToldAlike, IsByName}
+use Rattle.s80_meaning.specs.Renamed.{AreOneHouse, AreToldAlike, IsByName, small_of}
 use Rattle.s80_meaning.specs.Tree.{Meant}
 use Rattle.s80_meaning.proofs.RenamedNumbers.{IsRenumbering, is_renumbering, named_so, renumbered}
 use Rattle.s80_meaning.proofs.RenamedObjects.{renamed}
@@ -22,6 +22,21 @@ use Rattle.s80_meaning.proofs.RenamedWorld.{first_renamed, renamed_world}
 use Rattle.s80_meaning.proofs.RenamedOut.{gives, answers, returns, stopped, unfinished}
 use Rattle.s80_meaning.proofs.RenamedActivations.{Houses, Same, activated_alike}
 use Rattle.s80_meaning.proofs.RenamedTrees.{evaluated_alike}
+
+-- a SmallInteger has no number of a class
+small_renamed : (r : ℕ → ℕ) (v : Value) → small_of (end.Answer (renamed r v)) ≡ small_of (end.Answer v)
+small_renamed r (Small n) = refl
+small_renamed r (Character c) = refl
+small_renamed r Nil = refl
+small_renamed r True = refl
+small_renamed r False = refl
+small_renamed r (Symbol n) = refl
+small_renamed r (Number n) = refl
+small_renamed r (ClassRef c side) = refl
+small_renamed r (Object n) = refl
+small_renamed r Context = refl
+small_renamed r Transcript = refl
+small_renamed r Smalltalk = refl
 
 module _ (p : Houses) where
   abbrev Told : Option Outcome → Option Outcome → Type 0
@@ -32,7 +47,7 @@ module _ (p : Houses) where
 
   answer_told : (v : Value) (w : World) (vs : Variable → Value) → AreToldAlike p.t p.u (outcome_of (end.Answer v) w) (outcome_of (end.Answer (renamed p.r v)) (renamed_world p.r w vs))
   answer_told v w vs = record {
-    end = tt;
+    end = small_renamed p.r v;
     ticks = refl;
     text = ap (λ text. w.transcript ++ (line_end w.transcript ++ (codes "=> " ++ text))) (printed_same p.t p.u p.r p.is w.objects v);
   }

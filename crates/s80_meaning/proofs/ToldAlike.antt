@@ -20,7 +20,7 @@ use Rattle.s80_meaning.specs.Tree.{Meant}
 use Rattle.s80_meaning.proofs.Natural.{printed_image}
 
 same_end : (end : End) → EndAlike end end
-same_end (Answer v) = tt
+same_end (Answer v) = refl
 same_end (Stopped stop) = refl
 
 -- where blocks begin isn't told

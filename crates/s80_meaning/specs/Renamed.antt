@@ -1,11 +1,12 @@
 -- One state under two numberings of its classes.
-use Rattle.std.specs.Prelude.{◌≡◌, ℕ, List, IsTrue, Some, None}
+use Rattle.std.specs.Prelude.{◌≡◌, ℕ, ℤ, List, IsTrue, Option, Some, None}
 use Rattle.std.specs.FinMap as map_of
 use Rattle.s80_base.specs.declared.names.Side.{Side}
 use Rattle.s80_class.specs.Classes.{Name, ClassRow}
 use Rattle.s80_class.specs.Known.{IsKnown}
 use Rattle.s80_class.specs.Table.{Table, IsNumberOf, name_of}
 use Rattle.s80_kernel.specs.Rows.{is_kernel_class}
+use Rattle.s80_object.specs.declared.value.Value.TheVariants.{Small}
 use Rattle.s80_prims.specs.declared.stop.End.{End}
 use Rattle.s80_prims.specs.declared.stop.End.TheVariants.{Answer, Stopped}
 use Rattle.s80_prims.specs.declared.stop.Outcome.{Outcome}
@@ -30,9 +31,15 @@ pub record AreOneHouse (t u : Table) (methods others : Methods) : Type 0 where
   pub classes : u.classes ≡ t.classes
   pub same_methods : (name : Name) (c d : ℕ) → IsNumberOf t.names c name → IsNumberOf u.names d name → (side : Side) (selector : List ℕ) → others d side selector ≡ methods c side selector
 
--- both answer, or both stop for the same reason
+-- the SmallInteger that is answered, if one is
+abbrev pub small_of : End → Option ℤ
+small_of (Answer (Small n)) = Some n
+small_of (Answer v) = None
+small_of (Stopped stop) = None
+
+-- both answer, and the same where one answers a SmallInteger; or both stop for the same reason
 abbrev pub EndAlike : End → End → Type 0
-EndAlike (Answer v) (Answer x) = Unit {0}
+EndAlike (Answer v) (Answer x) = small_of (Answer x) ≡ small_of (Answer v)
 EndAlike (Stopped stop) (Stopped other) = other ≡ stop
 EndAlike _ _ = ⊥
 
