@@ -6,3 +6,4 @@ mod number;
 mod words;
 
 pub use line::{Line, read_line};
+pub use number::number_in;

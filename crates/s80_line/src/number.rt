@@ -18,7 +18,8 @@ pub fn number_or(values: &[&str], without: u64, digits: usize, most: u64) -> Opt
     }
 }
 
-fn number_in(word: &[u8], digits: usize, most: u64) -> Option<u64>
+/// The number from 1 to `most` that a word of at most so many decimal digits writes. Answers `None` for any other word.
+pub fn number_in(word: &[u8], digits: usize, most: u64) -> Option<u64>
     requires { most < 2 ^ 64 - 1 }
     ensures meant { result ≡ (if is_number digits most word.now then Some (number_of word.now) else None) }
     ensures bounded { IfSome result (λ number. number ≤ most) }
