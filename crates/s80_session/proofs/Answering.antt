@@ -117,7 +117,7 @@ pub read_some : (reader : Held) (bytes : List ℕ) (given : List Item) (o : Opti
 read_some reader bytes given o item is h = let P : Option Item → Type 0 = λ x. HasRead reader bytes (given ++ option_to_list x) in subst P is h
 
 -- a session works what a reader gives
-readable : (item : Item) → IsSound item → IsReadable (Chunk item)
+pub readable : (item : Item) → IsSound item → IsReadable (Chunk item)
 readable (items.Plain text) h = (h.0, h.2)
 readable (items.Head text) h = h
 readable (items.Method text) h = h

@@ -1,6 +1,6 @@
 -- How the work on an item breaks off, and what is counted then.
 use Rattle.std.proofs.Common.{◌≡◌, inl, inr, sym, subst, Result, Ok, Err, arith}
-use Rattle.std.specs.Prelude.{IfErr}
+use Rattle.std.specs.Prelude.{IfErr, OnOk}
 use Rattle.s80_chunk.specs.declared.item.Item.TheVariants as items
 use Rattle.s80_disk.specs.Shown.{Faults}
 use Rattle.s80_model.specs.declared.item.Filed.TheVariants as contents
@@ -9,7 +9,9 @@ use Rattle.s80_model.specs.declared.item.SessionItem.{SessionItem}
 use Rattle.s80_model.specs.declared.item.SessionItem.TheVariants.{Chunk, Unended, Query}
 use Rattle.s80_session.specs.declared.end.SessionEnd.{SessionEnd}
 use Rattle.s80_session.specs.declared.end.SessionEnd.TheVariants as ends
+use Rattle.s80_session.specs.declared.session.Session.{Session}
 use Rattle.s80_session.specs.Ending.{Counts, CountsFor, IsFlushEnd, IsKeepEnd, IsWorkEnd, MeetsNoDamage, NoFewer, OnOkOrMemory, SourceCounts}
+use Rattle.s80_session.specs.Session.{IsFaultless, IsResting}
 
 -- by a fault of the keeping
 pub keep_end_works : {T : Type 0} (r : Result T SessionEnd) → IfErr r IsKeepEnd → IfErr r IsWorkEnd
@@ -37,6 +39,10 @@ flush_end_calm T P (ends.Write failed) is = tt
 flush_end_calm T P (ends.Read failed) is = tt
 flush_end_calm T P (ends.Damaged damage) is = tt
 flush_end_calm T P ends.TooLong is = tt
+
+pub flush_calm : (r : Result (Unit {0}) SessionEnd) (session : Session) → OnOk r (IsResting session) → IfErr r IsFlushEnd → OnOkOrMemory r (IsFaultless session)
+flush_calm (Ok done) session resting is = resting.faultless
+flush_calm (Err end) session resting is = flush_end_calm (Unit {0}) (IsFaultless session) end is
 
 -- what meets no fault, behind what met none
 pub done_on : {T U : Type 0} (item : SessionItem) (a m b : Faults) (value : T) (other : U) → m ≡ a → CountsFor {T = T} item m b (Ok value) → CountsFor {T = U} item a b (Ok other)

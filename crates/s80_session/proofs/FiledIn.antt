@@ -42,11 +42,11 @@ module _ (laws : FileLaws) (work : Work) (built : IsBuilt work.changes) (list : 
   files_in (Query (queries.FileOut AllClasses)) ask ((moment, is), so) =
       let P : Ask → Type 0 = λ a. FiledOut work (Query (queries.FileOut AllClasses)) (reply_text (reply_to work a)) in
       let second = some_second work.settings.moment moment (subst (IsSo work) is so) in
-      subst P (sym is) (moment, λ settings room. laws.all work settings second.0 moment list second.1 room)
+      subst P (sym is) (moment, subst (IsSo work) is so, λ settings room. laws.all work settings second.0 moment list second.1 room)
   files_in (Query (queries.FileOut Set)) ask ((moment, is), so) =
       let P : Ask → Type 0 = λ a. FiledOut work (Query (queries.FileOut Set)) (reply_text (reply_to work a)) in
       let second = some_second work.settings.moment moment (subst (IsSo work) is so) in
-      subst P (sym is) (moment, λ settings before set parts begins room. laws.set work settings before set second.0 moment parts begins built list second.1 room)
+      subst P (sym is) (moment, subst (IsSo work) is so, λ settings before set parts begins room. laws.set work settings before set second.0 moment parts begins built list second.1 room)
   files_in (Query (queries.FileOut (OneClass name))) ask asks = tt
   files_in (Query (queries.Source spec selector)) ask asks = tt
   files_in (Query queries.Recover) ask asks = tt

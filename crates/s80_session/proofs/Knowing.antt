@@ -73,6 +73,9 @@ text_ends = ends_so Reply Answer
 pub answer_ends : (end : SessionEnd) (o : Shown) (session : Session) → StaysKnowing {T = Answer} (Err end) o session → StaysKnowing {T = Unit {0}} (Err end) o session
 answer_ends = ends_so Answer (Unit {0})
 
+pub reply_ends : (end : SessionEnd) (o : Shown) (session : Session) → StaysKnowing {T = Reply} (Err end) o session → StaysKnowing {T = Unit {0}} (Err end) o session
+reply_ends = ends_so Reply (Unit {0})
+
 -- what counts no damage meets none
 pub whole_ends : {T : Type 0} (a b : Faults) (end : SessionEnd) (o : Shown) (session : Session) → Counts {T = T} a b (Err end) → StaysKnowing {T = Unit {0}} (Err end) o session
 whole_ends a b (ends.Damaged damage) o session h = absurd h.reason
@@ -115,6 +118,10 @@ pub knows_entered : (o : Shown) (before now : Session) → keeper_of now ≡ kee
 knows_entered o before now keeper brief knows = λ told.
     let was = knows told in
     (brief told, was.1, subst (λ k. HasWritten o.tells o.files k was.1) (sym keeper) was.2)
+
+-- the same section and keeper
+pub knows_alike : (o : Shown) (before now : Session) → keeper_of now ≡ keeper_of before → section_of now ≡ section_of before → IsKnowing o before → IsKnowing o now
+knows_alike o before now keeper section knows = knows_entered o before now keeper (λ told. subst IsBriefSection (sym section) (knows told).0) knows
 
 -- ---- a start
 

@@ -15,6 +15,7 @@ pub mod Grouping
 pub mod Holding
 pub mod Knowing
 pub mod Lawful
+pub mod Making
 pub mod Marking
 pub mod Noting
 pub mod OneGroup

@@ -1,6 +1,6 @@
 -- What is worked behind the last flush is one group.
-use Rattle.std.proofs.Common.{◌≡◌, ℕ, ◌+◌, ◌<◌, ◌≤◌, List, [], ◌++◌, length, Bool, true, false, true≢false, refl, sym, ap, subst, ◌∙◌, length-append, arith}
-use Rattle.std.specs.Prelude.{◌||◌, nat_le}
+use Rattle.std.proofs.Common.{◌≡◌, ℕ, ◌+◌, ◌<◌, ◌≤◌, List, [], ◌++◌, length, Bool, true, false, true≢false, Result, Ok, Err, refl, sym, ap, subst, ◌∙◌, length-append, arith}
+use Rattle.std.specs.Prelude.{◌||◌, nat_le, OnOk}
 use Rattle.std.proofs.lemmas.Bool.{leb-false}
 use Rattle.std.proofs.lemmas.List.{append-nil}
 use Rattle.s80_change.specs.Block.{blocks}
@@ -9,6 +9,7 @@ use Rattle.s80_disk.specs.Shown.{Shown}
 use Rattle.s80_keeper.specs.Keeper.{pending_of}
 use Rattle.s80_model.specs.Asked.{Ask}
 use Rattle.s80_model.specs.Replies.{Work, work_after_all, list_after_all, replies}
+use Rattle.s80_session.specs.declared.end.SessionEnd.{SessionEnd}
 use Rattle.s80_session.specs.declared.session.Session.{Session}
 use Rattle.s80_session.specs.Run.{IsOneGroup}
 use Rattle.s80_session.specs.Session.{group_limit, held_of, keeper_of, HasLittle, IsResting}
@@ -86,6 +87,10 @@ module _ (may_leave : Image → Type 0) (o : Shown) (session : Session) (work : 
 
 pub little_at_rest : (session : Session) → IsResting session → HasLittle session
 little_at_rest session resting = let silent = ap length resting.silent in record { pending = omega (arith, resting.settled); held = omega (arith, silent) }
+
+pub flush_little : {T : Type 0} (r : Result T SessionEnd) (session : Session) → OnOk r (IsResting session) → OnOk r (HasLittle session)
+flush_little (Ok value) session resting = little_at_rest session resting
+flush_little (Err end) session resting = resting
 
 both_false : (x y : Bool) → (x || y) ≡ false → (x ≡ false) × (y ≡ false)
 both_false true y e = absurd (true≢false e)

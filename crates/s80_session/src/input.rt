@@ -60,7 +60,7 @@ fn take_piece<O: Outside>(buf: &mut [u8], taken: u64, outside: &mut O) -> Result
 
 impl Session {
     /// Whether so much is pending or held that it is flushed.
-    fn is_full(&self) -> bool
+    pub(crate) fn is_full(&self) -> bool
         ensures { result ≡ (nat_le group_limit (pending_of (keeper_of self.now)) || nat_le group_limit (length (held_of self.now))) }
     {
         self.keeper.pending() >= GROUP as u64 || self.held.bytes().len() >= GROUP

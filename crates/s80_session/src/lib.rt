@@ -5,6 +5,7 @@ mod condense;
 mod end;
 mod files;
 mod input;
+mod make;
 mod outside;
 mod plain;
 mod queries;

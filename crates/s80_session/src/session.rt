@@ -421,7 +421,7 @@ impl Session {
     }
 
     /// Goes on in this section, where it is another one.
-    fn enter(&mut self, section: Option<Section>)
+    pub(crate) fn enter(&mut self, section: Option<Section>)
         ensures section { section_of self.new ≡ section_or section (section_of self.old) }
         ensures rest { self.new ≡ record self.old { section = section_of self.new } }
     {
@@ -431,7 +431,7 @@ impl Session {
     }
 
     /// Works one item, and says what it is to be answered, and in which section the next item stands. The session's section stays.
-    fn answer_to<O: Outside>(
+    pub(crate) fn answer_to<O: Outside>(
         &mut self,
         alloc: Global,
         item: SessionItem,
