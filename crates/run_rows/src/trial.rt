@@ -11,7 +11,6 @@ use crate::{keepers, system};
 use anyhow::{Context, Result, bail};
 use s80_base::{FixedClock, MemSink, MemSource, RepeatSource, Text};
 use s80_disk::{Disk, FaultPlan, FileId, MemDisk, MemOutside};
-use s80_model::{Query, SessionItem};
 use s80_program::Status;
 use s80_rows::bytes;
 use s80_session::Session;
@@ -177,7 +176,6 @@ impl Trial {
             "repeat" => self.repeat(alloc, rest),
             "spaces" => self.spaces(alloc, number(rest)?.0),
             "budget" => self.session(alloc, rest),
-            "keep" => self.condense(alloc, rest),
             "start" => self.start(alloc),
             "show" => self.show(alloc, file_named(rest)?),
             "length" => self.length(alloc, file_named(rest)?),
@@ -283,21 +281,6 @@ impl Trial {
         let mut out = Text::empty(alloc);
         add_lines(alloc, &mut out, sink.bytes())?;
         out.append(ran.as_bytes())?;
-        self.disk = disk;
-        Ok(out)
-    }
-
-    /// A session that keeps so many of the newest versions of each method, which condenses.
-    fn condense(&mut self, alloc: Global, rest: &str) -> Result<Text> {
-        let keep = u32::try_from(number(rest)?.0)?;
-        let disk = planned(alloc, &self.disk, self.room, self.plan)?;
-        let source = MemSource::make(alloc, b"", 1, &[])?;
-        let sink = MemSink::make(alloc, ROOM, &self.puts)?;
-        let mut outside = MemOutside::make(disk, source, sink, FixedClock { seconds: SECONDS });
-        condense(alloc, &mut outside, keep)?;
-        let (disk, _source, sink) = outside.parts();
-        let mut out = Text::empty(alloc);
-        add_lines(alloc, &mut out, sink.bytes())?;
         self.disk = disk;
         Ok(out)
     }
@@ -463,16 +446,6 @@ fn line_of(alloc: Global, swept: (u64, Status)) -> Result<String> {
     Ok(format!(in alloc;
         "{crashes} crashes lose no answered change; the last run ends with {last:?}"
     )?)
-}
-
-/// How many ticks a doIt may take in a session that evaluates none.
-const NO_TICKS: u64 = 0;
-
-/// A session that keeps so many versions, at least one, and condenses.
-fn condense(alloc: Global, outside: &mut MemOutside<MemSource>, keep: u32) -> Result<()> {
-    let mut session = Session::start(alloc, outside, NO_TICKS, keep.max(1))?;
-    session.step(alloc, SessionItem::Query(Query::Condense), outside)?;
-    Ok(())
 }
 
 /// How many versions a session keeps that doesn't condense.

@@ -7,7 +7,7 @@ use Rattle.s80_line.specs.Line.{IsLine, LineParts}
 use Rattle.s80_line.specs.Shown.{shown}
 use Rattle.s80_model.specs.declared.item.Filed.TheVariants.{All, Class, Set}
 use Rattle.s80_model.specs.declared.item.Query.TheVariants.{Recover, Classes, Browse, Source, Versions, Changes, Condense, FileOut, Snapshot}
-use Rattle.s80_program.specs.Command.{Command, Options, Run, Do, Tell, command_word, arguments_of}
+use Rattle.s80_program.specs.Command.{Command, Options, Run, Do, Tell, Make, command_word, arguments_of}
 use Rattle.s80_program.specs.Words.{AreOf, Asks, options_of}
 
 -- the command of which these are the word and the arguments, if they are those of one
@@ -22,7 +22,8 @@ command_from word [] =
     else (if bytes_eq word (codes "condense") then Some (Tell Condense) else Some (Tell Snapshot)))))))
 command_from word (name ∷ []) =
     if bytes_eq word (codes "do") then Some (Do name)
-    else (if bytes_eq word (codes "file-out-class") then Some (Tell (FileOut (Class name))) else Some (Tell (Browse name)))
+    else (if bytes_eq word (codes "file-out-class") then Some (Tell (FileOut (Class name)))
+    else (if bytes_eq word (codes "make") then Some (Make name) else Some (Tell (Browse name))))
 command_from word (spec ∷ selector ∷ rest) = if bytes_eq word (codes "source") then Some (Tell (Source spec selector)) else Some (Tell (Versions spec selector))
 
 from_words : (command : Command) → command_from (command_word command) (arguments_of command) ≡ Some command
@@ -39,6 +40,7 @@ from_words (Tell (FileOut (Class name))) = refl
 from_words (Tell (FileOut Set)) = refl
 from_words (Tell Snapshot) = refl
 from_words (Tell Condense) = refl
+from_words (Make count) = refl
 
 same_some : (one other : Command) → Some one ≡ Some other → one ≡ other
 same_some one other is = cc is

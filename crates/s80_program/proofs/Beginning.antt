@@ -1,5 +1,5 @@
 -- The beginning of a command: the folder is chosen, and a session starts.
-use Rattle.std.proofs.Common.{◌≡◌, ◌⊎◌, inl, inr, ⊎_elim, ℕ, ◌≤◌, List, [], length, refl, sym, ap, subst, ◌∙◌, Err, Option, Some, None, Bool, arith}
+use Rattle.std.proofs.Common.{◌≡◌, ◌⊎◌, inl, inr, ⊎_elim, ℕ, ◌≤◌, List, [], length, refl, sym, ap, subst, ◌∙◌, Err, Some, Bool, arith}
 use Rattle.std.proofs.lemmas.List.{append-nil}
 use Rattle.s80_chunk.specs.Chunks.Reads.{stop}
 use Rattle.s80_change.specs.declared.change.Change.{Change}
@@ -17,16 +17,17 @@ use Rattle.s80_keeper.proofs.lemmas.Standing.{stands_leaves}
 use Rattle.s80_session.specs.declared.end.SessionEnd.{SessionEnd}
 use Rattle.s80_session.specs.declared.end.SessionEnd.TheVariants as ends
 use Rattle.s80_session.specs.Putting.{IsAsBefore}
-use Rattle.s80_model.specs.declared.item.SessionItem.{SessionItem}
 use Rattle.s80_model.specs.Replies.{Work, begun}
 use Rattle.s80_model.specs.Settings.{Settings}
 use Rattle.s80_session.specs.declared.session.Session.{Session}
 use Rattle.s80_session.specs.Session.{keeper_of}
+use Rattle.s80_session.specs.Making.{FirstMakeAsks}
 use Rattle.s80_session.specs.Run.{HasKept}
 use Rattle.s80_session.specs.Working.{IsAt, Starts, IsSessionStart}
 use Rattle.s80_session.proofs.lemmas.Keeping.{keeps_stands}
 use Rattle.s80_session.proofs.lemmas.Lasting.{keeps_at_start}
 use Rattle.s80_program.specs.declared.status.Status.TheVariants as status
+use Rattle.s80_program.specs.Command.{Job, Takes, Works, Makes}
 use Rattle.s80_program.specs.Ending.{IsDiskEnd, status_after}
 use Rattle.s80_program.specs.Leaves.{StartsWith, LeavesFor, KeepsFor, TellsDamage}
 
@@ -57,74 +58,81 @@ module _ (old now : Shown) (same : now ≡ old) (was may_leave : Image → Type 
     told = ap (λ (o : Shown). o.told) same ∙ h.told;
   }
 
+-- no item of those to be made is worked yet
+none_made : (work : Work) (count : ℕ) → FirstMakeAsks work count []
+none_made work count = inl (0, omega arith, tt)
+
 -- the disk fails before the first item
-pub lost_at_start : (item : Option SessionItem) (end : SessionEnd) (may_leave : Image → Type 0) (now : Shown) (work : Work) (input before : List ℕ) → IsDiskEnd end → ReadsFor now.tells now.files may_leave work.changes → now.left ≡ Some input → now.taken ≡ Some before → LeavesFor item (status_after (Err end)) may_leave now work input before
-lost_at_start None (ends.Disk failed) may_leave now work input before is reads left taken = record {
+pub lost_at_start : (job : Job) (end : SessionEnd) (may_leave : Image → Type 0) (now : Shown) (work : Work) (input before : List ℕ) → IsDiskEnd end → ReadsFor now.tells now.files may_leave work.changes → now.left ≡ Some input → now.taken ≡ Some before → LeavesFor job (status_after (Err end)) may_leave now work input before
+lost_at_start Takes (ends.Disk failed) may_leave now work input before is reads left taken = record {
   asks = [];
   more = [];
   first = ([], inl ([], input, stop refl refl, refl), tt);
   taken = taken ∙ ap Some (sym (append-nil before));
   reads = reads;
 }
-lost_at_start (Some item) (ends.Disk failed) may_leave now work input before is reads left taken = (record { taken = taken; list = work.changes; is = inl refl; reads = reads }, left)
-lost_at_start item ends.Memory may_leave now work input before is reads left taken = absurd is
-lost_at_start item (ends.Read failed) may_leave now work input before is reads left taken = absurd is
-lost_at_start item (ends.Write failed) may_leave now work input before is reads left taken = absurd is
-lost_at_start item (ends.Damaged damage) may_leave now work input before is reads left taken = absurd is
-lost_at_start item ends.TooLong may_leave now work input before is reads left taken = absurd is
+lost_at_start (Works item) (ends.Disk failed) may_leave now work input before is reads left taken = (record { taken = taken; list = work.changes; is = inl refl; reads = reads }, left)
+lost_at_start (Makes count) (ends.Disk failed) may_leave now work input before is reads left taken = (record { asks = []; first = none_made work count; reads = reads; taken = taken }, left)
+lost_at_start job ends.Memory may_leave now work input before is reads left taken = absurd is
+lost_at_start job (ends.Read failed) may_leave now work input before is reads left taken = absurd is
+lost_at_start job (ends.Write failed) may_leave now work input before is reads left taken = absurd is
+lost_at_start job (ends.Damaged damage) may_leave now work input before is reads left taken = absurd is
+lost_at_start job ends.TooLong may_leave now work input before is reads left taken = absurd is
 
 -- the session doesn't start
-pub no_session : (item : Option SessionItem) (end : SessionEnd) (may_leave : Image → Type 0) (now : Shown) (settings : Settings) (changes : List Change) (input before : List ℕ) → Starts (Err end) may_leave now settings changes before → now.left ≡ Some input → now.taken ≡ Some before → LeavesFor item (status_after (Err end)) may_leave now (begun settings changes) input before
-no_session None ends.Memory may_leave now settings changes input before h left taken = inl (record {
+pub no_session : (job : Job) (end : SessionEnd) (may_leave : Image → Type 0) (now : Shown) (settings : Settings) (changes : List Change) (input before : List ℕ) → Starts (Err end) may_leave now settings changes before → now.left ≡ Some input → now.taken ≡ Some before → LeavesFor job (status_after (Err end)) may_leave now (begun settings changes) input before
+no_session Takes ends.Memory may_leave now settings changes input before h left taken = inl (record {
   asks = [];
   first = ([], inl ([], input, stop refl refl, refl), tt);
   answered = record { stands = h; taken = taken ∙ ap Some (sym (append-nil before)) };
 })
-no_session (Some item) ends.Memory may_leave now settings changes input before h left taken = (inl (record { stands = h; taken = taken ∙ ap Some (sym (append-nil before)) }), left)
-no_session item (ends.Disk failed) may_leave now settings changes input before h left taken =
+no_session (Works item) ends.Memory may_leave now settings changes input before h left taken = (inl (record { stands = h; taken = taken ∙ ap Some (sym (append-nil before)) }), left)
+no_session (Makes count) ends.Memory may_leave now settings changes input before h left taken = (record { asks = []; first = none_made (begun settings changes) count; stands = h; taken = taken }, left)
+no_session job (ends.Disk failed) may_leave now settings changes input before h left taken =
     let P : List Change → Type 0 = λ l. ReadsFor now.tells now.files may_leave l in
-    lost_at_start item (ends.Disk failed) may_leave now (begun settings changes) input before tt (subst P h.is h.reads) left taken
-no_session item (ends.Read failed) may_leave now settings changes input before h left taken = absurd h
-no_session item (ends.Write failed) may_leave now settings changes input before h left taken = absurd h
-no_session item (ends.Damaged damage) may_leave now settings changes input before h left taken = absurd h
-no_session item ends.TooLong may_leave now settings changes input before h left taken = absurd h
+    lost_at_start job (ends.Disk failed) may_leave now (begun settings changes) input before tt (subst P h.is h.reads) left taken
+no_session job (ends.Read failed) may_leave now settings changes input before h left taken = absurd h
+no_session job (ends.Write failed) may_leave now settings changes input before h left taken = absurd h
+no_session job (ends.Damaged damage) may_leave now settings changes input before h left taken = absurd h
+no_session job ends.TooLong may_leave now settings changes input before h left taken = absurd h
 
 -- memory is wanting before the first item
-pub no_memory : (item : Option SessionItem) (may_leave : Image → Type 0) (now : Shown) (session : Session) (settings : Settings) (changes : List Change) (input before : List ℕ) → IsAt may_leave now session (begun settings changes) before → now.left ≡ Some input → LeavesFor item (status_after (Err ends.Memory)) may_leave now (begun settings changes) input before
-no_memory item may_leave now session settings changes input before at left =
-    no_session item ends.Memory may_leave now settings changes input before (keeps_stands now.tells now.files may_leave (keeper_of session) changes at.keeps) left at.taken
+pub no_memory : (job : Job) (may_leave : Image → Type 0) (now : Shown) (session : Session) (settings : Settings) (changes : List Change) (input before : List ℕ) → IsAt may_leave now session (begun settings changes) before → now.left ≡ Some input → LeavesFor job (status_after (Err ends.Memory)) may_leave now (begun settings changes) input before
+no_memory job may_leave now session settings changes input before at left =
+    no_session job ends.Memory may_leave now settings changes input before (keeps_stands now.tells now.files may_leave (keeper_of session) changes at.keeps) left at.taken
 
 -- what is kept before the first item
-pub kept_at_start : (item : Option SessionItem) (work : Work) (input before : List ℕ) (told : ℕ) (c : Image) → HasKept work.changes (length before) told c → KeepsFor item work input before told c
-kept_at_start None work input before told c h = keeps_at_start work input before told c h
-kept_at_start (Some item) work input before told c h = inl h
+pub kept_at_start : (job : Job) (work : Work) (input before : List ℕ) (told : ℕ) (c : Image) → HasKept work.changes (length before) told c → KeepsFor job work input before told c
+kept_at_start Takes work input before told c h = keeps_at_start work input before told c h
+kept_at_start (Works item) work input before told c h = inl h
+kept_at_start (Makes count) work input before told c h = inl ([], none_made work count, h)
 
 -- no call was made
 pub as_before : {D : Type 0} (moment : D → ℕ) (left_since : D → ℕ → ℕ → Image → Type 0) (may_leave : Image → Type 0) (told : ℕ) (now : D) → ((n : ℕ) (c : Image) → left_since now (moment now) n c → may_leave c × (n ≡ told)) → LeavesOnly moment left_since now now (IsAsBefore may_leave told 0)
 as_before moment left_since may_leave told now only = started moment left_since now (IsAsBefore may_leave told 0) (λ n c left. let x = only n c left in record { no_fewer = omega (arith, x.1); no_more = omega (arith, x.1); was = x.0 })
 
-module _ {D : Type 0} (moment : D → ℕ) (left_since : D → ℕ → ℕ → Image → Type 0) (item : Option SessionItem) (work : Work) (input before : List ℕ) where
+module _ {D : Type 0} (moment : D → ℕ) (left_since : D → ℕ → ℕ → Image → Type 0) (job : Job) (work : Work) (input before : List ℕ) where
   abbrev P : ℕ → Image → Type 0
-  P = KeepsFor item work input before
+  P = KeepsFor job work input before
 
   -- the folder is chosen
   pub chosen : (tells : Bool) (reads : Image) (may_leave : Image → Type 0) (told : ℕ) (old new : D) → StandsFor tells reads may_leave work.changes → told ≡ length before → LeavesOnly moment left_since old new (IsAsBefore may_leave told 0) → LeavesOnly moment left_since old new P
-  chosen tells reads may_leave told old new stands is run = weaker moment left_since old new (IsAsBefore may_leave told 0) P run (λ n c h. kept_at_start item work input before n c (record { no_more = omega (arith, h.no_more, is); files = stands_leaves tells reads may_leave work.changes stands c h.was }))
+  chosen tells reads may_leave told old new stands is run = weaker moment left_since old new (IsAsBefore may_leave told 0) P run (λ n c h. kept_at_start job work input before n c (record { no_more = omega (arith, h.no_more, is); files = stands_leaves tells reads may_leave work.changes stands c h.was }))
 
   -- a session starts
   pub session_begins : (told : ℕ) (old new : D) → told ≡ length before → LeavesOnly moment left_since old new (HasKept work.changes told) → LeavesOnly moment left_since old new P
-  session_begins told old new is run = weaker moment left_since old new (HasKept work.changes told) P run (λ n c h. kept_at_start item work input before n c (record { no_more = omega (arith, h.no_more, is); files = h.files }))
+  session_begins told old new is run = weaker moment left_since old new (HasKept work.changes told) P run (λ n c h. kept_at_start job work input before n c (record { no_more = omega (arith, h.no_more, is); files = h.files }))
 
   pub goes_on : (old mid new : D) → LeavesOnly moment left_since old mid P → LeavesOnly moment left_since mid new P → LeavesOnly moment left_since old new P
   goes_on old mid new first second = joined moment left_since old mid new P P first second (λ n c h. h)
 
 -- behind a run that was killed: a crash leaves the list that is read, or one before it, until more is told
-module _ {D : Type 0} (moment : D → ℕ) (left_since : D → ℕ → ℕ → Image → Type 0) (item : Option SessionItem) (work : Work) (was : List Change) (input before : List ℕ) where
+module _ {D : Type 0} (moment : D → ℕ) (left_since : D → ℕ → ℕ → Image → Type 0) (job : Job) (work : Work) (was : List Change) (input before : List ℕ) where
   abbrev Q : ℕ → Image → Type 0
-  Q told c = HasKept was (length before) told c ⊎ KeepsFor item work input before told c
+  Q told c = HasKept was (length before) told c ⊎ KeepsFor job work input before told c
 
   either_kept : (told : ℕ) (c : Image) → told ≤ length before → FilesStandFor c work.changes ⊎ FilesStandFor c was → Q told c
-  either_kept told c within = ⊎_elim (λ files. inr (kept_at_start item work input before told c (record { no_more = within; files = files }))) (λ files. inl (record { no_more = within; files = files }))
+  either_kept told c within = ⊎_elim (λ files. inr (kept_at_start job work input before told c (record { no_more = within; files = files }))) (λ files. inl (record { no_more = within; files = files }))
 
   -- the folder is chosen
   pub chosen_either : (may_leave : Image → Type 0) (told : ℕ) (old new : D) → ((c : Image) → may_leave c → FilesStandFor c work.changes ⊎ FilesStandFor c was) → told ≡ length before → LeavesOnly moment left_since old new (IsAsBefore may_leave told 0) → LeavesOnly moment left_since old new Q
@@ -135,8 +143,8 @@ module _ {D : Type 0} (moment : D → ℕ) (left_since : D → ℕ → ℕ → I
   begins_either told old mid new is first second = joined moment left_since old mid new Q (LeavesEither told work.changes was) first second (λ n c h. either_kept n c (omega (arith, h.told_is, is)) h.files)
 
   -- and the command is done
-  pub goes_on_either : (old mid new : D) → LeavesOnly moment left_since old mid Q → LeavesOnly moment left_since mid new (KeepsFor item work input before) → LeavesOnly moment left_since old new Q
-  goes_on_either old mid new first second = joined moment left_since old mid new Q (KeepsFor item work input before) first second (λ n c h. inr h)
+  pub goes_on_either : (old mid new : D) → LeavesOnly moment left_since old mid Q → LeavesOnly moment left_since mid new (KeepsFor job work input before) → LeavesOnly moment left_since old new Q
+  goes_on_either old mid new first second = joined moment left_since old mid new Q (KeepsFor job work input before) first second (λ n c h. inr h)
 
 -- a log holds something where files are damaged, so a crash leaves what it might have left before, while a session starts on them
 pub damaged_lasts : {D : Type 0} (moment : D → ℕ) (left_since : D → ℕ → ℕ → Image → Type 0) (files : Image) (damage : Damage) (before mid_leaves : Image → Type 0) (told_before told_mid : ℕ) (old mid new : D) → IsDamage files damage → ((c : Image) → mid_leaves c → before c) → told_mid ≡ told_before

@@ -17,13 +17,14 @@ use Rattle.s80_model.specs.declared.item.Filed.TheVariants as filed
 use Rattle.s80_model.specs.declared.item.Query.TheVariants as queries
 use Rattle.s80_model.specs.Replies.{AsksIn, Work, is_trouble, reply_text, reply_to, work_after}
 use Rattle.s80_session.specs.Session.{Was, keeper_of, troubled_of}
+use Rattle.s80_session.specs.Making.{Made, Makes}
 use Rattle.s80_session.specs.Run.{Ends, Finished}
 use Rattle.s80_session.specs.Working.{IsAt, Stepped}
 use Rattle.s80_session.specs.declared.session.Session.{Session}
 use Rattle.s80_session.proofs.lemmas.Keeping.{keeps_stands}
 use Rattle.s80_program.specs.declared.status.Status.TheVariants as status
 use Rattle.s80_program.specs.Ending.{IsDiskEnd, StatusHasReason, status_after}
-use Rattle.s80_program.specs.Leaves.{IsAnswered, ItemLeaves, RunLeaves, TellsDamage}
+use Rattle.s80_program.specs.Leaves.{IsAnswered, ItemLeaves, MakeLeaves, RunLeaves, TellsDamage}
 
 -- a run that came to its end
 done_so : (may_leave : Image → Type 0) (now : Shown) (troubled : Bool) (ran : Option RanValue) (work : Work) (input before : List ℕ) → Finished may_leave now work input before troubled None ran → RunLeaves (status_after (Ok troubled)) may_leave now work input before
@@ -45,6 +46,27 @@ run_ended T (ends.Write failed) may_leave now was is_now work input before h = h
 run_ended T (ends.Disk failed) may_leave now was is_now work input before h = h
 run_ended T (ends.Damaged damage) may_leave now was is_now work input before h = absurd h
 run_ended T ends.TooLong may_leave now was is_now work input before h = h
+
+-- classes that were made
+made_so : (may_leave : Image → Type 0) (now : Shown) (troubled : Bool) (ran : Option RanValue) (work : Work) (count : ℕ) (before : List ℕ) → Made may_leave now work count before troubled None ran → MakeLeaves (status_after (Ok troubled)) may_leave now work count before
+made_so may_leave now true ran work count before h = (ran, h)
+made_so may_leave now false ran work count before h = (ran, h)
+
+pub make_done : {T : Type 0} (done : T) (may_leave : Image → Type 0) (now : Shown) (was is_now : Was) (work : Work) (count : ℕ) (before : List ℕ) → was.troubled ≡ false → was.last_run ≡ None → Makes (Ok done) may_leave now was is_now work count before → MakeLeaves (status_after (Ok is_now.troubled)) may_leave now work count before
+make_done done may_leave now was is_now work count before calm no_run h =
+    let P : Bool → Type 0 = λ b. Made may_leave now work count before b was.last_run is_now.last_run in
+    let Q : Option RanValue → Type 0 = λ o. Made may_leave now work count before is_now.troubled o is_now.last_run in
+    let same : is_now.troubled ≡ h.0 = h.1 ∙ ap (λ b. b || h.0) calm in
+    made_so may_leave now is_now.troubled is_now.last_run work count before (subst Q no_run (subst P (sym same) h.2))
+
+-- making that broke off
+pub make_ended : (T : Type 0) (end : SessionEnd) (may_leave : Image → Type 0) (now : Shown) (was is_now : Was) (work : Work) (count : ℕ) (before : List ℕ) → Makes {T = T} (Err end) may_leave now was is_now work count before → MakeLeaves (status_after (Err end)) may_leave now work count before
+make_ended T ends.Memory may_leave now was is_now work count before h = h
+make_ended T (ends.Read failed) may_leave now was is_now work count before h = absurd h
+make_ended T (ends.Write failed) may_leave now was is_now work count before h = h
+make_ended T (ends.Disk failed) may_leave now was is_now work count before h = h
+make_ended T (ends.Damaged damage) may_leave now was is_now work count before h = absurd h
+make_ended T ends.TooLong may_leave now was is_now work count before h = absurd h
 
 answered_ask : (may_leave : Image → Type 0) (now : Shown) (session : Session) (work : Work) (ask : Ask) (before : List ℕ) → IsAt may_leave now session (work_after work ask) (before ++ reply_text (reply_to work ask)) → IsAnswered may_leave now work ask before
 answered_ask may_leave now session work ask before h = record {

@@ -2,10 +2,10 @@
 use Rattle.std.proofs.Common.{All, ◌≡◌, ◌⊎◌, inl, inr, ℕ, ◌≤◌, List, [], ◌∷◌, ◌++◌, length, take, drop, refl, sym, ap, subst, ◌∙◌, Option, Some, None, Bool, true, false, append_assoc, arith, length-append, take-append-drop}
 use Rattle.std.proofs.lemmas.List.{append-nil}
 use Rattle.std.proofs.lemmas.List.Elements.{All-cons, All-nil, All-push, All-same}
-use Rattle.std.specs.Prelude.{IfSome}
 use Rattle.s80_chunk.specs.declared.item.Item.{Item}
 use Rattle.s80_chunk.specs.declared.item.Role.TheVariants.{Plain}
 use Rattle.s80_chunk.specs.Chunks.{Reads, IsBlank, item_of}
+use Rattle.s80_line.specs.Line.{number_of}
 use Rattle.s80_chunk.proofs.lemmas.Reading.{one_reading}
 use Rattle.s80_chunk.proofs.Stopping.{reads_prefix}
 use Rattle.s80_disk.specs.Image.{Image}
@@ -16,13 +16,16 @@ use Rattle.s80_model.specs.Asked.{Ask, IsTimed, evaluates}
 use Rattle.s80_model.specs.Replies.{AllAsk, AsksIn, Work, reply_to, reply_text, work_after, work_after_all, replies}
 use Rattle.s80_model.specs.Settings.{Settings}
 use Rattle.s80_disk.specs.Shown.{Shown, Faults}
+use Rattle.s80_make.specs.declared.tally.Tally.{Tally}
+use Rattle.s80_make.specs.Tally.{CountsAll, made_line, nothing}
+use Rattle.s80_session.specs.Making.{Made, MakeAsks, MakeUntold}
 use Rattle.s80_session.specs.Run.{chunks, ItemsOf, FirstItemsOf, AsksOf, BrokeOff, FirstAsksOf, WholeAsksOf, Finished, LostDisk, Unanswered, Unevaluated, input_limit}
 use Rattle.s80_session.proofs.Taking.{first_of}
 use Rattle.s80_program.specs.declared.status.Status.{Status}
 use Rattle.s80_program.specs.declared.status.Status.TheVariants as status
-use Rattle.s80_program.specs.Command.{Command, Run, Do, Tell, behind_separators}
+use Rattle.s80_program.specs.Command.{Command, Job, Run, Do, Tell, Make, Takes, Works, Makes, IsTimedJob, behind_separators}
 use Rattle.s80_program.specs.Ending.{NoFault, StatusHasReason, IsWhole}
-use Rattle.s80_program.specs.Leaves.{AllAsksFor, IsAnswered, IsWithin, ItemLeaves, Leaves, LeavesFor, PutsFront, RunLeaves}
+use Rattle.s80_program.specs.Leaves.{AllAsksFor, IsAnswered, IsWithin, ItemLeaves, Leaves, LeavesFor, MakeLeaves, PutsFront, RunLeaves, WritesFor}
 use Rattle.s80_program.proofs.Again.{OneList, goes_on_asking}
 
 chunks_append : (given more : List Item) → chunks (given ++ more) ≡ chunks given ++ chunks more
@@ -89,11 +92,11 @@ first_asks one work input asks all (items, first, asked) (list, whole, all_asked
     let P : List SessionItem → Type 0 = λ l. AllAsk work l all in
     goes_on_asking one work items begins.0 asks all (first_timed work.settings input items first) asked (subst P begins.1 all_asked)
 
-front_put : (now : Shown) (work : Work) (before : List ℕ) (asks more : List Ask) → now.taken ≡ Some (before ++ replies work asks) → PutsFront now.taken work before (asks ++ more)
+front_put : (now : Shown) (work : Work) (before : List ℕ) (asks more : List Ask) → now.taken ≡ Some (before ++ replies work asks) → PutsFront now.taken before (replies work (asks ++ more))
 front_put now work before asks more taken = (replies work asks, replies (work_after_all work asks) more, taken, replies_append work asks more)
 
 -- a front of the replies was put
-part_put : (now : Shown) (work : Work) (before : List ℕ) (asks : List Ask) (count : ℕ) (more : List Ask) → now.taken ≡ Some (before ++ take count (replies work asks)) → PutsFront now.taken work before (asks ++ more)
+part_put : (now : Shown) (work : Work) (before : List ℕ) (asks : List Ask) (count : ℕ) (more : List Ask) → now.taken ≡ Some (before ++ take count (replies work asks)) → PutsFront now.taken before (replies work (asks ++ more))
 part_put now work before asks count more taken =
     let all = replies work asks in
     let after = replies (work_after_all work asks) more in (
@@ -104,42 +107,42 @@ part_put now work before asks count more taken =
     )
 
 -- a run that answered the first of its items
-first_front : OneList → (now : Shown) (work : Work) (input before : List ℕ) (asks all : List Ask) → FirstAsksOf work input asks → now.taken ≡ Some (before ++ replies work asks) → AsksOf work input all → PutsFront now.taken work before all
+first_front : OneList → (now : Shown) (work : Work) (input before : List ℕ) (asks all : List Ask) → FirstAsksOf work input asks → now.taken ≡ Some (before ++ replies work asks) → AsksOf work input all → PutsFront now.taken before (replies work all)
 first_front one now work input before asks all first taken whole =
     let rest = first_asks one work input asks all first whole in
-    let P : List Ask → Type 0 = λ l. PutsFront now.taken work before l in
+    let P : List Ask → Type 0 = λ l. PutsFront now.taken before (replies work l) in
     subst P (sym rest.1) (front_put now work before asks rest.0 taken)
 
-unanswered_front : OneList → (may_leave : Image → Type 0) (now : Shown) (work : Work) (input before : List ℕ) (all : List Ask) → Unanswered may_leave now work input before → AsksOf work input all → PutsFront now.taken work before all
+unanswered_front : OneList → (may_leave : Image → Type 0) (now : Shown) (work : Work) (input before : List ℕ) (all : List Ask) → Unanswered may_leave now work input before → AsksOf work input all → PutsFront now.taken before (replies work all)
 unanswered_front one may_leave now work input before all h whole =
     let rest = first_asks one work input h.asks all h.first whole in
-    let P : List Ask → Type 0 = λ l. PutsFront now.taken work before l in
+    let P : List Ask → Type 0 = λ l. PutsFront now.taken before (replies work l) in
     subst P (sym rest.1) (part_put now work before h.asks h.count rest.0 h.taken)
 
 -- more was worked than is answered
-lost_front : OneList → (may_leave : Image → Type 0) (now : Shown) (work : Work) (input before : List ℕ) (all : List Ask) → LostDisk may_leave now work input before → AsksOf work input all → PutsFront now.taken work before all
+lost_front : OneList → (may_leave : Image → Type 0) (now : Shown) (work : Work) (input before : List ℕ) (all : List Ask) → LostDisk may_leave now work input before → AsksOf work input all → PutsFront now.taken before (replies work all)
 lost_front one may_leave now work input before all h whole =
     let rest = first_asks one work input (h.asks ++ h.more) all h.first whole in
-    let P : List Ask → Type 0 = λ l. PutsFront now.taken work before l in
+    let P : List Ask → Type 0 = λ l. PutsFront now.taken before (replies work l) in
     subst P (sym (rest.1 ∙ append_assoc h.asks h.more rest.0)) (front_put now work before h.asks (h.more ++ rest.0) h.taken)
 
 -- the last doIt was kept, and not evaluated
-unevaluated_front : OneList → (may_leave : Image → Type 0) (now : Shown) (work : Work) (input before : List ℕ) (all : List Ask) → Unevaluated may_leave now work input before → AsksOf work input all → PutsFront now.taken work before all
+unevaluated_front : OneList → (may_leave : Image → Type 0) (now : Shown) (work : Work) (input before : List ℕ) (all : List Ask) → Unevaluated may_leave now work input before → AsksOf work input all → PutsFront now.taken before (replies work all)
 unevaluated_front one may_leave now work input before all h whole =
     let last = evaluates h.text h.told h.stopped in
     let rest = first_asks one work input (h.asks ++ last ∷ []) all h.first whole in
-    let P : List Ask → Type 0 = λ l. PutsFront now.taken work before l in
+    let P : List Ask → Type 0 = λ l. PutsFront now.taken before (replies work l) in
     subst P (sym (rest.1 ∙ append_assoc h.asks (last ∷ []) rest.0)) (front_put now work before h.asks (last ∷ rest.0) h.taken)
 
-broke_off_front : OneList → (may_leave : Image → Type 0) (now : Shown) (work : Work) (input before : List ℕ) (all : List Ask) → BrokeOff may_leave now work input before ⊎ Unevaluated may_leave now work input before → AsksOf work input all → PutsFront now.taken work before all
+broke_off_front : OneList → (may_leave : Image → Type 0) (now : Shown) (work : Work) (input before : List ℕ) (all : List Ask) → BrokeOff may_leave now work input before ⊎ Unevaluated may_leave now work input before → AsksOf work input all → PutsFront now.taken before (replies work all)
 broke_off_front one may_leave now work input before all (inl h) whole = first_front one now work input before h.asks all h.first h.answered.taken whole
 broke_off_front one may_leave now work input before all (inr h) whole = unevaluated_front one may_leave now work input before all h whole
 
-finished_front : OneList → (may_leave : Image → Type 0) (now : Shown) (work : Work) (input before : List ℕ) (all : List Ask) (troubled : Bool) (was ran : Option RanValue) → Finished may_leave now work input before troubled was ran → AsksOf work input all → PutsFront now.taken work before all
+finished_front : OneList → (may_leave : Image → Type 0) (now : Shown) (work : Work) (input before : List ℕ) (all : List Ask) (troubled : Bool) (was ran : Option RanValue) → Finished may_leave now work input before troubled was ran → AsksOf work input all → PutsFront now.taken before (replies work all)
 finished_front one may_leave now work input before all troubled was ran h whole = first_front one now work input before h.asks all (h.all.0, inr h.all.1, h.all.2) h.answered.taken whole
 
 -- whatever the status of a run, a front of all replies was put
-run_front : OneList → (s : Status) (may_leave : Image → Type 0) (now : Shown) (work : Work) (input before : List ℕ) (all : List Ask) → RunLeaves s may_leave now work input before → AsksOf work input all → PutsFront now.taken work before all
+run_front : OneList → (s : Status) (may_leave : Image → Type 0) (now : Shown) (work : Work) (input before : List ℕ) (all : List Ask) → RunLeaves s may_leave now work input before → AsksOf work input all → PutsFront now.taken before (replies work all)
 run_front one status.Done may_leave now work input before all h whole = finished_front one may_leave now work input before all false None h.0 h.1 whole
 run_front one status.DoneWithRefusals may_leave now work input before all h whole = finished_front one may_leave now work input before all true None h.0 h.1 whole
 run_front one status.Usage may_leave now work input before all h whole = absurd h
@@ -154,40 +157,84 @@ run_front one status.InputTooLong may_leave now work input before all h whole = 
 item_asks : OneList → (work : Work) (item : SessionItem) (ask : Ask) (all : List Ask) → IsTimed work.settings item → AsksIn work item ask → AllAsk work (item ∷ []) all → (more : List Ask) × (all ≡ ask ∷ more)
 item_asks one work item ask all timed asked whole = goes_on_asking one work (item ∷ []) [] (ask ∷ []) all (All-cons (IsTimed work.settings) item [] timed (All-nil (IsTimed work.settings))) (asked, tt) whole
 
-answered_front : OneList → (may_leave : Image → Type 0) (now : Shown) (work : Work) (item : SessionItem) (ask : Ask) (before : List ℕ) (all : List Ask) → IsTimed work.settings item → AsksIn work item ask → IsAnswered may_leave now work ask before → AllAsk work (item ∷ []) all → PutsFront now.taken work before all
+answered_front : OneList → (may_leave : Image → Type 0) (now : Shown) (work : Work) (item : SessionItem) (ask : Ask) (before : List ℕ) (all : List Ask) → IsTimed work.settings item → AsksIn work item ask → IsAnswered may_leave now work ask before → AllAsk work (item ∷ []) all → PutsFront now.taken before (replies work all)
 answered_front one may_leave now work item ask before all timed asked h whole =
     let rest = item_asks one work item ask all timed asked whole in
-    let P : List Ask → Type 0 = λ l. PutsFront now.taken work before l in
+    let P : List Ask → Type 0 = λ l. PutsFront now.taken before (replies work l) in
     subst P (sym rest.1) (front_put now work before (ask ∷ []) rest.0 h.taken)
 
 -- its reply was put in part
-part_front : OneList → (now : Shown) (work : Work) (item : SessionItem) (ask : Ask) (count : ℕ) (before : List ℕ) (all : List Ask) → IsTimed work.settings item → AsksIn work item ask → now.taken ≡ Some (before ++ take count (reply_text (reply_to work ask))) → AllAsk work (item ∷ []) all → PutsFront now.taken work before all
+part_front : OneList → (now : Shown) (work : Work) (item : SessionItem) (ask : Ask) (count : ℕ) (before : List ℕ) (all : List Ask) → IsTimed work.settings item → AsksIn work item ask → now.taken ≡ Some (before ++ take count (reply_text (reply_to work ask))) → AllAsk work (item ∷ []) all → PutsFront now.taken before (replies work all)
 part_front one now work item ask count before all timed asked taken whole =
     let rest = item_asks one work item ask all timed asked whole in
     let line = reply_text (reply_to work ask) in
     let after = replies (work_after work ask) rest.0 in
-    let P : List Ask → Type 0 = λ l. PutsFront now.taken work before l in
+    let P : List Ask → Type 0 = λ l. PutsFront now.taken before (replies work l) in
     subst P (sym rest.1) (take count line, drop count line ++ after, taken, ap (λ (l : List ℕ). l ++ after) (sym (take-append-drop count line)) ∙ append_assoc (take count line) (drop count line) after)
 
-pub nothing_put : (now : Shown) (work : Work) (before : List ℕ) (all : List Ask) → now.taken ≡ Some before → PutsFront now.taken work before all
-nothing_put now work before all taken = front_put now work before [] all (taken ∙ ap Some (sym (append-nil before)))
+pub nothing_put : (now : Shown) (before bytes : List ℕ) → now.taken ≡ Some before → PutsFront now.taken before bytes
+nothing_put now before bytes taken = ([], bytes, taken ∙ ap Some (sym (append-nil before)), refl)
 
-item_front : OneList → (s : Status) (may_leave : Image → Type 0) (now : Shown) (work : Work) (item : SessionItem) (before : List ℕ) (all : List Ask) → IsTimed work.settings item → ItemLeaves s may_leave now work item before → AllAsk work (item ∷ []) all → PutsFront now.taken work before all
+item_front : OneList → (s : Status) (may_leave : Image → Type 0) (now : Shown) (work : Work) (item : SessionItem) (before : List ℕ) (all : List Ask) → IsTimed work.settings item → ItemLeaves s may_leave now work item before → AllAsk work (item ∷ []) all → PutsFront now.taken before (replies work all)
 item_front one status.Done may_leave now work item before all timed (ask, asked, h, calm) whole = answered_front one may_leave now work item ask before all timed asked h whole
 item_front one status.DoneWithRefusals may_leave now work item before all timed (ask, asked, h, calm) whole = answered_front one may_leave now work item ask before all timed asked h whole
 item_front one status.Usage may_leave now work item before all timed h whole = absurd h
 item_front one status.ReadFault may_leave now work item before all timed h whole = absurd h
 item_front one status.WriteFault may_leave now work item before all timed (ask, asked, count, stands, taken) whole = part_front one now work item ask count before all timed asked taken whole
-item_front one status.DiskFault may_leave now work item before all timed h whole = nothing_put now work before all h.taken
+item_front one status.DiskFault may_leave now work item before all timed h whole = nothing_put now before (replies work all) h.taken
 item_front one status.Damaged may_leave now work item before all timed h whole = absurd h
-item_front one status.OutOfMemory may_leave now work item before all timed (inl h) whole = nothing_put now work before all (h.taken ∙ ap Some (append-nil before))
-item_front one status.OutOfMemory may_leave now work item before all timed (inr (text, told, stopped, asked, stands, taken)) whole = nothing_put now work before all taken
+item_front one status.OutOfMemory may_leave now work item before all timed (inl h) whole = nothing_put now before (replies work all) (h.taken ∙ ap Some (append-nil before))
+item_front one status.OutOfMemory may_leave now work item before all timed (inr (text, told, stopped, asked, stands, taken)) whole = nothing_put now before (replies work all) taken
 item_front one status.InputTooLong may_leave now work item before all timed h whole = absurd h
 
--- whatever is worked and the status, a front of all replies was put
-pub front_of : OneList → (item : Option SessionItem) (s : Status) (may_leave : Image → Type 0) (now : Shown) (work : Work) (input before : List ℕ) (all : List Ask) → IfSome item (IsTimed work.settings) → LeavesFor item s may_leave now work input before → AllAsksFor item work input all → PutsFront now.taken work before all
-front_of one None s may_leave now work input before all timed h whole = run_front one s may_leave now work input before all h whole
-front_of one (Some item) s may_leave now work input before all timed h whole = item_front one s may_leave now work item before all timed h.0 whole
+-- ---- where classes are made
+
+-- what so many classes ask is one list, and so is what the replies to it come to
+abbrev pub OneMaking : Type 0
+OneMaking = (work : Work) (count : ℕ) (asks others : List Ask) → MakeAsks work count asks → MakeAsks work count others → others ≡ asks
+
+abbrev pub OneTally : Type 0
+OneTally = (work : Work) (asks : List Ask) (tally other : Tally) → CountsAll work asks nothing tally → CountsAll work asks nothing other → other ≡ tally
+
+-- so the line is one
+same_tally : OneMaking → OneTally → (work : Work) (count : ℕ) (asks all : List Ask) (one other : Tally) → MakeAsks work count asks → MakeAsks work count all → CountsAll work asks nothing one → CountsAll work all nothing other → other ≡ one
+same_tally list tally work count asks all one other h whole counted counts =
+    let P : List Ask → Type 0 = λ l. CountsAll work l nothing other in
+    tally work asks one other counted (subst P (list work count asks all h whole) counts)
+
+made_front : OneMaking → OneTally → (may_leave : Image → Type 0) (now : Shown) (work : Work) (count : ℕ) (before : List ℕ) (all : List Ask) (bytes : List ℕ) (troubled : Bool) (was ran : Option RanValue) → Made may_leave now work count before troubled was ran → MakeAsks work count all → WritesFor (Makes count) work all bytes → PutsFront now.taken before bytes
+made_front list tally may_leave now work count before all bytes troubled was ran h whole (other, counts, is) =
+    let line = made_line count h.tally in
+    let same = same_tally list tally work count h.asks all h.tally other h.all whole h.counted counts in
+    (line, [], h.taken, is ∙ ap (λ t. made_line count t) same ∙ sym (append-nil line))
+
+-- a front of it was put
+untold_front : OneMaking → OneTally → (may_leave : Image → Type 0) (now : Shown) (work : Work) (count : ℕ) (before : List ℕ) (all : List Ask) (bytes : List ℕ) → MakeUntold may_leave now work count before → MakeAsks work count all → WritesFor (Makes count) work all bytes → PutsFront now.taken before bytes
+untold_front list tally may_leave now work count before all bytes h whole (other, counts, is) =
+    let line = made_line count h.tally in
+    let same = same_tally list tally work count h.asks all h.tally other h.all whole h.counted counts in
+    (take h.told line, drop h.told line, h.taken, is ∙ ap (λ t. made_line count t) same ∙ sym (take-append-drop h.told line))
+
+make_front : OneMaking → OneTally → (s : Status) (may_leave : Image → Type 0) (now : Shown) (work : Work) (count : ℕ) (before : List ℕ) (all : List Ask) (bytes : List ℕ) → MakeLeaves s may_leave now work count before → MakeAsks work count all → WritesFor (Makes count) work all bytes → PutsFront now.taken before bytes
+make_front list tally status.Done may_leave now work count before all bytes h whole writes = made_front list tally may_leave now work count before all bytes false None h.0 h.1 whole writes
+make_front list tally status.DoneWithRefusals may_leave now work count before all bytes h whole writes = made_front list tally may_leave now work count before all bytes true None h.0 h.1 whole writes
+make_front list tally status.Usage may_leave now work count before all bytes h whole writes = absurd h
+make_front list tally status.ReadFault may_leave now work count before all bytes h whole writes = absurd h
+make_front list tally status.WriteFault may_leave now work count before all bytes h whole writes = untold_front list tally may_leave now work count before all bytes h whole writes
+make_front list tally status.DiskFault may_leave now work count before all bytes h whole writes = nothing_put now before bytes h.taken
+make_front list tally status.Damaged may_leave now work count before all bytes h whole writes = absurd h
+make_front list tally status.OutOfMemory may_leave now work count before all bytes h whole writes = nothing_put now before bytes h.taken
+make_front list tally status.InputTooLong may_leave now work count before all bytes h whole writes = absurd h
+
+-- whatever is worked and the status, a front of all that is written to it was put
+pub front_of : OneList → OneMaking → OneTally → (job : Job) (s : Status) (may_leave : Image → Type 0) (now : Shown) (work : Work) (input before : List ℕ) (all : List Ask) (bytes : List ℕ) → IsTimedJob work.settings job → LeavesFor job s may_leave now work input before → AllAsksFor job work input all → WritesFor job work all bytes → PutsFront now.taken before bytes
+front_of one list tally Takes s may_leave now work input before all bytes timed h whole writes =
+    let P : List ℕ → Type 0 = λ l. PutsFront now.taken before l in
+    subst P (sym writes) (run_front one s may_leave now work input before all h whole)
+front_of one list tally (Works item) s may_leave now work input before all bytes timed h whole writes =
+    let P : List ℕ → Type 0 = λ l. PutsFront now.taken before l in
+    subst P (sym writes) (item_front one s may_leave now work item before all timed h.0 whole)
+front_of one list tally (Makes count) s may_leave now work input before all bytes timed h whole writes = make_front list tally s may_leave now work count before all bytes h.0 whole writes
 
 longer : (got left : List ℕ) (next : ℕ) (input : List ℕ) → input ≡ got ++ next ∷ left → length got ≡ input_limit → length input ≤ input_limit → ⊥
 longer got left next input is limit within =
@@ -216,7 +263,19 @@ item_whole status.Damaged old new may_leave now work item before h reason none =
 item_whole status.OutOfMemory old new may_leave now work item before h reason none = tt
 item_whole status.InputTooLong old new may_leave now work item before h reason none = absurd h
 
+make_whole : (s : Status) (old new : Faults) (may_leave : Image → Type 0) (now : Shown) (work : Work) (count : ℕ) (before : List ℕ) → MakeLeaves s may_leave now work count before → StatusHasReason old new s → NoFault old new → IsWhole s
+make_whole status.Done old new may_leave now work count before h reason none = tt
+make_whole status.DoneWithRefusals old new may_leave now work count before h reason none = tt
+make_whole status.Usage old new may_leave now work count before h reason none = absurd h
+make_whole status.ReadFault old new may_leave now work count before h reason none = absurd h
+make_whole status.WriteFault old new may_leave now work count before h reason none = absurd (none.write reason)
+make_whole status.DiskFault old new may_leave now work count before h reason none = absurd (none.disk reason)
+make_whole status.Damaged old new may_leave now work count before h reason none = absurd h
+make_whole status.OutOfMemory old new may_leave now work count before h reason none = tt
+make_whole status.InputTooLong old new may_leave now work count before h reason none = absurd h
+
 pub whole_without_fault : (command : Command) (s : Status) (old new : Faults) (may_leave : Image → Type 0) (now : Shown) (work : Work) (input before : List ℕ) → Leaves command s may_leave now work input before → StatusHasReason old new s → NoFault old new → IsWithin command input → IsWhole s
 whole_without_fault Run s old new may_leave now work input before h reason none within = run_whole s old new may_leave now work input before h reason none within
 whole_without_fault (Do text) s old new may_leave now work input before h reason none within = item_whole s old new may_leave now work (Chunk (item_of Plain (behind_separators text))) before h.0 reason none
 whole_without_fault (Tell query) s old new may_leave now work input before h reason none within = item_whole s old new may_leave now work (Query query) before h.0 reason none
+whole_without_fault (Make count) s old new may_leave now work input before h reason none within = make_whole s old new may_leave now work (number_of count) before h.0 reason none

@@ -8,11 +8,14 @@ use Rattle.s80_machine.specs.Came.{RanValue}
 use Rattle.s80_model.specs.declared.item.SessionItem.{SessionItem}
 use Rattle.s80_model.specs.Asked.{Ask, evaluates}
 use Rattle.s80_model.specs.Replies.{AllAsk, AsksIn, Work, begun, is_trouble, replies, reply_text, reply_to, work_after}
+use Rattle.s80_make.specs.declared.tally.Tally.{Tally}
+use Rattle.s80_make.specs.Tally.{CountsAll, made_line, nothing}
+use Rattle.s80_session.specs.Making.{Made, MakeAsks, MakeKeeps, MakeLost, MakeStopped, MakeUntold}
 use Rattle.s80_session.specs.Run.{HasKept, ShownFor, Answered, Finished, CutOff, TooLong, BrokeOff, Unanswered, Unevaluated, LostDisk, Keeps, AsksOf, input_limit}
 use Rattle.s80_session.specs.Working.{IsLost, IsPast, StepLeaves}
 use Rattle.s80_program.specs.declared.status.Status.{Status}
 use Rattle.s80_program.specs.declared.status.Status.TheVariants as status
-use Rattle.s80_program.specs.Command.{Command, Options, Run, Do, Tell, item_for, settings_of}
+use Rattle.s80_program.specs.Command.{Command, Job, Options, Run, Do, Tell, Make, Takes, Works, Makes, job_of, settings_of}
 
 -- an outside that tells its contents: what its disk reads stands for this list, this input is left, and these bytes were taken
 pub record StartsWith (may_leave : Image → Type 0) (o : Shown) (changes : List Change) (input before : List ℕ) : Type 0 where
@@ -63,44 +66,69 @@ ItemLeaves status.Damaged may_leave now work item before = ⊥
 ItemLeaves status.OutOfMemory may_leave now work item before = Answered may_leave now work before [] ⊎ IsUnevaluated may_leave now work item before
 ItemLeaves status.InputTooLong may_leave now work item before = ⊥
 
--- what a command leaves, by the status: a run works the input, and each other command one item, and takes no input
-abbrev pub LeavesFor : Option SessionItem → Status → (Image → Type 0) → Shown → Work → List ℕ → List ℕ → Type 0
-LeavesFor None status may_leave now work input before = RunLeaves status may_leave now work input before
-LeavesFor (Some item) status may_leave now work input before = ItemLeaves status may_leave now work item before × (now.left ≡ Some input)
+-- what is left where so many classes are made, by the status
+abbrev pub MakeLeaves : Status → (Image → Type 0) → Shown → Work → ℕ → List ℕ → Type 0
+MakeLeaves status.Done may_leave now work count before = (ran : Option RanValue) × Made may_leave now work count before false None ran
+MakeLeaves status.DoneWithRefusals may_leave now work count before = (ran : Option RanValue) × Made may_leave now work count before true None ran
+MakeLeaves status.Usage may_leave now work count before = ⊥
+MakeLeaves status.ReadFault may_leave now work count before = ⊥
+MakeLeaves status.WriteFault may_leave now work count before = MakeUntold may_leave now work count before
+MakeLeaves status.DiskFault may_leave now work count before = MakeLost may_leave now work count before
+MakeLeaves status.Damaged may_leave now work count before = ⊥
+MakeLeaves status.OutOfMemory may_leave now work count before = MakeStopped may_leave now work count before
+MakeLeaves status.InputTooLong may_leave now work count before = ⊥
+
+-- what a command leaves, by the status: a run works the input, and each other command takes none
+abbrev pub LeavesFor : Job → Status → (Image → Type 0) → Shown → Work → List ℕ → List ℕ → Type 0
+LeavesFor Takes status may_leave now work input before = RunLeaves status may_leave now work input before
+LeavesFor (Works item) status may_leave now work input before = ItemLeaves status may_leave now work item before × (now.left ≡ Some input)
+LeavesFor (Makes count) status may_leave now work input before = MakeLeaves status may_leave now work count before × (now.left ≡ Some input)
 
 abbrev pub Leaves : Command → Status → (Image → Type 0) → Shown → Work → List ℕ → List ℕ → Type 0
-Leaves command = LeavesFor (item_for command)
+Leaves command = LeavesFor (job_of command)
 
 -- what a crash leaves at a moment at which so many bytes are told: files that stand for the list after the first items, up to one at least
 -- whose reply is among the bytes told
-abbrev pub KeepsFor : Option SessionItem → Work → List ℕ → List ℕ → ℕ → Image → Type 0
-KeepsFor None work input before told c = Keeps work input before told c
-KeepsFor (Some item) work input before told c = StepLeaves work before item told c
+abbrev pub KeepsFor : Job → Work → List ℕ → List ℕ → ℕ → Image → Type 0
+KeepsFor Takes work input before told c = Keeps work input before told c
+KeepsFor (Works item) work input before told c = StepLeaves work before item told c
+KeepsFor (Makes count) work input before told c = MakeKeeps work count before told c
 
 abbrev pub CommandKeeps : Command → Work → List ℕ → List ℕ → ℕ → Image → Type 0
-CommandKeeps command = KeepsFor (item_for command)
+CommandKeeps command = KeepsFor (job_of command)
 
 -- the same behind a run that was killed: until a byte more is told a crash may leave files that stand for the list before its last commit
 abbrev pub KilledKeeps : Command → Work → List Change → List ℕ → List ℕ → ℕ → Image → Type 0
 KilledKeeps command work was input before told c = HasKept was (length before) told c ⊎ CommandKeeps command work input before told c
 
 -- all that a command asks
-abbrev pub AllAsksFor : Option SessionItem → Work → List ℕ → List Ask → Type 0
-AllAsksFor None work input all = AsksOf work input all
-AllAsksFor (Some item) work input all = AllAsk work (item ∷ []) all
+abbrev pub AllAsksFor : Job → Work → List ℕ → List Ask → Type 0
+AllAsksFor Takes work input all = AsksOf work input all
+AllAsksFor (Works item) work input all = AllAsk work (item ∷ []) all
+AllAsksFor (Makes count) work input all = MakeAsks work count all
 
 abbrev pub AllAsks : Command → Work → List ℕ → List Ask → Type 0
-AllAsks command = AllAsksFor (item_for command)
+AllAsks command = AllAsksFor (job_of command)
 
--- these bytes were put behind those before, a front of the replies to this
-abbrev pub PutsFront : Option (List ℕ) → Work → List ℕ → List Ask → Type 0
-PutsFront taken work before asks = (put more : List ℕ) × (taken ≡ Some (before ++ put)) × (replies work asks ≡ put ++ more)
+-- the bytes that are written to all that is asked: the replies, or where classes are made one line for all of it
+abbrev pub WritesFor : Job → Work → List Ask → List ℕ → Type 0
+WritesFor Takes work all bytes = bytes ≡ replies work all
+WritesFor (Works item) work all bytes = bytes ≡ replies work all
+WritesFor (Makes count) work all bytes = (tally : Tally) × CountsAll work all nothing tally × (bytes ≡ made_line count tally)
+
+abbrev pub Writes : Command → Work → List Ask → List ℕ → Type 0
+Writes command = WritesFor (job_of command)
+
+-- a front of these bytes was put behind those before
+abbrev pub PutsFront : Option (List ℕ) → List ℕ → List ℕ → Type 0
+PutsFront taken before bytes = (put more : List ℕ) × (taken ≡ Some (before ++ put)) × (bytes ≡ put ++ more)
 
 -- the input isn't too long for the command
 abbrev pub IsWithin : Command → List ℕ → Type 0
 IsWithin Run input = length input ≤ input_limit
 IsWithin (Do text) input = Unit {0}
 IsWithin (Tell query) input = Unit {0}
+IsWithin (Make count) input = Unit {0}
 
 -- where the files at entry are damaged, this is answered, or it is out of memory, or a call of the disk fails
 abbrev pub TellsDamage : Status → Type 0

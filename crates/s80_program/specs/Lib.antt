@@ -3,3 +3,4 @@ pub mod Words
 pub mod Task
 pub mod Ending
 pub mod Leaves
+pub mod Job

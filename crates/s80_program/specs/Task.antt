@@ -3,7 +3,7 @@ use Rattle.s80_model.specs.declared.item.Filed.TheVariants.{All, Class, Set}
 use Rattle.s80_model.specs.declared.item.Query.TheVariants.{Recover, Classes, Browse, Source, Versions, Changes, Condense, FileOut, Snapshot}
 use Rattle.s80_program.specs.declared.words.Task.{Task}
 use Rattle.s80_program.specs.declared.words.Task.TheVariants as tasks
-use Rattle.s80_program.specs.Command.{Command, Run, Do, Tell}
+use Rattle.s80_program.specs.Command.{Command, Run, Do, Tell, Make}
 
 abbrev pub command_of : Task → Command
 command_of tasks.Run = Run
@@ -19,3 +19,4 @@ command_of (tasks.FileOutClass name) = Tell (FileOut (Class name.now))
 command_of tasks.FileOutSet = Tell (FileOut Set)
 command_of tasks.Snapshot = Tell Snapshot
 command_of tasks.Condense = Tell Condense
+command_of (tasks.Make count) = Make count.now

@@ -1,5 +1,5 @@
 // What the program does with its words.
-ghost use Rattle.std.specs.Prelude.{◌≡◌, ◌≢◌, ◌⊎◌, ◌<◌, ◌≤◌, ℕ, List, [], IsTrue, false, None, Some, IfOk, IfErr, IfSome};
+ghost use Rattle.std.specs.Prelude.{◌≡◌, ◌≢◌, ◌⊎◌, ◌<◌, ◌≤◌, ℕ, List, [], IsTrue, false, None, Some, IfOk, IfErr};
 ghost use Rattle.s80_change.specs.declared.change.Change.{Change};
 ghost use Rattle.s80_chunk.specs.Chunks.{item_of};
 ghost use Rattle.s80_disk.specs.declared.disk.FileId.{FileId};
@@ -18,18 +18,22 @@ ghost use Rattle.s80_session.specs.Run.{Keeps, ShownFor};
 ghost use Rattle.s80_session.specs.Session.{last_run_of, troubled_of, IsResting};
 ghost use Rattle.s80_session.specs.Working.{IsAt, IsReadable, StepLeaves};
 ghost use Rattle.s80_program.specs.Ending.{IsDiskEnd, IsUnread, NoFault, StatusHasReason, status_after, IsWhole};
-ghost use Rattle.s80_program.specs.Leaves.{StartsWith, Leaves, RunLeaves, ItemLeaves, CommandKeeps, KilledKeeps, AllAsks, IsWithin, PutsFront, TellsDamage, beginning};
-ghost use Rattle.s80_program.specs.Command.{Command, Options, IsAskingCommand, IsTimedCommand, IsUseful, behind_separators, item_for};
+ghost use Rattle.s80_program.specs.Leaves.{StartsWith, Leaves, RunLeaves, ItemLeaves, MakeLeaves, CommandKeeps, KilledKeeps, AllAsks, IsWithin, PutsFront, Writes, TellsDamage, beginning};
+ghost use Rattle.s80_program.specs.Command.{Command, Options, IsAskingCommand, IsTimedCommand, IsUseful, behind_separators, job_of};
 ghost use Rattle.s80_program.specs.Words.{Asks, options_in};
+ghost use Rattle.s80_line.specs.Line.{is_number, number_of};
+ghost use Rattle.s80_session.specs.Making.{MakeKeeps};
+ghost use Rattle.s80_program.specs.Job.{SuitsJob, shown_job};
 ghost use Rattle.s80_program.specs.Task.{command_of};
 
 use crate::outside::attach;
 use crate::status::Status;
-use crate::words::{Task, behind_separators, task_of};
+use crate::words::{DIGITS, MOST, Task, behind_separators, task_of};
 use s80_base::{OutOfMemory, Text};
 use s80_chunk::{Item, LONGEST, Role};
 use s80_disk::Outside;
-use s80_line::{Line, read_line};
+use s80_line::{Line, number_in, read_line};
+use s80_make::make_has_one_line;
 use s80_model::{Filed, Query, SessionItem, one_ask};
 use s80_session::{Session, SessionEnd};
 use std::alloc::Global;
@@ -39,7 +43,8 @@ use std::alloc::Global;
 /// `do TEXT` does so with one text; `classes` names all classes, `browse NAME` shows one, `source SPEC SELECTOR` shows a method and
 /// `versions SPEC SELECTOR` all that it has been, `changes` lists the change set, `recover` says how much there is, and `snapshot` keeps a note.
 /// `file-out`, `file-out-class NAME` and `file-out-set` write all classes, one and the change set as a file that `run` takes. `condense` has a
-/// list take the place of the folder's that makes the same classes and methods, and has the newest version of each method alone.
+/// list take the place of the folder's that makes the same classes and methods, and has as many of the newest versions of each method as `--keep`
+/// says. `make N` makes N classes, to try the folder at size, and writes one line.
 pub fn st80<O: Outside>(alloc: Global, words: &[Text], outside: &mut O) -> Status
     // Bad usage is answered exactly where the words ask for nothing, and then the outside isn't called.
     ensures usage { result ≡ Status.Usage
@@ -71,13 +76,15 @@ pub fn st80<O: Outside>(alloc: Global, words: &[Text], outside: &mut O) -> Statu
         → ((c : FileId → List ℕ) → O.may_leave outside.old c → FilesStandFor c changes ⊎ FilesStandFor c was)
         → LeavesOnly O.moment O.left_since outside.old outside.new (KilledKeeps command (beginning options (O.shown outside.old).seconds changes) was input before) }
 
-    // However it ends, what it wrote is a front of the replies to all that the command asks, if the clock tells its seconds to one that files out.
+    // However it ends, what it wrote is a front of what is written to all that the command asks, if the clock tells its seconds to one that files
+    // out.
     ensures front { (options : Options) (command : Command) (changes : List Change) (input before : List ℕ) (asks : List Ask)
         → Asks words.now options command
         → StartsWith (O.may_leave outside.old) (O.shown outside.old) changes input before
         → IsTimedCommand options (O.shown outside.old).seconds command
         → AllAsks command (beginning options (O.shown outside.old).seconds changes) input asks
-        → PutsFront (O.shown outside.new).taken (beginning options (O.shown outside.old).seconds changes) before asks }
+        → (bytes : List ℕ) → Writes command (beginning options (O.shown outside.old).seconds changes) asks bytes
+        → PutsFront (O.shown outside.new).taken before bytes }
 
     // With no fault and an input within the limit it comes to the end, or is out of memory.
     ensures complete { (options : Options) (command : Command) (changes : List Change) (input before : List ℕ)
@@ -104,6 +111,7 @@ pub fn st80<O: Outside>(alloc: Global, words: &[Text], outside: &mut O) -> Statu
         × LeavesOnly O.moment O.left_since outside.old outside.new (IsAsBefore (O.may_leave outside.old) (O.shown outside.old).told 0) }
 {
     one_ask();
+    make_has_one_line();
     let Ok(line) = read_line(alloc, words) else {
         return Status::OutOfMemory;
     };
@@ -186,21 +194,33 @@ fn do_task<O: Outside>(
     ensures sound { IsTrue (O.shown outside.old).tells → IsKnowing (O.shown outside.old) session.old → MeetsNoDamage result }
     ensures counts { SourceCounts (O.faults outside.old) (O.faults outside.new) result }
 {
-    match item_for(alloc, task)? {
-        None => run_input(session, alloc, outside),
-        Some(item) => answer_item(session, alloc, item, outside),
+    match job_of(alloc, task)? {
+        Job::Takes => run_input(session, alloc, outside),
+        Job::Works(item) => answer_item(session, alloc, item, outside),
+        Job::Makes(classes) => make_classes(session, alloc, classes, outside),
     }
 }
 
-/// The one item that a task works, if it is no run.
-fn item_for(alloc: Global, task: Task<'_>) -> Result<Option<SessionItem>, OutOfMemory>
+/// What a task works.
+enum Job {
+    /// The items of the input.
+    Takes,
+    /// One item.
+    Works(SessionItem),
+    /// The items of so many classes.
+    Makes(u32),
+}
+
+/// What a task works.
+fn job_of(alloc: Global, task: Task<'_>) -> Result<Job, OutOfMemory>
     requires { IsUseful (command_of task) }
-    ensures item { IfOk result (λ item. item ≡ item_for (command_of task.entry)) }
-    ensures readable { IfOk result (λ item. IfSome item IsReadable) }
+    ensures job { IfOk result (λ job. shown_job job ≡ job_of (command_of task.entry)) }
+    ensures suits { IfOk result SuitsJob }
 {
     let query = match task {
-        Task::Run => return Ok(None),
-        Task::Do(text) => return Ok(Some(SessionItem::Chunk(chunk_of(alloc, text)?))),
+        Task::Run => return Ok(Job::Takes),
+        Task::Do(text) => return Ok(Job::Works(SessionItem::Chunk(chunk_of(alloc, text)?))),
+        Task::Make(count) => return Ok(Job::Makes(count_of(count))),
         Task::Recover => Query::Recover,
         Task::Classes => Query::Classes,
         Task::Browse(name) => Query::Browse(name.copy(alloc)?),
@@ -213,7 +233,16 @@ fn item_for(alloc: Global, task: Task<'_>) -> Result<Option<SessionItem>, OutOfM
         Task::Snapshot => Query::Snapshot,
         Task::Condense => Query::Condense,
     };
-    Ok(Some(SessionItem::Query(query)))
+    Ok(Job::Works(SessionItem::Query(query)))
+}
+
+/// The number of classes that a word writes.
+fn count_of(word: &Text) -> u32
+    requires { IsTrue (is_number 4 1000 word.now) }
+    ensures number { result ≡ number_of word.now }
+    ensures bounded { result ≤ 1000 }
+{
+    number_in(word.bytes(), DIGITS, MOST).unwrap() as u32
 }
 
 /// The plain chunk of what stands behind a text's separators.
@@ -274,6 +303,29 @@ fn answer_item<O: Outside>(
     ensures counts { SourceCounts (O.faults outside.old) (O.faults outside.new) result }
 {
     session.step(alloc, item, outside)?;
+    Ok(session.troubled())
+}
+
+/// Makes so many classes, and writes a line. Says whether something was refused or stopped.
+fn make_classes<O: Outside>(
+    session: &mut Session,
+    alloc: Global,
+    classes: u32,
+    outside: &mut O,
+) -> Result<bool, SessionEnd>
+    requires resting { IsResting session.old }
+    requires classes { classes ≤ 1000 }
+    ensures worked { (options : Options) (changes : List Change) (before : List ℕ) → troubled_of session.old ≡ false → last_run_of session.old ≡ None
+        → IsAt (O.may_leave outside.old) (O.shown outside.old) session.old (beginning options (O.shown outside.old).seconds changes) before
+        → MakeLeaves (status_after result) (O.may_leave outside.new) (O.shown outside.new) (beginning options (O.shown outside.old).seconds changes) classes before }
+    ensures any_moment { (options : Options) (changes : List Change) (before : List ℕ)
+        → IsAt (O.may_leave outside.old) (O.shown outside.old) session.old (beginning options (O.shown outside.old).seconds changes) before
+        → LeavesOnly O.moment O.left_since outside.old outside.new (MakeKeeps (beginning options (O.shown outside.old).seconds changes) classes before) }
+    ensures left { (O.shown outside.new).left ≡ (O.shown outside.old).left }
+    ensures sound { IsTrue (O.shown outside.old).tells → IsKnowing (O.shown outside.old) session.old → MeetsNoDamage result }
+    ensures counts { SourceCounts (O.faults outside.old) (O.faults outside.new) result }
+{
+    session.make(alloc, classes, outside)?;
     Ok(session.troubled())
 }
 

@@ -1,10 +1,12 @@
 // The command that words ask for.
 ghost use Rattle.std.specs.Prelude.{◌≡◌, ◌∷◌, [], IfSome, IfNone};
+ghost use Rattle.s80_line.specs.Line.{is_number};
 ghost use Rattle.s80_program.specs.Command.{Command, behind_separators};
 ghost use Rattle.s80_program.specs.Words.{AreOf};
 ghost use Rattle.s80_program.specs.Task.{command_of};
 
 use s80_base::{Text, is_separator};
+use s80_line::number_in;
 
 /// What the program is asked to do.
 #[derive(Clone, Copy)]
@@ -35,6 +37,8 @@ pub(crate) enum Task<'w> {
     Snapshot,
     /// Has the condensed list take the place of the list.
     Condense,
+    /// Makes so many classes, from 1 to 1,000.
+    Make(&'w Text),
 }
 
 /// The task that a word asks for by itself.
@@ -84,7 +88,23 @@ fn task_on<'w>(word: &Text, name: &'w Text) -> Option<Task<'w>>
     if word.bytes() == b"do".as_slice() && !behind_separators(name).is_empty() {
         return Some(Task::Do(name));
     }
+    if word.bytes() == b"make".as_slice() && is_count(name) {
+        return Some(Task::Make(name));
+    }
     None
+}
+
+/// How many digits a number of classes has at most.
+pub(crate) const DIGITS: usize = 4;
+
+/// The greatest number of classes.
+pub(crate) const MOST: u64 = 1_000;
+
+/// Whether a word is a number of classes.
+fn is_count(word: &Text) -> bool
+    ensures { result ≡ is_number 4 1000 word.now }
+{
+    number_in(word.bytes(), DIGITS, MOST).is_some()
 }
 
 /// What stands behind the separators at a text's beginning.

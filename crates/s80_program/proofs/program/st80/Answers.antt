@@ -7,7 +7,7 @@ use Rattle.s80_line.specs.declared.line.Line.{Line}
 use Rattle.s80_line.specs.Line.{IsLine}
 use Rattle.s80_line.specs.Shown.{shown}
 use Rattle.s80_session.specs.Putting.{IsAsBefore}
-use Rattle.s80_program.specs.Command.{Command, Options, IsAskingCommand, item_for}
+use Rattle.s80_program.specs.Command.{Command, Options, IsAskingCommand, job_of}
 use Rattle.s80_program.specs.Ending.{status_after}
 use Rattle.s80_program.specs.Leaves.{StartsWith, Leaves, CommandKeeps, KilledKeeps, beginning}
 use Rattle.s80_program.specs.Task.{command_of}
@@ -28,15 +28,15 @@ returns-in_default-clause-leaves g c = λ options command changes input before a
 
 pub returns-in_default-clause-any_moment : goal.returns-in_default-clause-any_moment
 returns-in_default-clause-any_moment g c = λ options command changes input before asked start stands.
-    chosen g.O.Disk.moment g.O.Disk.left_since (item_for command) (beginning options (g.O.Outside.shown c.args.outside.now).seconds changes) input before _ _ _ _ c.args.outside.now c.args.outside.now stands start.told (unread g (goal.at.returns-in_default-clause-any_moment g c).After-read_line)
+    chosen g.O.Disk.moment g.O.Disk.left_since (job_of command) (beginning options (g.O.Outside.shown c.args.outside.now).seconds changes) input before _ _ _ _ c.args.outside.now c.args.outside.now stands start.told (unread g (goal.at.returns-in_default-clause-any_moment g c).After-read_line)
 
 pub returns-in_default-clause-killed : goal.returns-in_default-clause-killed
 returns-in_default-clause-killed g c = λ options command changes was input before asked start either.
-    chosen_either g.O.Disk.moment g.O.Disk.left_since (item_for command) (beginning options (g.O.Outside.shown c.args.outside.now).seconds changes) was input before _ _ c.args.outside.now c.args.outside.now either start.told (unread g (goal.at.returns-in_default-clause-killed g c).After-read_line)
+    chosen_either g.O.Disk.moment g.O.Disk.left_since (job_of command) (beginning options (g.O.Outside.shown c.args.outside.now).seconds changes) was input before _ _ c.args.outside.now c.args.outside.now either start.told (unread g (goal.at.returns-in_default-clause-killed g c).After-read_line)
 
 pub returns-in_default-clause-front : goal.returns-in_default-clause-front
-returns-in_default-clause-front g c = λ options command changes input before asks asked start timed all.
-    nothing_put (g.O.Outside.shown c.args.outside.now) (beginning options (g.O.Outside.shown c.args.outside.now).seconds changes) before asks start.taken
+returns-in_default-clause-front g c = λ options command changes input before asks asked start timed all bytes writes.
+    nothing_put (g.O.Outside.shown c.args.outside.now) before bytes start.taken
 
 pub returns-in_default-clause-damaged : goal.returns-in_default-clause-damaged
 returns-in_default-clause-damaged g c = λ options command damage asked tells h. (tt, refl, unread g (goal.at.returns-in_default-clause-damaged g c).After-read_line)
@@ -74,8 +74,8 @@ returns-in-Some-task_of-clause-killed g c = λ options command changes was input
     of_each _ options _ command _ P asked (asks g (goal.at.returns-in-Some-task_of-clause-killed g c).After-work) (c.work.ensures.killed changes was input before start either)
 
 pub returns-in-Some-task_of-clause-front : goal.returns-in-Some-task_of-clause-front
-returns-in-Some-task_of-clause-front g c = λ options command changes input before asks asked start timed all.
-    front_of c.one_ask.ensures.all (item_for command) (status_after c.work.result) (g.O.Disk.may_leave c.work.new.outside) (g.O.Outside.shown c.work.new.outside) (beginning options (g.O.Outside.shown c.args.outside.now).seconds changes) input before asks timed (done g (goal.at.returns-in-Some-task_of-clause-front g c).After-work options command changes input before asked start) all
+returns-in-Some-task_of-clause-front g c = λ options command changes input before asks asked start timed all bytes writes.
+    front_of c.one_ask.ensures.all c.make_has_one_line.ensures.asks c.make_has_one_line.ensures.tally (job_of command) (status_after c.work.result) (g.O.Disk.may_leave c.work.new.outside) (g.O.Outside.shown c.work.new.outside) (beginning options (g.O.Outside.shown c.args.outside.now).seconds changes) input before asks bytes timed (done g (goal.at.returns-in-Some-task_of-clause-front g c).After-work options command changes input before asked start) all writes
 
 pub returns-in-Some-task_of-clause-complete : goal.returns-in-Some-task_of-clause-complete
 returns-in-Some-task_of-clause-complete g c = λ options command changes input before asked start within none.
@@ -113,7 +113,7 @@ pub returns-in_default-line-clause-killed : goal.returns-in_default-line-clause-
 returns-in_default-line-clause-killed g c = λ options command changes was input before asked start either. absurd (no_line _ _ c.in-Ok.ensures.read c.in_default-line.not-Some options command asked)
 
 pub returns-in_default-line-clause-front : goal.returns-in_default-line-clause-front
-returns-in_default-line-clause-front g c = λ options command changes input before asks asked start timed all. absurd (no_line _ _ c.in-Ok.ensures.read c.in_default-line.not-Some options command asked)
+returns-in_default-line-clause-front g c = λ options command changes input before asks asked start timed all bytes writes. absurd (no_line _ _ c.in-Ok.ensures.read c.in_default-line.not-Some options command asked)
 
 pub returns-in_default-line-clause-complete : goal.returns-in_default-line-clause-complete
 returns-in_default-line-clause-complete g c = λ options command changes input before asked start within none. absurd (no_line _ _ c.in-Ok.ensures.read c.in_default-line.not-Some options command asked)
@@ -140,7 +140,7 @@ pub returns-clause-killed : goal.returns-clause-killed
 returns-clause-killed g c = λ options command changes was input before asked start either. absurd (no_parts _ _ c.in-Some.line _ c.in-Ok.ensures.read c.in-Some.is c.as_slice.ensures.value c.in-None.ensures.none options command asked)
 
 pub returns-clause-front : goal.returns-clause-front
-returns-clause-front g c = λ options command changes input before asks asked start timed all. absurd (no_parts _ _ c.in-Some.line _ c.in-Ok.ensures.read c.in-Some.is c.as_slice.ensures.value c.in-None.ensures.none options command asked)
+returns-clause-front g c = λ options command changes input before asks asked start timed all bytes writes. absurd (no_parts _ _ c.in-Some.line _ c.in-Ok.ensures.read c.in-Some.is c.as_slice.ensures.value c.in-None.ensures.none options command asked)
 
 pub returns-clause-complete : goal.returns-clause-complete
 returns-clause-complete g c = λ options command changes input before asked start within none. absurd (no_parts _ _ c.in-Some.line _ c.in-Ok.ensures.read c.in-Some.is c.as_slice.ensures.value c.in-None.ensures.none options command asked)

@@ -9,7 +9,7 @@ use Rattle.s80_keeper.specs.declared.start.Damage.{Damage}
 use Rattle.s80_keeper.specs.Standing.{FilesStandFor, StandsFor}
 use Rattle.s80_keeper.specs.Start.{IsDamage}
 use Rattle.s80_keeper.proofs.lemmas.Damages.{damaged_has_log, no_list}
-use Rattle.s80_program.specs.Command.{item_for, settings_of}
+use Rattle.s80_program.specs.Command.{job_of, settings_of}
 use Rattle.s80_program.specs.Leaves.{CommandKeeps, KeepsFor, KilledKeeps, Leaves, StartsWith, beginning}
 use Rattle.s80_program.specs.Ending.{status_after}
 use Rattle.s80_program.specs.Task.{command_of}
@@ -24,18 +24,18 @@ returns-in_err-open_folder-clause-worked g c = λ changes input before start.
     let p = err_from_is_err_and c.from_residual.result c.from_residual.ensures.1 in
     let same = c.open_folder.ensures.shown in
     let reads = reads_on (g.O.Outside.shown c.args.outside.now) (g.O.Outside.shown c.open_folder.new.outside) same (g.O.Disk.may_leave c.args.outside.now) (g.O.Disk.may_leave c.open_folder.new.outside) c.open_folder.ensures.images changes start.reads in
-    rw (p.1, p.2) (lost_at_start (item_for (command_of c.args.task)) _ (g.O.Disk.may_leave c.open_folder.new.outside) (g.O.Outside.shown c.open_folder.new.outside) (beginning (options_in c.args.line.now) (g.O.Outside.shown c.args.outside.now).seconds changes) input before c.in_err-open_folder.ensures.disk reads (ap (λ (o : Shown). o.left) same ∙ start.left) (ap (λ (o : Shown). o.taken) same ∙ start.taken))
+    rw (p.1, p.2) (lost_at_start (job_of (command_of c.args.task)) _ (g.O.Disk.may_leave c.open_folder.new.outside) (g.O.Outside.shown c.open_folder.new.outside) (beginning (options_in c.args.line.now) (g.O.Outside.shown c.args.outside.now).seconds changes) input before c.in_err-open_folder.ensures.disk reads (ap (λ (o : Shown). o.left) same ∙ start.left) (ap (λ (o : Shown). o.taken) same ∙ start.taken))
 
 -- the folder is chosen
-opened : (g : _) (c : After-open_folder g) (changes : List Change) (input before : List ℕ) → StartsWith (g.O.Disk.may_leave c.args.outside.now) (g.O.Outside.shown c.args.outside.now) changes input before → StandsFor (g.O.Outside.shown c.args.outside.now).tells (g.O.Outside.shown c.args.outside.now).files (g.O.Disk.may_leave c.args.outside.now) changes → LeavesOnly g.O.Disk.moment g.O.Disk.left_since c.args.outside.now c.open_folder.new.outside (KeepsFor (item_for (command_of c.args.task)) (beginning (options_in c.args.line.now) (g.O.Outside.shown c.args.outside.now).seconds changes) input before)
-opened g c changes input before start stands = chosen g.O.Disk.moment g.O.Disk.left_since (item_for (command_of c.args.task)) (beginning (options_in c.args.line.now) (g.O.Outside.shown c.args.outside.now).seconds changes) input before _ _ _ _ c.args.outside.now c.open_folder.new.outside stands start.told c.open_folder.ensures.any_moment
+opened : (g : _) (c : After-open_folder g) (changes : List Change) (input before : List ℕ) → StartsWith (g.O.Disk.may_leave c.args.outside.now) (g.O.Outside.shown c.args.outside.now) changes input before → StandsFor (g.O.Outside.shown c.args.outside.now).tells (g.O.Outside.shown c.args.outside.now).files (g.O.Disk.may_leave c.args.outside.now) changes → LeavesOnly g.O.Disk.moment g.O.Disk.left_since c.args.outside.now c.open_folder.new.outside (KeepsFor (job_of (command_of c.args.task)) (beginning (options_in c.args.line.now) (g.O.Outside.shown c.args.outside.now).seconds changes) input before)
+opened g c changes input before start stands = chosen g.O.Disk.moment g.O.Disk.left_since (job_of (command_of c.args.task)) (beginning (options_in c.args.line.now) (g.O.Outside.shown c.args.outside.now).seconds changes) input before _ _ _ _ c.args.outside.now c.open_folder.new.outside stands start.told c.open_folder.ensures.any_moment
 
 pub returns-in_err-open_folder-clause-any_moment : goal.returns-in_err-open_folder-clause-any_moment
 returns-in_err-open_folder-clause-any_moment g c = opened g (goal.at.returns-in_err-open_folder-clause-any_moment g c).After-open_folder
 
 -- also behind a run that was killed
 opened_either : (g : _) (c : After-open_folder g) (changes was : List Change) (input before : List ℕ) → StartsWith (g.O.Disk.may_leave c.args.outside.now) (g.O.Outside.shown c.args.outside.now) changes input before → ((e : Image) → g.O.Disk.may_leave c.args.outside.now e → FilesStandFor e changes ⊎ FilesStandFor e was) → LeavesOnly g.O.Disk.moment g.O.Disk.left_since c.args.outside.now c.open_folder.new.outside (KilledKeeps (command_of c.args.task) (beginning (options_in c.args.line.now) (g.O.Outside.shown c.args.outside.now).seconds changes) was input before)
-opened_either g c changes was input before start either = chosen_either g.O.Disk.moment g.O.Disk.left_since (item_for (command_of c.args.task)) (beginning (options_in c.args.line.now) (g.O.Outside.shown c.args.outside.now).seconds changes) was input before (g.O.Disk.may_leave c.args.outside.now) _ c.args.outside.now c.open_folder.new.outside either start.told c.open_folder.ensures.any_moment
+opened_either g c changes was input before start either = chosen_either g.O.Disk.moment g.O.Disk.left_since (job_of (command_of c.args.task)) (beginning (options_in c.args.line.now) (g.O.Outside.shown c.args.outside.now).seconds changes) was input before (g.O.Disk.may_leave c.args.outside.now) _ c.args.outside.now c.open_folder.new.outside either start.told c.open_folder.ensures.any_moment
 
 pub returns-in_err-open_folder-clause-killed : goal.returns-in_err-open_folder-clause-killed
 returns-in_err-open_folder-clause-killed g c = opened_either g (goal.at.returns-in_err-open_folder-clause-killed g c).After-open_folder
@@ -68,17 +68,17 @@ module _ (g : _) (c : After-start g) where
   starts_mid : (changes : List Change) (input before : List ℕ) → StartsWith (g.O.Disk.may_leave c.args.outside.now) (g.O.Outside.shown c.args.outside.now) changes input before → StartsWith (g.O.Disk.may_leave c.open_folder.new.outside) (g.O.Outside.shown c.open_folder.new.outside) changes input before
   starts_mid changes input before start = starts_on (g.O.Outside.shown c.args.outside.now) (g.O.Outside.shown c.open_folder.new.outside) c.open_folder.ensures.shown (g.O.Disk.may_leave c.args.outside.now) (g.O.Disk.may_leave c.open_folder.new.outside) c.open_folder.ensures.images changes input before start
 
-  started : (changes : List Change) (input before : List ℕ) → StartsWith (g.O.Disk.may_leave c.args.outside.now) (g.O.Outside.shown c.args.outside.now) changes input before → StandsFor (g.O.Outside.shown c.args.outside.now).tells (g.O.Outside.shown c.args.outside.now).files (g.O.Disk.may_leave c.args.outside.now) changes → LeavesOnly g.O.Disk.moment g.O.Disk.left_since c.args.outside.now c.start.new.outside (KeepsFor (item_for (command_of c.args.task)) (beginning (options_in c.args.line.now) (g.O.Outside.shown c.args.outside.now).seconds changes) input before)
+  started : (changes : List Change) (input before : List ℕ) → StartsWith (g.O.Disk.may_leave c.args.outside.now) (g.O.Outside.shown c.args.outside.now) changes input before → StandsFor (g.O.Outside.shown c.args.outside.now).tells (g.O.Outside.shown c.args.outside.now).files (g.O.Disk.may_leave c.args.outside.now) changes → LeavesOnly g.O.Disk.moment g.O.Disk.left_since c.args.outside.now c.start.new.outside (KeepsFor (job_of (command_of c.args.task)) (beginning (options_in c.args.line.now) (g.O.Outside.shown c.args.outside.now).seconds changes) input before)
   started changes input before start stands =
-      goes_on g.O.Disk.moment g.O.Disk.left_since (item_for (command_of c.args.task)) (beginning (options_in c.args.line.now) (g.O.Outside.shown c.args.outside.now).seconds changes) input before c.args.outside.now c.open_folder.new.outside c.start.new.outside
-      (chosen g.O.Disk.moment g.O.Disk.left_since (item_for (command_of c.args.task)) (beginning (options_in c.args.line.now) (g.O.Outside.shown c.args.outside.now).seconds changes) input before _ _ _ _ c.args.outside.now c.open_folder.new.outside stands start.told c.open_folder.ensures.any_moment)
-      (session_begins g.O.Disk.moment g.O.Disk.left_since (item_for (command_of c.args.task)) (beginning (options_in c.args.line.now) (g.O.Outside.shown c.args.outside.now).seconds changes) input before _ c.open_folder.new.outside c.start.new.outside (starts_mid changes input before start).told (c.start.ensures.any_moment changes (stands_on (g.O.Outside.shown c.args.outside.now) (g.O.Outside.shown c.open_folder.new.outside) c.open_folder.ensures.shown (g.O.Disk.may_leave c.args.outside.now) (g.O.Disk.may_leave c.open_folder.new.outside) c.open_folder.ensures.images changes stands)))
+      goes_on g.O.Disk.moment g.O.Disk.left_since (job_of (command_of c.args.task)) (beginning (options_in c.args.line.now) (g.O.Outside.shown c.args.outside.now).seconds changes) input before c.args.outside.now c.open_folder.new.outside c.start.new.outside
+      (chosen g.O.Disk.moment g.O.Disk.left_since (job_of (command_of c.args.task)) (beginning (options_in c.args.line.now) (g.O.Outside.shown c.args.outside.now).seconds changes) input before _ _ _ _ c.args.outside.now c.open_folder.new.outside stands start.told c.open_folder.ensures.any_moment)
+      (session_begins g.O.Disk.moment g.O.Disk.left_since (job_of (command_of c.args.task)) (beginning (options_in c.args.line.now) (g.O.Outside.shown c.args.outside.now).seconds changes) input before _ c.open_folder.new.outside c.start.new.outside (starts_mid changes input before start).told (c.start.ensures.any_moment changes (stands_on (g.O.Outside.shown c.args.outside.now) (g.O.Outside.shown c.open_folder.new.outside) c.open_folder.ensures.shown (g.O.Disk.may_leave c.args.outside.now) (g.O.Disk.may_leave c.open_folder.new.outside) c.open_folder.ensures.images changes stands)))
 
   started_either : (changes was : List Change) (input before : List ℕ) → StartsWith (g.O.Disk.may_leave c.args.outside.now) (g.O.Outside.shown c.args.outside.now) changes input before → ((e : Image) → g.O.Disk.may_leave c.args.outside.now e → FilesStandFor e changes ⊎ FilesStandFor e was) → LeavesOnly g.O.Disk.moment g.O.Disk.left_since c.args.outside.now c.start.new.outside (KilledKeeps (command_of c.args.task) (beginning (options_in c.args.line.now) (g.O.Outside.shown c.args.outside.now).seconds changes) was input before)
   started_either changes was input before start either =
       let mid = starts_mid changes input before start in
-      begins_either g.O.Disk.moment g.O.Disk.left_since (item_for (command_of c.args.task)) (beginning (options_in c.args.line.now) (g.O.Outside.shown c.args.outside.now).seconds changes) was input before _ c.args.outside.now c.open_folder.new.outside c.start.new.outside mid.told
-      (chosen_either g.O.Disk.moment g.O.Disk.left_since (item_for (command_of c.args.task)) (beginning (options_in c.args.line.now) (g.O.Outside.shown c.args.outside.now).seconds changes) was input before (g.O.Disk.may_leave c.args.outside.now) _ c.args.outside.now c.open_folder.new.outside either start.told c.open_folder.ensures.any_moment)
+      begins_either g.O.Disk.moment g.O.Disk.left_since (job_of (command_of c.args.task)) (beginning (options_in c.args.line.now) (g.O.Outside.shown c.args.outside.now).seconds changes) was input before _ c.args.outside.now c.open_folder.new.outside c.start.new.outside mid.told
+      (chosen_either g.O.Disk.moment g.O.Disk.left_since (job_of (command_of c.args.task)) (beginning (options_in c.args.line.now) (g.O.Outside.shown c.args.outside.now).seconds changes) was input before (g.O.Disk.may_leave c.args.outside.now) _ c.args.outside.now c.open_folder.new.outside either start.told c.open_folder.ensures.any_moment)
       (c.start.ensures.killed changes was mid.reads (λ e left. either e (c.open_folder.ensures.images e left)))
 
 pub returns-in_err-session-clause-killed : goal.returns-in_err-session-clause-killed
@@ -89,7 +89,7 @@ returns-in_err-session-clause-worked g c = λ changes input before start.
     let p = err_from_is_err_and c.from_residual-in_err-session.result c.from_residual-in_err-session.ensures.1 in
     let at = starts_mid g (goal.at.returns-in_err-session-clause-worked g c).After-start changes input before start in
     let same = c.start.ensures.shown in
-    rw (p.1, p.2) (no_session (item_for (command_of c.args.task)) _ (g.O.Disk.may_leave c.start.new.outside) (g.O.Outside.shown c.start.new.outside) (settings_of (options_in c.args.line.now) (g.O.Outside.shown c.args.outside.now).seconds) changes input before (c.in_err-session.ensures.started (settings_of (options_in c.args.line.now) (g.O.Outside.shown c.args.outside.now).seconds) changes before refl refl (sym (ap (λ (o : Shown). o.seconds) c.open_folder.ensures.shown)) at.reads at.taken at.told) (ap (λ (o : Shown). o.left) same ∙ at.left) (ap (λ (o : Shown). o.taken) same ∙ at.taken))
+    rw (p.1, p.2) (no_session (job_of (command_of c.args.task)) _ (g.O.Disk.may_leave c.start.new.outside) (g.O.Outside.shown c.start.new.outside) (settings_of (options_in c.args.line.now) (g.O.Outside.shown c.args.outside.now).seconds) changes input before (c.in_err-session.ensures.started (settings_of (options_in c.args.line.now) (g.O.Outside.shown c.args.outside.now).seconds) changes before refl refl (sym (ap (λ (o : Shown). o.seconds) c.open_folder.ensures.shown)) at.reads at.taken at.told) (ap (λ (o : Shown). o.left) same ∙ at.left) (ap (λ (o : Shown). o.taken) same ∙ at.taken))
 
 pub returns-in_err-session-clause-any_moment : goal.returns-in_err-session-clause-any_moment
 returns-in_err-session-clause-any_moment g c = started g (goal.at.returns-in_err-session-clause-any_moment g c).After-start
@@ -134,7 +134,7 @@ returns-clause-any_moment g c = λ changes input before start stands.
     let same = c.start.ensures.shown in
     let seconds = ap (λ (o : Shown). o.seconds) same in
     let P : Option ℕ → Type 0 = λ m. LeavesOnly g.O.Disk.moment g.O.Disk.left_since c.start.new.outside c.do_task.new.outside (CommandKeeps (command_of c.args.task) (beginning (options_in c.args.line.now) m changes) input before) in
-    goes_on g.O.Disk.moment g.O.Disk.left_since (item_for (command_of c.args.task)) (beginning (options_in c.args.line.now) (g.O.Outside.shown c.args.outside.now).seconds changes) input before c.args.outside.now c.start.new.outside c.do_task.new.outside (started g after changes input before start stands)
+    goes_on g.O.Disk.moment g.O.Disk.left_since (job_of (command_of c.args.task)) (beginning (options_in c.args.line.now) (g.O.Outside.shown c.args.outside.now).seconds changes) input before c.args.outside.now c.start.new.outside c.do_task.new.outside (started g after changes input before start stands)
     (subst P (same_time g after) (c.do_task.ensures.any_moment (options_in c.args.line.now) changes input before (ap (λ (o : Shown). o.left) same ∙ at.left) (c.in_ok-session.ensures.started (settings_of (options_in c.args.line.now) (g.O.Outside.shown c.start.new.outside).seconds) changes before refl refl seconds at.reads at.taken at.told)))
 
 pub returns-clause-killed : goal.returns-clause-killed
@@ -144,7 +144,7 @@ returns-clause-killed g c = λ changes was input before start either.
     let same = c.start.ensures.shown in
     let seconds = ap (λ (o : Shown). o.seconds) same in
     let P : Option ℕ → Type 0 = λ m. LeavesOnly g.O.Disk.moment g.O.Disk.left_since c.start.new.outside c.do_task.new.outside (CommandKeeps (command_of c.args.task) (beginning (options_in c.args.line.now) m changes) input before) in
-    goes_on_either g.O.Disk.moment g.O.Disk.left_since (item_for (command_of c.args.task)) (beginning (options_in c.args.line.now) (g.O.Outside.shown c.args.outside.now).seconds changes) was input before c.args.outside.now c.start.new.outside c.do_task.new.outside (started_either g after changes was input before start either)
+    goes_on_either g.O.Disk.moment g.O.Disk.left_since (job_of (command_of c.args.task)) (beginning (options_in c.args.line.now) (g.O.Outside.shown c.args.outside.now).seconds changes) was input before c.args.outside.now c.start.new.outside c.do_task.new.outside (started_either g after changes was input before start either)
     (subst P (same_time g after) (c.do_task.ensures.any_moment (options_in c.args.line.now) changes input before (ap (λ (o : Shown). o.left) same ∙ at.left) (c.in_ok-session.ensures.started (settings_of (options_in c.args.line.now) (g.O.Outside.shown c.start.new.outside).seconds) changes before refl refl seconds at.reads at.taken at.told)))
 
 pub returns-clause-found : goal.returns-clause-found
