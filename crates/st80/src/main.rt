@@ -1,15 +1,20 @@
 //! `st80 FOLDER COMMAND`: a day's work in Smalltalk-80, kept in a folder that no crash loses.
 #![tactic(auto)]
 
+mod fault;
 mod places;
+mod progress;
 mod real;
+mod sight;
 mod words;
 
 ghost use Rattle.std.specs.Prelude.{◌≡◌};
 ghost use Rattle.std.specs.Process.{exit_status};
 ghost use Rattle.s80_program.specs.Ending.{number_of};
 
+pub use fault::Fault;
 pub use places::Telling;
+pub use progress::Seen;
 pub use real::RealOutside;
 pub use s80_program::{Status, st80};
 use std::env;
@@ -29,12 +34,43 @@ fn telling(rt: &HostRuntime) -> Telling {
     }
 }
 
-/// Runs on the standard streams and the machine's files.
-fn run(rt: HostRuntime) -> Status {
-    let telling = telling(&rt);
+/// Who sees standard error, if somebody does.
+fn seen(rt: &HostRuntime) -> Option<Seen> {
+    if !rt.stderr().is_terminal() {
+        return None;
+    }
+    Some(if rt.stdout().is_terminal() {
+        Seen::WithOutput
+    } else {
+        Seen::Alone
+    })
+}
+
+/// Runs on the standard streams and the machine's files. Says what failed of the folder, too.
+fn run(rt: HostRuntime, telling: Telling) -> (Status, Option<Fault>) {
+    let seen = seen(&rt);
     match words_of(rt.alloc(), env::args(&rt)) {
-        Ok(words) => st80(rt.alloc(), &words, &mut RealOutside::make(rt, telling)),
-        Err(status) => status,
+        Ok(words) => {
+            let alloc = rt.alloc();
+            let mut outside = RealOutside::make(rt, telling, seen);
+            let status = st80(alloc, &words, &mut outside);
+            outside.clear_progress();
+            (status, outside.fault())
+        }
+        Err(status) => (status, None),
+    }
+}
+
+/// Tells more of a status to whoever sees standard error or asks for it.
+fn explain(rt: &HostRuntime, status: Status, fault: Option<Fault>) {
+    if status == Status::Usage {
+        let _ = eprintln!(rt;
+            "st80: COMMAND is run, do TEXT, recover, classes, browse N, source SPEC S, versions SPEC S, changes, file-out, file-out-class N, file-out-set, condense, snapshot or make N; man st80 tells more"
+        );
+    }
+    if let (Status::DiskFault, Some(fault)) = (status, fault) {
+        let (subject, predicate) = (fault.subject(), fault.predicate());
+        let _ = eprintln!(rt; "st80: {subject} {predicate}");
     }
 }
 
@@ -45,9 +81,13 @@ fn code_of(status: Status) -> ExitCode
 }
 
 fn main(rt: HostRuntime) -> ExitCode {
-    let status = run(rt);
+    let telling = telling(&rt);
+    let (status, fault) = run(rt, telling);
     if let Some(line) = status.message() {
         let _ = eprintln!(rt; "{line}");
+    }
+    if telling != Telling::Nothing {
+        explain(&rt, status, fault);
     }
     code_of(status)
 }

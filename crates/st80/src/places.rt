@@ -1,6 +1,6 @@
 // Places in the input: where what is refused or stopped stands, for whoever sits at a terminal or asks for it.
-ghost use Rattle.std.specs.Prelude.{◌≤◌, length};
 ghost use Rattle.std.specs.Io.{ReadsAtMost};
+ghost use Rattle.std.specs.Io.KnownBytes.{ReadConsumes};
 
 use memchr::memmem;
 use s80_base::is_separator;
@@ -8,9 +8,6 @@ use s80_disk::read_some;
 use std::alloc::Global;
 use std::io::{self, Read};
 use std::mem;
-
-/// How many bytes are read ahead at a time.
-const AHEAD: usize = 4096;
 
 /// How many bytes of an item are remembered: more than the longest text has with each mark doubled.
 const REMEMBERED: usize = 1 << 18;
@@ -107,12 +104,9 @@ impl Item {
     }
 }
 
-/// Reads the input item by item, and remembers where the last one stands.
+/// Reads the input byte by byte, and remembers where the last item stands.
 #[derive(Drop)]
 pub(crate) struct Places {
-    ahead: [u8; AHEAD],
-    held: usize,
-    at: usize,
     now: Place,
     item: Item,
     /// The item's text has begun.
@@ -123,6 +117,8 @@ pub(crate) struct Places {
     ended: Item,
     /// Some item ended, of which no place is told yet.
     is_due: bool,
+    /// How many items ended.
+    count: u64,
     /// A line is asked for by a prompt.
     prompts: bool,
 }
@@ -130,72 +126,56 @@ pub(crate) struct Places {
 impl Places {
     pub(crate) fn make(alloc: Global, prompts: bool) -> Places {
         Places {
-            ahead: [0; AHEAD],
-            held: 0,
-            at: 0,
             now: Place::first(),
             item: Item::at(alloc, Place::first()),
             begun: false,
             marked: false,
             ended: Item::at(alloc, Place::first()),
             is_due: false,
+            count: 0,
             prompts,
         }
     }
 
-    /// What asks for a line, where one has to be read and somebody types: at the beginning of the input, of a chunk, or inside one.
+    /// Whether lines are asked for.
+    pub(crate) fn asks(&self) -> bool {
+        self.prompts
+    }
+
+    /// How many items ended so far.
+    pub(crate) fn items(&self) -> u64 {
+        self.count
+    }
+
+    /// What asks for a line, where one begins and somebody types: at the beginning of the input, of a chunk, or inside one.
     pub(crate) fn prompt(&self) -> Option<&'static str> {
-        if !self.prompts || self.at < self.held {
+        if !self.prompts || self.now.column != 1 {
             return None;
         }
-        Some(match (self.held, self.begun) {
-            (0, _) =>
+        Some(match (self.now.line, self.begun) {
+            (1, _) =>
                 "st80: a chunk ends with !, a section of methods with ! !, and the input with Ctrl-D\nst80> ",
             (_, false) => "st80> ",
             (_, true) => "...> ",
         })
     }
 
-    /// The next bytes, none behind the end of an item but the one that shows the end.
+    /// The next byte: no item is read before the one ahead of it is answered.
     pub(crate) fn take<F: Read>(&mut self, reader: &mut F, buf: &mut [u8]) -> io::Result<usize>
         ensures bound { ReadsAtMost result buf.new }
+        ensures bytes { ReadConsumes (F.remaining reader.old) (F.remaining reader.new) result buf.new }
     {
-        if self.at >= self.held {
-            self.held = read_some(reader, &mut self.ahead)?;
-            self.at = 0;
-        }
-        let count = self.next_item(buf);
-        if count == 0 {
-            self.end_item();
+        let count = read_byte(reader, buf)?;
+        match buf[..count].first() {
+            Some(byte) => self.step(*byte),
+            None => self.end_item(),
         }
         Ok(count)
     }
 
-    /// Hands out what was read ahead, up to the end of an item.
-    fn next_item(&mut self, buf: &mut [u8]) -> usize
-        ensures { result ≤ length buf.new }
-    {
-        let room = buf.len();
-        for (count, slot) in buf.iter_mut().enumerate() {
-            if self.at >= self.held {
-                return count;
-            }
-            let Some(byte) = self.ahead.get(self.at).copied() else {
-                return count;
-            };
-            *slot = byte;
-            self.at += 1;
-            if self.step(byte) {
-                return count + 1;
-            }
-        }
-        room
-    }
-
-    /// Goes on behind a byte. Says whether an item ended before it.
-    fn step(&mut self, byte: u8) -> bool {
-        let ends = self.marked && byte != b'!';
-        if ends {
+    /// Goes on behind a byte.
+    fn step(&mut self, byte: u8) {
+        if self.marked && byte != b'!' {
             self.end_item();
         }
         self.marked = self.begun && byte == b'!' && !self.marked;
@@ -208,7 +188,6 @@ impl Places {
             let _ = self.item.bytes.push(byte);
         }
         self.now = self.now.behind(byte);
-        ends
     }
 
     /// What was read last is an item.
@@ -219,6 +198,7 @@ impl Places {
         self.begun = false;
         self.marked = false;
         self.is_due = true;
+        self.count = self.count.saturating_add(1);
     }
 
     /// The last line of a reply with its place, if it is a refusal or a stop of an item whose place isn't told yet.
@@ -238,6 +218,15 @@ impl Places {
             hint: hint(line, byte),
         })
     }
+}
+
+/// Reads the next byte into the front of a buffer that has room, if one is left.
+fn read_byte<F: Read>(reader: &mut F, buf: &mut [u8]) -> io::Result<usize>
+    ensures bound { ReadsAtMost result buf.new }
+    ensures bytes { ReadConsumes (F.remaining reader.old) (F.remaining reader.new) result buf.new }
+{
+    let room = buf.len().min(1);
+    read_some(reader, &mut buf[..room])
 }
 
 fn last_line(reply: &[u8]) -> &[u8] {

@@ -1,14 +1,16 @@
 // The outside of a program that runs: the standard streams, a folder and the machine's clock.
 ghost use Rattle.std.specs.Prelude.{◌≡◌, ◌≤◌, ◌<◌, ◌+◌, ◌^◌, ℕ, List, false, None, refl, [], length, IfOk, IsTrue, OnOk};
 ghost use Rattle.std.proofs.Common.{ap, sym};
-ghost use Rattle.std.specs.Io.{ReadsAtMost};
 ghost use Rattle.s80_disk.specs.declared.disk.FileId.{FileId};
 ghost use Rattle.s80_disk.specs.Real.{faults_of_real};
 ghost use Rattle.s80_disk.specs.Untold.{untold, files_untold, no_moment_untold};
 
-use crate::places::{Places, Telling};
+use crate::fault::Fault;
+use crate::places::Telling;
+use crate::progress::Seen;
+use crate::sight::Sight;
 use s80_base::{Call, Clock, Failed, Sink, Source, Text, fault};
-use s80_disk::{Disk, FileId, Outside, RealDisk, read_some, write_some};
+use s80_disk::{Disk, FileId, Outside, RealDisk, write_some};
 use std::fs::{File, Files};
 use std::io;
 use std::rt::Clock as SystemClock;
@@ -24,64 +26,34 @@ pub struct RealOutside<
     told: u64,
     read_faults: u64,
     write_faults: u64,
-    /// Where items stand, if places are to be told. Then the input is given item by item.
-    places: Option<Places>,
+    /// What standard error is told.
+    sight: Sight,
 }
 
 impl<R: Files<File = File> + AllocGlobal + Input + Print + Eprint + SystemClock + Drop> RealOutside<
     R,
 > {
-    /// An outside on which no folder is chosen yet, and what standard error is told of the input.
-    pub fn make(rt: R, telling: Telling) -> Self {
-        let places = match telling {
-            Telling::Nothing => None,
-            Telling::Places => Some(Places::make(rt.alloc(), false)),
-            Telling::Prompts => Some(Places::make(rt.alloc(), true)),
-        };
+    /// An outside on which no folder is chosen yet, what standard error is told of the input, and who sees it, if somebody does: that one is told
+    /// how far a long run is.
+    pub fn make(rt: R, telling: Telling, seen: Option<Seen>) -> Self {
+        let sight = Sight::make(rt.alloc(), &rt, telling, seen);
         RealOutside {
             disk: RealDisk::make(rt),
             told: 0,
             read_faults: 0,
             write_faults: 0,
-            places,
+            sight,
         }
     }
 
-    /// Tells the place of an item that this reply refuses or stops.
-    fn explain(&mut self, reply: &[u8])
-        ensures rest { (self.new.disk ≡ self.old.disk) × (self.new.told ≡ self.old.told)
-            × (self.new.read_faults ≡ self.old.read_faults) × (self.new.write_faults ≡ self.old.write_faults) }
-    {
-        let Some(places) = &mut self.places else {
-            return;
-        };
-        let Some(told) = places.told(reply) else {
-            return;
-        };
-        let (row, column) = (told.place.line, told.place.column);
-        let line = str::from_utf8(told.line).unwrap_or("");
-        let _ = eprintln!(self.disk.runtime(); "st80: line {row}, column {column}: {line}");
-        if let Some(hint) = told.hint {
-            let _ = eprintln!(self.disk.runtime(); "st80: {hint}");
-        }
+    /// What failed first of the folder, if something did.
+    pub fn fault(&self) -> Option<Fault> {
+        self.sight.fault()
     }
 
-    /// The next bytes of standard input.
-    fn read(&mut self, buf: &mut [u8]) -> io::Result<usize>
-        ensures bound { ReadsAtMost result buf.new }
-        ensures rest { (self.new.disk ≡ self.old.disk) × (self.new.told ≡ self.old.told)
-            × (self.new.read_faults ≡ self.old.read_faults) × (self.new.write_faults ≡ self.old.write_faults) }
-    {
-        let mut reader = self.disk.runtime().reader();
-        match &mut self.places {
-            Some(places) => {
-                if let Some(prompt) = places.prompt() {
-                    let _ = eprint!(self.disk.runtime(); "{prompt}");
-                }
-                places.take(&mut reader, buf)
-            }
-            None => read_some(&mut reader, buf),
-        }
+    /// Takes away what a terminal was told of the run.
+    pub fn clear_progress(&mut self) {
+        self.sight.clear(self.disk.runtime());
     }
 }
 
@@ -105,7 +77,8 @@ impl<R: Files<File = File> + AllocGlobal + Input + Print + Eprint + SystemClock 
     ghost take_keeps = { λ o p. (p.disk ≡ o.disk) × (p.told ≡ o.told) × (p.write_faults ≡ o.write_faults) };
 
     fn take(&mut self, buf: &mut [u8]) -> Result<usize, Failed> {
-        match self.read(buf) {
+        let rt = self.disk.runtime();
+        match self.sight.read(rt, &mut rt.reader(), buf) {
             Ok(count) => Ok(count),
             Err(_) => Err(fault(&mut self.read_faults, Call::Take)),
         }
@@ -127,7 +100,8 @@ impl<R: Files<File = File> + AllocGlobal + Input + Print + Eprint + SystemClock 
         if u64::MAX - self.told < piece.len() as u64 {
             return Err(fault(&mut self.write_faults, Call::Put));
         }
-        self.explain(piece);
+        self.sight.explain(self.disk.runtime(), piece);
+        self.sight.clear_for_output(self.disk.runtime());
         match write_some(&mut io::writer(self.disk.runtime()), piece) {
             Ok(count) => {
                 self.told += count as u64;
@@ -179,27 +153,57 @@ impl<R: Files<File = File> + AllocGlobal + Input + Print + Eprint + SystemClock 
     ghost only_now = { λ _ _ _ left. absurd left };
 
     fn attach(&mut self, folder: &Text) -> Result<(), Failed> {
-        self.disk.attach(folder)
+        let outcome = self.disk.attach(folder);
+        if outcome.is_err() {
+            self.sight.note_folder(self.disk.runtime(), folder);
+        }
+        outcome
     }
 
     fn length(&mut self, file: FileId) -> Result<u64, Failed> {
-        self.disk.length(file)
+        let outcome = self.disk.length(file);
+        if outcome.is_err() {
+            self.sight.note_file(file, "can't be read");
+        }
+        outcome
     }
 
     fn read_at(&mut self, file: FileId, at: u64, buf: &mut [u8]) -> Result<usize, Failed> {
-        self.disk.read_at(file, at, buf)
+        self.sight.tell_progress(self.disk.runtime());
+        let outcome = self.disk.read_at(file, at, buf);
+        match &outcome {
+            Ok(count) => self.sight.count_read(*count),
+            Err(_) => self.sight.note_file(file, "can't be read"),
+        }
+        outcome
     }
 
     fn write_at(&mut self, file: FileId, at: u64, piece: &[u8]) -> Result<(), Failed> {
-        self.disk.write_at(file, at, piece)
+        self.sight.tell_progress(self.disk.runtime());
+        self.sight.count_written(piece.len());
+        let outcome = self.disk.write_at(file, at, piece);
+        if outcome.is_err() {
+            self.sight
+                .note_file(file, "can't be written: perhaps the disk is full");
+        }
+        outcome
     }
 
     fn cut(&mut self, file: FileId, to: u64) -> Result<(), Failed> {
-        self.disk.cut(file, to)
+        let outcome = self.disk.cut(file, to);
+        if outcome.is_err() {
+            self.sight.note_file(file, "can't be cut");
+        }
+        outcome
     }
 
     fn sync(&mut self, file: FileId) -> Result<(), Failed> {
-        self.disk.sync(file)
+        let outcome = self.disk.sync(file);
+        if outcome.is_err() {
+            self.sight
+                .note_file(file, "can't be put on the disk: perhaps it is full");
+        }
+        outcome
     }
 }
 
