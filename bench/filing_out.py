@@ -6,12 +6,10 @@ usage: bench/filing_out.py [CLASSES]
 One class of each ten has a comment, and every second one stands below the one before. A start alone (`recover`) is measured beside them.
 """
 import os
-import re
-import resource
 import subprocess
 import sys
 
-from common import PROGRAM, build, folder
+from common import PROGRAM, build, folder, measured
 
 COMMANDS = {
     "a start": ["recover"],
@@ -32,18 +30,6 @@ def class_text(number):
     return text + f"!C{number} methodsFor: 'measured'!\n{methods}! !\n"
 
 
-def measured(words):
-    """The user time of a run, the most memory that it took, and how many bytes it wrote."""
-    before = resource.getrusage(resource.RUSAGE_CHILDREN).ru_utime
-    run = subprocess.Popen([PROGRAM, *words], stdout=subprocess.PIPE)
-    out = run.stdout.read(1)
-    with open(f"/proc/{run.pid}/status") as status:
-        peak = re.search(r"VmHWM:\s*(\d+)", status.read())
-    out += run.stdout.read()
-    assert run.wait() == 0
-    return resource.getrusage(resource.RUSAGE_CHILDREN).ru_utime - before, int(peak.group(1)) if peak else 0, len(out)
-
-
 def of_so_many(count, place):
     work = os.path.join(place, str(count))
     os.mkdir(work)
@@ -57,8 +43,8 @@ def main():
     build()
     with folder() as place:
         half, whole = (of_so_many(count, place) for count in (classes // 2, classes))
-        for name, (time, peak, size) in whole.items():
-            print(f"{name}: {classes} classes {time:.3f} s, {peak} KiB, {size} bytes; half {half[name][0]:.3f} s, {half[name][1]} KiB")
+        for name, (_, time, peak, size) in whole.items():
+            print(f"{name}: {classes} classes {time:.3f} s, {peak} KiB, {size} bytes; half {half[name][1]:.3f} s, {half[name][2]} KiB")
 
 
 main()

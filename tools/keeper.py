@@ -88,6 +88,25 @@ def items_of(data):
     return items
 
 
+def made_items(count):
+    """The items of so many classes of generated input."""
+    items = []
+    for number in range(1, count + 1):
+        name = b"Gen%d" % number
+        above = b"Gen%d" % (number // 2) if number > 1 else b"Object"
+        row = Class(above, "plain", ((b"v%d" % number,), (), ()), b"gen")
+        methods = [Item("method", b"m%d: x ^x + %d" % (place, 10 * number + place)) for place in range(10)]
+        items += [Item("plain", row.text(name)), Item("head", name + b" methodsFor: 'gen'"), *methods, Item("end"), Item("plain", b"%s new m9: %d" % (name, number))]
+    return items
+
+
+def made_line(count, replies):
+    """What is written of the replies to these items, and to condensing behind them."""
+    refused, stopped = (sum(reply.startswith(word) for reply in replies) for word in (b"refused ", b"stopped "))
+    total = sum(int(reply[3:]) for reply in replies if re.fullmatch(rb"=> -?[0-9]+\n", reply))
+    return b"made %d classes, %d refused, %d stopped, sum %d\n" % (count, refused, stopped, total)
+
+
 def spell(text):
     return text.replace(b"!", b"!!") + b"!"
 

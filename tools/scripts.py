@@ -49,11 +49,24 @@ NEARLY = re.compile(rb"(?:\(|\^|x _ |\| x \| )?(\w+) (class )?"
                     rb"(comment:|instanceVariableNames:|removeSelector:|organization|removeClassNamed:|removeFromSystem|noChanges|snapshot|condenseChanges).*", re.S)
 
 
+MADE = re.compile(rb"(Gen[0-9]+) new m9: ([0-9]+)")
+
+
+def made(name, number, state):
+    """What the doIt behind a made class comes to."""
+    if not state.method_for(name, "class", b"new"):
+        return b"stopped 2 not understood %s class new\n" % name
+    return b"=> %d\n" % (11 * number + 9)
+
+
 def answers(text, state):
     """The reply to a doIt, where it is known: those above, messages to the classes with the names above or to an instance, and what isn't a
     form, but nearly."""
     if text in ANSWERS:
         return ANSWERS[text]
+    generated = MADE.fullmatch(text)
+    if generated:
+        return made(generated[1], int(generated[2]), state)
     bumps, nearly = BUMPS.fullmatch(text), NEARLY.fullmatch(text)
     if bumps:
         return bumped(bumps.groups(), state)
@@ -323,5 +336,5 @@ def command(chance, size):
     if kind < 5:
         return Command(("do", chance.choice([b"", b" ", b"\n\t"]) + chance.choice([doit, doit, definition, form, form, nearly])(chance)))
     if kind == 5 and chance.randrange(2) == 0:
-        return Command((chance.choice(["snapshot", "condense"]),))
+        return Command(chance.choice([("snapshot",), ("snapshot",), ("condense",), ("condense",), ("make", chance.choice("123"))]))
     return query(chance)

@@ -9,7 +9,7 @@ import tempfile
 from pathlib import Path
 from typing import NamedTuple
 
-from keeper import Damage, Item, Keeper, items_of, kernel_of, marked_part, spec, without_moment
+from keeper import Damage, Item, Keeper, items_of, kernel_of, made_items, made_line, marked_part, spec, without_moment
 from language import SEPARATORS
 
 TOP = Path(__file__).resolve().parent.parent
@@ -71,6 +71,8 @@ class Command(NamedTuple):
             return items_of(self.text)
         if self.words[0] == "condense":
             return [Item("condense")]
+        if self.words[0] == "make":
+            return made_items(int(self.words[1])) + [Item("condense")]
         texts = {"do": self.words[-1], "snapshot": b"Smalltalk snapshot"}
         return [Item("plain", texts[self.words[0]].lstrip(SEPARATORS))] if self.words[0] in texts else None
 
@@ -90,11 +92,15 @@ class Course:
             reply, self.is_trouble = keeper.told(work, *command.words)
             self.works.append(self.works[0])
             self.told.append(reply)
+        replies = []
         for item in items or []:
             way = keeper.ways(self.works[-1], item)[0]
+            replies.append(way.reply)
             self.works.append(way.work)
-            self.told.append(self.told[-1] + way.reply)
+            self.told.append(self.told[-1] + (b"" if command.words[0] == "make" else way.reply))
             self.is_trouble |= way.is_trouble
+        if command.words[0] == "make":
+            self.told[-1] = made_line(int(command.words[1]), replies)
         self.outcome = Outcome(int(self.is_trouble), self.told[-1], b"")
 
     def kinds(self):
