@@ -187,6 +187,12 @@ few t = nat_le t.inst_vars 64 && (nat_le t.class_side_vars 0 && nat_le (bits_var
 abbrev pub bare : Inherited → Bool
 bare t = nat_le t.inst_vars 0
 
+abbrev has_two : Inherited → Bool
+has_two t = nat_le t.inst_vars 2 && nat_le 2 t.inst_vars
+
+message_has_two : is_by kernel_rows 8 has_two (codes "Message") ≡ true
+message_has_two = refl
+
 abbrev bare_but_one : Name → Bool
 bare_but_one name = bytes_eq name (codes "Message") || is_by kernel_rows 8 bare name
 
@@ -234,6 +240,14 @@ module _ (classes : Classes) (stands : Stands classes) where
   kernel_inst_vars name is ne =
       let most : (inherited_of classes name).inst_vars ≤ 0 = most_of (inherited_of classes name).inst_vars 0 (inherits kernel_rows classes stand 8 bare name (bare_at name (has_class name is) ne)) in
       omega (arith, most)
+
+  pub message_inst_vars : (inherited_of classes (codes "Message")).inst_vars ≡ 2
+  message_inst_vars =
+      let count : ℕ = (inherited_of classes (codes "Message")).inst_vars in
+      let both = and_parts (nat_le count 2) (nat_le 2 count) (inherits kernel_rows classes stand 8 has_two (codes "Message") message_has_two) in
+      let most : count ≤ 2 = most_of count 2 both.0 in
+      let least : 2 ≤ count = most_of 2 count both.1 in
+      omega (arith, most, least)
 
   pub kernel_class_side_vars : (name : Name) → is_kernel_class name ≡ true → (inherited_of classes name).class_side_vars ≡ 0
   kernel_class_side_vars name is =

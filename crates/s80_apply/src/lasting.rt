@@ -13,10 +13,11 @@ pub fn kernel_classes_last()
         → (comment : List ℕ) × (map.get (classes_of changes) name ≡ Some (with_comment comment row)) }
 {}
 
-/// Message apart, no class of the kernel has instance variables; none has class-side variables.
+/// Message has two instance variables, and no other class of the kernel has any; none has class-side variables.
 pub fn kernel_classes_have_their_variables()
     ensures instance { (changes : List Change) (name : Name) → is_kernel_class name ≡ true → name ≢ codes "Message"
         → (inherited_of (classes_of changes) name).inst_vars ≡ 0 }
+    ensures message { (changes : List Change) → (inherited_of (classes_of changes) (codes "Message")).inst_vars ≡ 2 }
     ensures class { (changes : List Change) (name : Name) → is_kernel_class name ≡ true
         → (inherited_of (classes_of changes) name).class_side_vars ≡ 0 }
 {}

@@ -3,7 +3,7 @@ ghost use Rattle.std.specs.Prelude.{◌≡◌, ◌≤◌, ◌⊎◌, ℕ, IfErr,
 ghost use Rattle.s80_base.specs.Literal.{literal_of};
 ghost use Rattle.s80_object.specs.declared.value.BodyKind.TheVariants.{Pointers};
 ghost use Rattle.s80_object.specs.declared.value.Value.TheVariants.{Nil};
-ghost use Rattle.s80_object.specs.Body.{blank, block, bytes, bytes_of, cost as cost_of, home, kind_of, words_of, word_limit};
+ghost use Rattle.s80_object.specs.Body.{blank, block, bytes, bytes_of, cost as cost_of, home, kind_of, pointers, words_of, word_limit};
 ghost use Rattle.s80_object.specs.Objects.{IsHome, IsPut, Makes, block_parts_of, body_at, field, field_put, home_parts_of, item, item_put, no_objects, number_kind_of, put_with, size_of, text_of};
 ghost use Rattle.s80_object.specs.Literal.{PushesLiteral, made_before, named};
 ghost use Rattle.s80_object.specs.Seen.{tree_of};
@@ -76,6 +76,26 @@ impl Objects {
         self.bodies.check(blank_cost(kind, named, indexed))?;
         let body = Body::blank(self.alloc, class, kind, named, indexed)?;
         Ok(self.bodies.push(body)?)
+    }
+
+    /// A new object of a class, with these fields and items.
+    pub fn make_pointers(
+        &mut self,
+        class: u32,
+        fields: Vec<Value>,
+        items: Vec<Value>,
+    ) -> Result<Value, ObjectFault>
+        ensures { Makes self.old (pointers class fields.items items.items) self.new result }
+    {
+        let cost = 2 + fields.len() as u64 + items.len() as u64;
+        self.bodies.check(cost)?;
+        Ok(
+            self.bodies.push(Body::Pointers {
+                class,
+                fields,
+                items,
+            })?,
+        )
     }
 
     /// A new object of bytes that holds these.

@@ -47,7 +47,7 @@ pub some_of : {X : Type 0} (o : Option X) → IsSome o → (x : X) × (o ≡ Som
 some_of None h = absurd (true≢false (sym h))
 some_of (Some x) h = (x, refl)
 
-under_itself : (classes : Classes) (word : Name) (row : ClassRow) → IsValid classes → map.get classes word ≡ Some row → is_under classes word word ≡ true
+pub under_itself : (classes : Classes) (word : Name) (row : ClassRow) → IsValid classes → map.get classes word ≡ Some row → is_under classes word word ≡ true
 under_itself classes word row valid is = let line = valid word row is in ap (passes word) (lineage_line classes word line.0 line.1) ∙ first line.0 line.1
   where
     first : (es : List Entry) → IsLine classes (Some word) es → passes word es ≡ true

@@ -1,6 +1,7 @@
 mod ApplyLemmas
 mod ArithmeticLemmas
 mod ClassesNumbered
+mod KernelNumbers
 mod ClassesBodies
 mod PrintFront
 mod PrintBodies

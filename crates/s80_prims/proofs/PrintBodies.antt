@@ -16,7 +16,7 @@ use Rattle.s80_object.specs.declared.value.ObjectFault.TheVariants as fault
 use Rattle.s80_object.specs.declared.value.Value.{Value}
 use Rattle.s80_object.specs.declared.value.Value.TheVariants as value
 use Rattle.s80_prims.specs.declared.front.Front.{Front}
-use Rattle.s80_prims.specs.Classes.{body_class, is_kind_of, kernel_class}
+use Rattle.s80_prims.specs.Classes.{is_kind_of}
 use Rattle.s80_prims.specs.Front.{Holds, Writes}
 use Rattle.s80_prims.specs.Known.{AreKnown, BodyIsKnown, IsKnown}
 use Rattle.s80_prims.specs.Printed.{array_text, body_text, bytes_text, element, is_array, plain, plain_body, whole, with_article}
@@ -146,24 +146,6 @@ block_plain t s v there h g =
     let b = some_of (body_at s v) there in
     let l = left_block b.0 (h ∙ ap (option_and_then kind_of) b.1) (g ∙ ap (option_and_then home_parts_of) b.1) in
     sym (ap (plain_body t) l.3) ∙ plain_of t s v b.0 b.1
-
-pub home_class : (t : Table) (s : State) (v : Value) (p : ℕ × Value) → Some p ≡ option_and_then home_parts_of (body_at s v)
-    → kernel_class t (codes "MethodContext") ≡ option_map_or (body_class t) (body_at s v) value.Nil
-home_class t s v p h = let b = body_with home_parts_of (body_at s v) p h in go b.0 b.2 ∙ sym (ap (λ o. option_map_or (body_class t) o value.Nil) b.1)
-  where
-    go : (b : BodyTree) → Some p ≡ home_parts_of b → kernel_class t (codes "MethodContext") ≡ body_class t b
-    go (pointers class fields items) h = absurd (none_is_some (sym h))
-    go (bytes class items) h = absurd (none_is_some (sym h))
-    go (words class items) h = absurd (none_is_some (sym h))
-    go (home method receiver temporaries) h = refl
-    go (block base start arguments) h = absurd (none_is_some (sym h))
-
-pub block_class : (t : Table) (s : State) (v : Value) → IsSome (body_at s v) → None ≡ option_and_then kind_of (body_at s v) → None ≡ option_and_then home_parts_of (body_at s v)
-    → kernel_class t (codes "BlockContext") ≡ option_map_or (body_class t) (body_at s v) value.Nil
-block_class t s v there h g =
-    let b = some_of (body_at s v) there in
-    let l = left_block b.0 (h ∙ ap (option_and_then kind_of) b.1) (g ∙ ap (option_and_then home_parts_of) b.1) in
-    sym (ap (body_class t) l.3) ∙ sym (ap (λ o. option_map_or (body_class t) o value.Nil) b.1)
 
 -- ---- arrays
 

@@ -3,6 +3,7 @@ pub mod Classes
 pub mod Printed
 pub mod Primitives
 pub mod Known
+pub mod Numbers
 pub mod Rows
 pub mod Front
 pub mod Kept

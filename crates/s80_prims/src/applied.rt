@@ -1,7 +1,9 @@
 // The table of primitives.
 ghost use Rattle.std.specs.Prelude.{◌≡◌, All, IfOk, OnErr, [], ◌∷◌};
 ghost use Rattle.s80_prims.specs.Known.{AreKnown, HasKernel, IsKnown};
+ghost use Rattle.s80_prims.specs.Numbers.{AreNumbers};
 ghost use Rattle.s80_prims.specs.Primitives.{World, character_of, gives, number_of_character, primitive, two_numbers};
+ghost use Rattle.s80_class.specs.Known.{IsKnown as IsKnownTable};
 ghost use Rattle.s80_class.specs.Table.{Table};
 ghost use Rattle.s80_prims.specs.Rows.{Applies, came_to, world_of};
 
@@ -13,8 +15,8 @@ pub use crate::applied::instances::same;
 use crate::applied::instances::{new_indexed, new_plain};
 use crate::applied::items::{character_at, item, put, put_character, size};
 use crate::applied::strings::{error, intern, print_string, write};
-use crate::classes::class_of;
 use crate::integers::{arithmetic, truth};
+use crate::kernel::Kernel;
 use crate::stop::Stop;
 use s80_base::{OutOfMemory, Text};
 use s80_class::ClassTable;
@@ -31,18 +33,21 @@ pub enum Applied {
     Stops(Stop),
 }
 
-/// Applies the primitive of this number. Those that activate a block or send a message are the machine's own, and fail here.
-/// When out of memory, nothing is changed.
+/// Applies the primitive of this number, where the kernel's classes have these numbers.
+/// Those that activate a block or send a message are the machine's own, and fail here. When out of memory, nothing is changed.
 pub fn apply(
     alloc: Global,
     n: u8,
     receiver: Value,
     arguments: &[Value],
+    kernel: &Kernel,
     classes: &ClassTable,
     objects: &mut Objects,
     transcript: &mut Text,
 ) -> Result<Applied, OutOfMemory>
     requires kernel { HasKernel classes.now }
+    requires known { IsKnownTable classes.now }
+    requires numbers { AreNumbers classes.now kernel.now }
     requires receiver { IsKnown classes.now objects.old receiver }
     requires arguments { All (IsKnown classes.now objects.old) arguments.now }
     requires objects { AreKnown classes.now objects.old }
@@ -50,8 +55,8 @@ pub fn apply(
     ensures err { OnErr result ((objects.new ≡ objects.old) × (transcript.new ≡ transcript.old)) }
 {
     match arguments {
-        [] => alone(alloc, n, receiver, classes, objects),
-        [a] => with_one(alloc, n, receiver, *a, classes, objects, transcript),
+        [] => alone(alloc, n, receiver, kernel, classes, objects),
+        [a] => with_one(alloc, n, receiver, *a, kernel, classes, objects, transcript),
         [a, b] => Ok(with_two(n, receiver, *a, *b, objects)),
         _ => Ok(Applied::Fails),
     }
@@ -61,10 +66,13 @@ fn alone(
     alloc: Global,
     n: u8,
     r: Value,
+    kernel: &Kernel,
     classes: &ClassTable,
     objects: &mut Objects,
 ) -> Result<Applied, OutOfMemory>
     requires kernel { HasKernel classes.now }
+    requires known { IsKnownTable classes.now }
+    requires numbers { AreNumbers classes.now kernel.now }
     requires receiver { IsKnown classes.now objects.old r }
     requires objects { AreKnown classes.now objects.old }
     ensures ok { IfOk result (λ applied. Applies objects.old objects.new applied (primitive classes.now n r [])) }
@@ -72,11 +80,11 @@ fn alone(
 {
     match n {
         62 => Ok(gives(size(objects, r))),
-        70 => new_plain(alloc, classes, r, objects),
-        111 => Ok(Applied::Done(class_of(alloc, classes, objects, r)?)),
+        70 => new_plain(kernel, classes, r, objects),
+        111 => Ok(Applied::Done(kernel.class_value(objects, r))),
         130 => Ok(gives(number_of_character(r))),
-        132 => intern(alloc, classes, r, objects),
-        133 => print_string(alloc, classes, r, objects),
+        132 => intern(alloc, kernel, classes, r, objects),
+        133 => print_string(alloc, kernel, classes, r, objects),
         _ => Ok(Applied::Fails),
     }
 }
@@ -86,11 +94,14 @@ fn with_one(
     n: u8,
     r: Value,
     a: Value,
+    kernel: &Kernel,
     classes: &ClassTable,
     objects: &mut Objects,
     transcript: &mut Text,
 ) -> Result<Applied, OutOfMemory>
     requires kernel { HasKernel classes.now }
+    requires known { IsKnownTable classes.now }
+    requires numbers { AreNumbers classes.now kernel.now }
     requires receiver { IsKnown classes.now objects.old r }
     requires argument { IsKnown classes.now objects.old a }
     requires objects { AreKnown classes.now objects.old }
@@ -100,10 +111,10 @@ fn with_one(
     match n {
         60 => Ok(gives(item(objects, r, a))),
         63 => Ok(gives(character_at(objects, r, a))),
-        71 => new_indexed(alloc, classes, r, a, objects),
+        71 => new_indexed(kernel, classes, r, a, objects),
         110 => Ok(Applied::Done(truth(same(r, a)))),
-        128 => write(alloc, classes, r, a, objects, transcript),
-        129 => error(alloc, classes, a, objects),
+        128 => write(alloc, kernel, classes, r, a, objects, transcript),
+        129 => error(alloc, kernel, classes, a, objects),
         131 => Ok(gives(character_of(a))),
         _ => Ok(gives(two_numbers(n, r, a))),
     }

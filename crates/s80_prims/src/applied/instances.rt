@@ -1,38 +1,41 @@
 // The primitives that make new instances, and identity.
 ghost use Rattle.std.specs.Prelude.{◌≡◌, ◌⊎◌, IfOk, IfSome, OnErr, pos, ℕ};
 ghost use Rattle.s80_class.specs.Counted.{counted};
+ghost use Rattle.s80_class.specs.Known.{IsKnown as IsKnownTable};
 ghost use Rattle.s80_class.specs.Table.{IsClass};
 ghost use Rattle.s80_object.specs.Body.{BodyTree, blank};
 ghost use Rattle.s80_object.specs.Objects.{Makes, State};
 ghost use Rattle.s80_object.specs.declared.value.BodyKind.TheVariants.{Pointers};
 ghost use Rattle.s80_object.specs.declared.value.Value.TheVariants.{Small};
 ghost use Rattle.s80_prims.specs.Classes.{kind_of_class};
-ghost use Rattle.s80_prims.specs.Known.{HasKernel, IsKnown};
+ghost use Rattle.s80_prims.specs.Known.{IsKnown};
+ghost use Rattle.s80_prims.specs.Numbers.{AreNumbers};
 ghost use Rattle.s80_prims.specs.Primitives.{makes, new_plain, new_with, of_class, same};
 ghost use Rattle.s80_prims.specs.Rows.{Applies, class_to_make};
 
 use crate::applied::Applied;
-use crate::classes::{can_be_new, kind_of_class, variables_of};
+use crate::classes::{kind_of_class, variables_of};
+use crate::kernel::Kernel;
 use crate::stop::Stop;
 use s80_base::{OutOfMemory, Side};
 use s80_class::ClassTable;
 use s80_form::Kind;
 use s80_object::{BodyKind, ObjectFault, Objects, Value};
-use std::alloc::Global;
 
 /// A new instance without items.
 pub(crate) fn new_plain(
-    alloc: Global,
+    kernel: &Kernel,
     classes: &ClassTable,
     r: Value,
     objects: &mut Objects,
 ) -> Result<Applied, OutOfMemory>
-    requires kernel { HasKernel classes.now }
+    requires known { IsKnownTable classes.now }
+    requires numbers { AreNumbers classes.now kernel.now }
     requires receiver { IsKnown classes.now objects.old r }
     ensures ok { IfOk result (λ applied. Applies objects.old objects.new applied (λ w. of_class classes.now w r (λ c. new_plain classes.now w c (kind_of_class classes.now c)))) }
     ensures err { OnErr result (objects.new ≡ objects.old) }
 {
-    let Some(class) = class_to_make(alloc, classes, r)? else {
+    let Some(class) = class_to_make(kernel, classes, r) else {
         return Ok(Applied::Fails);
     };
     match kind_of_class(classes, class) {
@@ -46,36 +49,38 @@ pub(crate) fn new_plain(
 
 /// A new instance with so many items.
 pub(crate) fn new_indexed(
-    alloc: Global,
+    kernel: &Kernel,
     classes: &ClassTable,
     r: Value,
     a: Value,
     objects: &mut Objects,
 ) -> Result<Applied, OutOfMemory>
-    requires kernel { HasKernel classes.now }
+    requires known { IsKnownTable classes.now }
+    requires numbers { AreNumbers classes.now kernel.now }
     requires receiver { IsKnown classes.now objects.old r }
     ensures ok { IfOk result (λ applied. Applies objects.old objects.new applied (λ w. new_with classes.now w r a)) }
     ensures err { OnErr result (objects.new ≡ objects.old) }
 {
     match a {
-        Value::Small(count) if count >= 0 => { new_with(alloc, classes, r, count as u32, objects) }
+        Value::Small(count) if count >= 0 => { new_with(kernel, classes, r, count as u32, objects) }
         _ => Ok(Applied::Fails),
     }
 }
 
 fn new_with(
-    alloc: Global,
+    kernel: &Kernel,
     classes: &ClassTable,
     r: Value,
     count: u32,
     objects: &mut Objects,
 ) -> Result<Applied, OutOfMemory>
-    requires kernel { HasKernel classes.now }
+    requires known { IsKnownTable classes.now }
+    requires numbers { AreNumbers classes.now kernel.now }
     requires receiver { IsKnown classes.now objects.old r }
     ensures ok { IfOk result (λ applied. Applies objects.old objects.new applied (λ w. new_with classes.now w r (Small (pos count)))) }
     ensures err { OnErr result (objects.new ≡ objects.old) }
 {
-    let Some(class) = class_to_make(alloc, classes, r)? else {
+    let Some(class) = class_to_make(kernel, classes, r) else {
         return Ok(Applied::Fails);
     };
     match kind_of_class(classes, class) {
@@ -90,17 +95,16 @@ fn new_with(
 }
 
 // The class of which a receiver makes an instance.
-fn class_to_make(alloc: Global, classes: &ClassTable, r: Value) -> Result<Option<u32>, OutOfMemory>
-    requires kernel { HasKernel classes.now }
+fn class_to_make(kernel: &Kernel, classes: &ClassTable, r: Value) -> Option<u32>
+    requires known { IsKnownTable classes.now }
+    requires numbers { AreNumbers classes.now kernel.now }
     requires receiver { (objects : State) × IsKnown classes.now objects r }
-    ensures is { IfOk result (λ class. class ≡ class_to_make classes.now r) }
-    ensures class { IfOk result (λ class. IfSome class (IsClass classes.now.names)) }
+    ensures is { result ≡ class_to_make classes.now r }
+    ensures class { IfSome result (IsClass classes.now.names) }
 {
     match r {
-        Value::ClassRef(class, Side::Instance) if can_be_new(alloc, classes, class)? => {
-            Ok(Some(class))
-        }
-        _ => Ok(None),
+        Value::ClassRef(class, Side::Instance) if kernel.can_be_new(classes, class) => Some(class),
+        _ => None,
     }
 }
 

@@ -1,7 +1,9 @@
 // The primitives of strings and symbols.
 ghost use Rattle.std.specs.Prelude.{◌≡◌, IfOk, List, Option, OnErr, ℕ};
+ghost use Rattle.s80_class.specs.Known.{IsKnown as IsKnownTable};
 ghost use Rattle.s80_object.specs.Objects.{State};
 ghost use Rattle.s80_prims.specs.Known.{AreKnown, HasKernel, IsKnown};
+ghost use Rattle.s80_prims.specs.Numbers.{AreNumbers};
 ghost use Rattle.s80_prims.specs.Primitives.{names, prints, readable_bytes, stops, text_bytes, with_text, writes};
 ghost use Rattle.s80_prims.specs.Rows.{Applies, came_to, text_if, world_of};
 ghost use Rattle.s80_prims.specs.declared.stop.Stop.TheVariants.{Error};
@@ -9,7 +11,7 @@ ghost use Rattle.s80_prims.specs.declared.stop.Stop.TheVariants.{Error};
 use crate::applied::Applied;
 use crate::applied::instances::made;
 use crate::applied::items::readable_bytes;
-use crate::classes::{is_kind_of, kernel_number};
+use crate::kernel::Kernel;
 use crate::print::print_value;
 use crate::stop::Stop;
 use s80_base::{OutOfMemory, Text};
@@ -22,19 +24,21 @@ const TRANSCRIPT_LIMIT: usize = 65_536;
 /// Writes the bytes of a string or a symbol to the transcript.
 pub(crate) fn write(
     alloc: Global,
+    kernel: &Kernel,
     classes: &ClassTable,
     r: Value,
     a: Value,
     objects: &Objects,
     transcript: &mut Text,
 ) -> Result<Applied, OutOfMemory>
-    requires kernel { HasKernel classes.now }
+    requires known { IsKnownTable classes.now }
+    requires numbers { AreNumbers classes.now kernel.now }
     requires argument { IsKnown classes.now objects.now a }
     requires objects { AreKnown classes.now objects.now }
     ensures ok { IfOk result (λ applied. let w = world_of objects.now transcript.old in came_to applied (world_of objects.now transcript.new) ≡ with_text w (text_bytes classes.now objects.now a) (writes w r)) }
     ensures err { OnErr result (transcript.new ≡ transcript.old) }
 {
-    match text_of(alloc, classes, objects, a)? {
+    match text_of(alloc, kernel, classes, objects, a)? {
         Some(text) => add(r, &text, transcript),
         None => Ok(Applied::Fails),
     }
@@ -43,16 +47,18 @@ pub(crate) fn write(
 /// Stops with the bytes of a string or a symbol.
 pub(crate) fn error(
     alloc: Global,
+    kernel: &Kernel,
     classes: &ClassTable,
     a: Value,
     objects: &Objects,
 ) -> Result<Applied, OutOfMemory>
-    requires kernel { HasKernel classes.now }
+    requires known { IsKnownTable classes.now }
+    requires numbers { AreNumbers classes.now kernel.now }
     requires argument { IsKnown classes.now objects.now a }
     requires objects { AreKnown classes.now objects.now }
     ensures { IfOk result (λ applied. Applies objects.now objects.now applied (λ w. with_text w (text_bytes classes.now objects.now a) (λ text. stops w (Error text)))) }
 {
-    match text_of(alloc, classes, objects, a)? {
+    match text_of(alloc, kernel, classes, objects, a)? {
         Some(text) => Ok(Applied::Stops(Stop::Error(text))),
         None => Ok(Applied::Fails),
     }
@@ -61,17 +67,19 @@ pub(crate) fn error(
 /// The symbol of the bytes of a string or a symbol.
 pub(crate) fn intern(
     alloc: Global,
+    kernel: &Kernel,
     classes: &ClassTable,
     r: Value,
     objects: &mut Objects,
 ) -> Result<Applied, OutOfMemory>
-    requires kernel { HasKernel classes.now }
+    requires known { IsKnownTable classes.now }
+    requires numbers { AreNumbers classes.now kernel.now }
     requires receiver { IsKnown classes.now objects.old r }
     requires objects { AreKnown classes.now objects.old }
     ensures ok { IfOk result (λ applied. Applies objects.old objects.new applied (λ w. with_text w (text_bytes classes.now objects.old r) (names w))) }
     ensures err { OnErr result (objects.new ≡ objects.old) }
 {
-    match text_of(alloc, classes, objects, r)? {
+    match text_of(alloc, kernel, classes, objects, r)? {
         Some(text) => Ok(Applied::Done(objects.symbol(&text)?)),
         None => Ok(Applied::Fails),
     }
@@ -80,19 +88,20 @@ pub(crate) fn intern(
 /// A string of the printed form.
 pub(crate) fn print_string(
     alloc: Global,
+    kernel: &Kernel,
     classes: &ClassTable,
     r: Value,
     objects: &mut Objects,
 ) -> Result<Applied, OutOfMemory>
     requires kernel { HasKernel classes.now }
+    requires numbers { AreNumbers classes.now kernel.now }
     requires receiver { IsKnown classes.now objects.old r }
     requires objects { AreKnown classes.now objects.old }
     ensures ok { IfOk result (λ applied. Applies objects.old objects.new applied (λ w. prints classes.now w r)) }
     ensures err { OnErr result (objects.new ≡ objects.old) }
 {
     let text = print_value(alloc, classes, objects, r)?;
-    let class = kernel_number(alloc, classes, b"String")?;
-    made(objects.make_bytes(class, &text))
+    made(objects.make_bytes(kernel.string, &text))
 }
 
 // Adds to the transcript, where it has room.
@@ -113,16 +122,18 @@ fn add(r: Value, text: &Text, transcript: &mut Text) -> Result<Applied, OutOfMem
 // The bytes of a string or a symbol.
 fn text_of(
     alloc: Global,
+    kernel: &Kernel,
     classes: &ClassTable,
     objects: &Objects,
     v: Value,
 ) -> Result<Option<Text>, OutOfMemory>
-    requires kernel { HasKernel classes.now }
+    requires known { IsKnownTable classes.now }
+    requires numbers { AreNumbers classes.now kernel.now }
     requires value { IsKnown classes.now objects.now v }
     requires objects { AreKnown classes.now objects.now }
     ensures { IfOk result (λ text. text ≡ text_bytes classes.now objects.now v) }
 {
-    if !is_text(alloc, classes, objects, v)? {
+    if !is_text(kernel, classes, objects, v) {
         return Ok(None);
     }
     match readable_bytes(objects, v) {
@@ -132,22 +143,18 @@ fn text_of(
 }
 
 // Whether a value is a string or a symbol.
-fn is_text(
-    alloc: Global,
-    classes: &ClassTable,
-    objects: &Objects,
-    v: Value,
-) -> Result<bool, OutOfMemory>
-    requires kernel { HasKernel classes.now }
+fn is_text(kernel: &Kernel, classes: &ClassTable, objects: &Objects, v: Value) -> bool
+    requires known { IsKnownTable classes.now }
+    requires numbers { AreNumbers classes.now kernel.now }
     requires value { IsKnown classes.now objects.now v }
     requires objects { AreKnown classes.now objects.now }
-    ensures { IfOk result (λ is. text_bytes classes.now objects.now v ≡ text_if is (readable_bytes objects.now v)) }
+    ensures { text_bytes classes.now objects.now v ≡ text_if result (readable_bytes objects.now v) }
 {
     if let Value::Symbol(_) = v {
-        return Ok(true);
+        return true;
     }
     match objects.class_at(v) {
-        Some((class, BodyKind::Bytes)) => is_kind_of(alloc, classes, class, b"String"),
-        _ => Ok(false),
+        Some((class, BodyKind::Bytes)) => kernel.is_string(classes, class),
+        _ => false,
     }
 }

@@ -7,12 +7,12 @@ pub returns-in-Bytes-clause-ok : goal.returns-in-Bytes-clause-ok
 returns-in-Bytes-clause-ok c =
     IfOk-weaker c.make-in-Bytes.result _ _
     (λ applied made. bytes_are c.args.classes.now c.args.objects.now c.make-in-Bytes.new.objects c.args.r c.in-Some.class c.args.count applied
-    (sym c.in_ok-class.ensures.is ∙ c.in-Some.is) (sym c.kind_of_class.ensures ∙ c.in-Bytes.is) (made 0 refl))
+    (sym c.class_to_make.ensures.is ∙ c.in-Some.is) (sym c.kind_of_class.ensures ∙ c.in-Bytes.is) (made 0 refl))
     c.make-in-Bytes.ensures.ok
 
 pub returns-in-Words-clause-ok : goal.returns-in-Words-clause-ok
 returns-in-Words-clause-ok c =
     IfOk-weaker c.make-in-Words.result _ _
     (λ applied made. words_are c.args.classes.now c.args.objects.now c.make-in-Words.new.objects c.args.r c.in-Some.class c.args.count applied
-    (sym c.in_ok-class.ensures.is ∙ c.in-Some.is) (sym c.kind_of_class.ensures ∙ c.in-Words.is) (made 0 refl))
+    (sym c.class_to_make.ensures.is ∙ c.in-Some.is) (sym c.kind_of_class.ensures ∙ c.in-Words.is) (made 0 refl))
     c.make-in-Words.ensures.ok

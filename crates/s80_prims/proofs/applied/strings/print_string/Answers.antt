@@ -1,18 +1,12 @@
-use Rattle.std.proofs.Common.{refl}
 use Rattle.std.proofs.lemmas.Result.{IfOk-weaker, on_err_weaker}
 use Rattle.s80_prims.proofs.ApplyLemmas.{print_is}
-use Rattle.s80_kernel.specs.Rows as rows
 use Rattle.s80_prims.proofs.applied.strings.print_string.Goals as goal
-
-pub kernel_number-requires-clause-name : goal.kernel_number-requires-clause-name
-unfolding rows.is_kernel_class
-kernel_number-requires-clause-name c = refl
 
 pub returns-clause-ok : goal.returns-clause-ok
 returns-clause-ok c =
     IfOk-weaker c.made.result _ _
-    (λ applied made. print_is c.args.classes.now c.args.objects.now c.make_bytes.new.self c.args.r c.in_ok-text.text c.in_ok-class.class applied
-    c.in_ok-text.ensures c.in_ok-class.ensures.number (made _ _ _ c.make_bytes.ensures))
+    (λ applied made. print_is c.args.classes.now c.args.objects.now c.make_bytes.new.self c.args.r c.in_ok-text.text c.args.kernel.now.string applied
+    c.in_ok-text.ensures c.requires.numbers.string (made _ _ _ c.make_bytes.ensures))
     c.made.ensures.ok
 
 pub returns-clause-err : goal.returns-clause-err
