@@ -10,13 +10,10 @@ use Rattle.s80_class.specs.Table.{Table, IsNumberOf}
 use Rattle.s80_method.specs.Shape.{shape_of}
 use Rattle.s80_apply.specs.List.{state_of}
 use Rattle.s80_apply.specs.State.{MethodRow, State}
-use Rattle.s80_prims.specs.declared.stop.Outcome.{Outcome}
-use Rattle.s80_print.specs.Outcome.{outcome_text}
 use Rattle.s80_meaning.specs.Meaning.{Methods, eval}
-use Rattle.s80_meaning.specs.Renamed.{AreOneHouse, IsByName, IsHouse, small_of}
+use Rattle.s80_meaning.specs.Renamed.{AreOneHouse, AreToldAlike, IsByName, IsHouse}
 use Rattle.s80_meaning.specs.Tree.{Meant, meant_in}
 use Rattle.s80_doit.specs.Answer.{AnswersSmall, AreOfState, EvaluatesTo, IsMeantBy, IsMethodAt, doit_meant}
-use Rattle.s80_doit.specs.DoIt.{is_stopped}
 use Rattle.s80_doit.proofs.Evaluated.{smalls_alike, stopped_alike}
 use Rattle.s80_doit.proofs.Setting.{KernelLasts, there}
 
@@ -63,24 +60,24 @@ module _ (changes : List Change) where
         one_meaning one state.classes name side (map.get (state.methods name side) selector) (methods c side selector) (others d side selector) (named t methods are name c is side selector) (named u others also name d at side selector);
   }
 
+  -- two evaluations of one text come to outcomes that are told alike
+  one_outcome : KernelLasts → OneMethodTree → OneDoItTree → ByName → (text : List ℕ) (budget : ℕ) (told other : List ℕ) (stopped also : Bool) → (e : EvaluatesTo state text budget told stopped) → (f : EvaluatesTo state text budget other also)
+      → AreToldAlike e.table f.table e.outcome f.outcome
+  one_outcome lasts one one_doit by_name text budget told other stopped also e f =
+      let same : f.tree ≡ e.tree = one_doit text f.tree e.tree f.tree_is e.tree_is in
+      let alike = by_name e.table f.table e.methods f.methods (doit_meant e.tree) budget (one_house lasts one e.table f.table e.methods f.methods e.are f.are) e.outcome e.evaluates in
+      let is : Some alike.0 ≡ Some f.outcome = sym alike.1 ∙ ap (λ (t : DoItParts). eval f.table f.methods (doit_meant t) budget) (sym same) ∙ f.evaluates in
+      let outcome_is : alike.0 ≡ f.outcome = cc in
+      subst (AreToldAlike e.table f.table e.outcome) outcome_is alike.2
+
   pub told_once : KernelLasts → OneMethodTree → OneDoItTree → ByName → (text : List ℕ) (budget : ℕ) (told other : List ℕ) (stopped also : Bool) → EvaluatesTo state text budget told stopped → EvaluatesTo state text budget other also
       → (other ≡ told) × (also ≡ stopped)
   told_once lasts one one_doit by_name text budget told other stopped also e f =
-      let same : f.tree ≡ e.tree = one_doit text f.tree e.tree f.tree_is e.tree_is in
-      let alike = by_name e.table f.table e.methods f.methods (doit_meant e.tree) budget (one_house lasts one e.table f.table e.methods f.methods e.are f.are) e.outcome e.evaluates in
-      let is : Some f.outcome ≡ Some alike.0 = sym f.evaluates ∙ ap (λ (t : DoItParts). eval f.table f.methods (doit_meant t) budget) same ∙ alike.1 in
-      let outcome_is : f.outcome ≡ alike.0 = cc in (
-        f.told_is ∙ ap (outcome_text f.table) outcome_is ∙ alike.2.text ∙ sym e.told_is,
-        f.stopped_is ∙ ap (λ (o : Outcome). is_stopped o.end) outcome_is ∙ stopped_alike e.outcome.end alike.0.end alike.2.end ∙ sym e.stopped_is,
-      )
+      let alike = one_outcome lasts one one_doit by_name text budget told other stopped also e f in
+      (f.told_is ∙ alike.text ∙ sym e.told_is, f.stopped_is ∙ stopped_alike e.outcome.end f.outcome.end alike.end ∙ sym e.stopped_is)
 
   pub one_small : KernelLasts → OneMethodTree → OneDoItTree → ByName → (text : List ℕ) (budget : ℕ) (told other : List ℕ) (stopped also : Bool) (small another : Option ℤ) → AnswersSmall state text budget told stopped small
       → AnswersSmall state text budget other also another → another ≡ small
   one_small lasts one one_doit by_name text budget told other stopped also small another a b =
-      let e = a.evaluation in
-      let f = b.evaluation in
-      let same : f.tree ≡ e.tree = one_doit text f.tree e.tree f.tree_is e.tree_is in
-      let alike = by_name e.table f.table e.methods f.methods (doit_meant e.tree) budget (one_house lasts one e.table f.table e.methods f.methods e.are f.are) e.outcome e.evaluates in
-      let is : Some f.outcome ≡ Some alike.0 = sym f.evaluates ∙ ap (λ (t : DoItParts). eval f.table f.methods (doit_meant t) budget) same ∙ alike.1 in
-      let outcome_is : f.outcome ≡ alike.0 = cc in
-      b.small_is ∙ ap (λ (o : Outcome). small_of o.end) outcome_is ∙ smalls_alike e.outcome.end alike.0.end alike.2.end ∙ sym a.small_is
+      let alike = one_outcome lasts one one_doit by_name text budget told other stopped also a.evaluation b.evaluation in
+      b.small_is ∙ smalls_alike a.evaluation.outcome.end b.evaluation.outcome.end alike.end ∙ sym a.small_is

@@ -37,6 +37,9 @@ KernelLasts = (changes : List Change) (name : Name) (row : ClassRow) → map.get
 abbrev pub KernelIsPlain : Type 0
 KernelIsPlain = (changes : List Change) (name : Name) → is_kernel_class name ≡ true → name ≢ codes "Message" → (inherited_of (classes_of changes) name).inst_vars ≡ 0
 
+abbrev pub MessageHasTwo : Type 0
+MessageHasTwo = (changes : List Change) → (inherited_of (classes_of changes) (codes "Message")).inst_vars ≡ 2
+
 abbrev pub BitsArePlain : Type 0
 BitsArePlain = (changes : List Change) (name : Name) (row : ClassRow) → map.get (classes_of changes) name ≡ Some row
     → is_bits (inherited_of (classes_of changes) name).kind ≡ true → (inherited_of (classes_of changes) name).inst_vars ≡ 0
@@ -70,6 +73,7 @@ DoItHasNo part = (tree : DoItParts) (code : Code) → Agrees tree code → part 
 pub record Laws : Type 0 where
   pub lasts : KernelLasts
   pub plain : KernelIsPlain
+  pub message : MessageHasTwo
   pub bits : BitsArePlain
   pub few : FewOn inst_vars_of
   pub few_of_class : FewOn class_side_vars_of
@@ -112,6 +116,9 @@ module _ (t : Table) (changes : List Change) (of : t.classes ≡ classes_of chan
     plain : (word : Name) → is_kernel_class word ≡ true → word ≢ codes "Message" → (inherited_of t.classes word).inst_vars ≡ 0
     plain word is other = ap (λ classes. inst_vars_of classes word) of ∙ laws.plain changes word is other
 
+    message : (inherited_of t.classes (codes "Message")).inst_vars ≡ 2
+    message = ap (λ classes. inst_vars_of classes (codes "Message")) of ∙ laws.message changes
+
     bits : (c : ℕ) → IsClass t.names c → is_bits (kind_of_class t c) ≡ true → variables_of t c ≡ 0
     bits c (name, named) is =
         let seen : inherited_of t.classes (class_name t c) ≡ inherited_of (classes_of changes) name = λ i. inherited_of (of i) (name_is c name named i) in
@@ -132,6 +139,7 @@ module _ (t : Table) (changes : List Change) (of : t.classes ≡ classes_of chan
       kernel = has_kernel laws.lasts;
       numbers = has_numbers;
       plain = plain;
+      message = message;
       bits = bits;
       methods_suit = λ c side selector entry stands.
           let has = codes_are c side selector entry stands in

@@ -21,9 +21,7 @@ pub fn runs_are_evaluations()
         → AreGiven system → IsSystemOf system state → IsRunOf system text budget ran
         → EvaluatesTo state text budget (outcome_text system.table ran.outcome) (is_stopped ran.outcome.end) }
 {
-    code_means_its_trees();
-    trees_are_told_alike();
-    trees_are_well_sent();
+    runs_answer_the_smalls_of_trees();
 }
 
 /// In the state of a list, under a budget, a text is told one thing.

@@ -1,5 +1,5 @@
 -- Messages: the class of a receiver, and the class of a method.
-use Rattle.std.proofs.Common.{◌≡◌, ◌∙◌, ap, sym, subst, refl, ℕ, ◌≤◌, List, [], ◌∷◌, codes, drop, get_or, slice_get, All, Option, Some, None, IfSome, unwrap_or, arith, inl, inr, ◌==◌, Bool, true, false, map, zero, suc}
+use Rattle.std.proofs.Common.{◌≡◌, ◌∙◌, ap, sym, subst, refl, ℕ, ◌≤◌, List, [], ◌∷◌, codes, drop, get_or, slice_get, All, Option, Some, None, IfSome, unwrap_or, arith, ◌==◌, Bool, true, false, if◌then◌else◌, map, option_and_then, zero, suc}
 use Rattle.std.specs.FinMap as map_of
 use Rattle.std.specs.Option.{option_map, option_map_or}
 use Rattle.std.proofs.lemmas.Option.{slice_get_within}
@@ -16,24 +16,26 @@ use Rattle.s80_code.proofs.lemmas.TableLemmas.{value}
 use Rattle.s80_dict.specs.Table.{MethodsValue, methods_at}
 use Rattle.s80_dict.specs.declared.dict.MethodEntry.{MethodEntry}
 use Rattle.s80_object.specs.Body.{BodyTree, pointers, bytes, words, home as home_body, block as block_body}
-use Rattle.s80_object.specs.Objects.{State as Objects, Opaque}
+use Rattle.s80_object.specs.Objects.{State as Objects, Opaque, text_of}
 use Rattle.s80_object.specs.declared.value.Value.{Value}
 use Rattle.s80_object.specs.declared.value.Value.TheVariants.{Small, Character, Nil, True, False, Symbol, Number, ClassRef, Object, Context as ContextValue, Transcript, Smalltalk}
 use Rattle.s80_prims.specs.Classes.{body_class, class_of, kernel_class, number_class}
 use Rattle.s80_prims.specs.Known.{AreKnown, BodyIsKnown, IsKnown}
-use Rattle.s80_lex.specs.Selector.{IsSelectorOf, is_name}
-use Rattle.s80_lex.proofs.lemmas.SelectorLemmas.{is_name_when, name_is as is_a_name, some_names}
+use Rattle.s80_prims.specs.Numbers.{IsNumber, class_place}
+use Rattle.s80_lex.specs.Selector.{IsSelectorOf}
 use Rattle.s80_machine.specs.declared.methods.Activated.{Activated}
 use Rattle.s80_machine.specs.World.{Key, doit, method}
-use Rattle.s80_class.specs.Lookup.{Place, number, places_up, IsFound}
+use Rattle.s80_class.specs.Lookup.{Place, number, places_up}
+use Rattle.s80_machine.specs.Shared.{if_selector, parameters, selector_of}
 use Rattle.s80_machine.specs.Step.{code_for}
 use Rattle.s80_machine.specs.Sound.{IsSetting}
-use Rattle.s80_machine.specs.Seen.{Given, IsActivated, IsNumber, Method, class_place, place_in, FoundCode}
+use Rattle.s80_machine.specs.Seen.{Given, IsActivated, Method, place_in}
 use Rattle.s80_machine.specs.Came.{IsGiven, above}
-use Rattle.s80_machine.specs.Messages.{finds, own_place}
+use Rattle.s80_machine.specs.Messages.{own_place}
 use Rattle.s80_machine.proofs.SoundClasses.{kernel_number}
-use Rattle.s80_machine.proofs.lemmas.SoundLists.{all_got, got_there, same_number}
+use Rattle.s80_machine.proofs.lemmas.SoundLists.{all_got, got_there}
 use Rattle.s80_machine.proofs.SoundOperands.{special_there}
+use Rattle.s80_machine.proofs.Parameters.{parameters_tell, parameters_when, selects}
 
 -- ---- the class of a known value
 
@@ -141,14 +143,14 @@ mapped_twice : {X Y Z : Type 0} (f : X → Y) (g : Y → Z) (o : Option X) → o
 mapped_twice f g None = refl
 mapped_twice f g (Some x) = refl
 
--- what is found above the place of the method of this number is found above its key
-pub above_found : (on : Given) (methods : List Method) (keys : List Key) (n k : ℕ) (key : Key) (selector : List ℕ) (place : Place) (found : Option FoundCode) → map (λ m. m.key) methods ≡ keys → slice_get keys k ≡ Some key
-    → n ≡ k → Some place ≡ option_map (λ m. own_place on.table m.key) (slice_get methods n) → IsFound (finds on selector (drop 1 (places_up on.table place.0 place.1))) found → IsFound (finds on selector (above on key)) found
-above_found on methods keys n k key selector place found shows there number is h =
+-- the places above that of the method of this number are those above its key
+pub above_places : (on : Given) (methods : List Method) (keys : List Key) (n k : ℕ) (key : Key) (place : Place) → map (λ m. m.key) methods ≡ keys → slice_get keys k ≡ Some key → n ≡ k
+    → Some place ≡ option_map (λ m. own_place on.table m.key) (slice_get methods n) → drop 1 (places_up on.table place.0 place.1) ≡ above on key
+above_places on methods keys n k key place shows there number is =
     let of : Method → Key = λ m. m.key in
     let kept : option_map of (slice_get methods n) ≡ Some key = sym (mapped_at of methods n) ∙ ap (λ l. slice_get l n) shows ∙ ap (slice_get keys) number ∙ there in
     let same : place ≡ own_place on.table key = value (is ∙ sym (mapped_twice of (own_place on.table) (slice_get methods n)) ∙ ap (option_map (own_place on.table)) kept) in
-    subst (λ places. IsFound (finds on selector places) found) (sym (above_own on key)) (subst (λ (p : Place). IsFound (finds on selector (drop 1 (places_up on.table p.0 p.1))) found) same h)
+    ap (λ (p : Place). drop 1 (places_up on.table p.0 p.1)) same ∙ sym (above_own on key)
 
 -- ---- special messages
 
@@ -158,24 +160,24 @@ special_takes n word e =
     let there = special_there n below in
     subst (IsSelectorOf (get_or special_arguments n 0)) (value (sym there.1 ∙ sym e)) there.2
 
--- ---- selectors without parameters
+-- ---- selectors of so many parameters
 
-name_of : (word : List ℕ) → IsSelectorOf 0 word → is_name word ≡ true
-name_of word (inl a) = is_name_when word a.0
-name_of word (inr (inl b)) = cc
-name_of word (inr (inr k)) = absurd (some_names k.names k.some (sym k.counted))
-
-pub unary_is : (word : List ℕ) (o : Option ℕ) → ((n : ℕ) → (o ≡ Some n → IsSelectorOf n word) × (IsSelectorOf n word → o ≡ Some n)) → option_map_or (λ n. n == 0) o false ≡ is_name word
-unary_is word o h = by_name (is_name word) refl
+-- what counts a selector's parameters counts as many
+pub counts_them : (word : List ℕ) (o : Option ℕ) → ((n : ℕ) → (o ≡ Some n → IsSelectorOf n word) × (IsSelectorOf n word → o ≡ Some n)) → o ≡ parameters word
+counts_them word (Some n) h = sym (parameters_when word n ((h n).0 refl))
+counts_them word None h = go (parameters word) refl
   where
-    by_number : (n : ℕ) (b : Bool) → (n == 0) ≡ b → (Some n ≡ Some 0 → is_name word ≡ true) → is_name word ≡ false → b ≡ false
-    by_number n true is named none = sym (named (ap (λ k. Some k) (same_number n 0 is))) ∙ none
-    by_number n false is named none = refl
+    go : (o : Option ℕ) → parameters word ≡ o → None ≡ o
+    go None is = refl
+    go (Some n) is = (h n).1 (parameters_tell word n is)
 
-    by_parameters : (o : Option ℕ) → (o ≡ Some 0 → is_name word ≡ true) → is_name word ≡ false → option_map_or (λ n. n == 0) o false ≡ false
-    by_parameters None named none = refl
-    by_parameters (Some n) named none = by_number n (n == 0) refl named none
+-- a selector of so many parameters
+pub takes_so : (word : List ℕ) (count : ℕ) → option_map_or (λ n. n == count) (parameters word) false ≡ true → IsSelectorOf count word
+takes_so word count is = selects count word word (ap (λ (b : Bool). if b then Some word else None) is)
 
-    by_name : (b : Bool) → is_name word ≡ b → option_map_or (λ n. n == 0) o false ≡ b
-    by_name true is = ap (λ o. option_map_or (λ n. n == 0) o false) ((h 0).1 (inl (is_a_name word is, refl)))
-    by_name false is = by_parameters o (λ e. name_of word ((h 0).0 e)) is
+-- what a symbol is that is one of so many
+pub selector_is : (s : Objects) (v : Value) (n count : ℕ) (text copy : List ℕ) → v ≡ Symbol n → Some text ≡ text_of s (Symbol n) → option_map_or (λ n. n == count) (parameters text) false ≡ true → copy ≡ text
+    → Some copy ≡ selector_of s v count
+selector_is s v n count text copy is there takes same =
+    ap (λ t. Some t) same
+    ∙ sym (ap (λ v. selector_of s v count) is ∙ ap (option_and_then (if_selector count)) (sym there) ∙ ap (λ (b : Bool). if b then Some text else None) takes)

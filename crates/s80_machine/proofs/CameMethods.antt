@@ -1,5 +1,5 @@
 -- Messages: the method that is found, and what runs it.
-use Rattle.std.proofs.Common.{◌≡◌, ◌∙◌, ap, sym, subst, refl, ℕ, ◌+◌, ◌++◌, ◌==◌, cond, List, [], ◌∷◌, find, length, nat_le, All, Option, Some, None, Result, Ok, Err, Bool, true, false, unwrap_or, arith, if◌then◌else◌, option_and_then, pos, replicate, slice_get}
+use Rattle.std.proofs.Common.{◌≡◌, ◌∙◌, ap, sym, subst, refl, ℕ, ◌+◌, ◌++◌, ◌==◌, cond, List, [], ◌∷◌, drop, find, length, nat_le, All, Option, Some, None, Result, Ok, Err, Bool, true, false, unwrap_or, arith, if◌then◌else◌, option_and_then, pos, replicate, slice_get}
 use Rattle.std.specs.List.{AllByRecursion}
 use Rattle.std.specs.Option.{option_map, option_map_or}
 use Rattle.std.proofs.lemmas.List.Elements.{All-cons, All-nil}
@@ -33,12 +33,12 @@ use Rattle.s80_machine.specs.declared.machine.Machine.{Machine}
 use Rattle.s80_machine.specs.World.{World, Key, method, changed, reached}
 use Rattle.s80_machine.specs.Turn.{Context, waiting, Turn, Stuck, given, goes_on}
 use Rattle.s80_class.specs.Lookup.{Found, Place, IsFound}
-use Rattle.s80_machine.specs.Shared.{Block, at_once, block_with, is_value, unary_in}
-use Rattle.s80_machine.specs.Step.{block_activated, by_effect, by_primitive, found_turn, method_turn, special_turn}
+use Rattle.s80_machine.specs.Shared.{Block, at_once, block_with, does_not_understand, is_value, sent_in}
+use Rattle.s80_machine.specs.Step.{block_activated, by_effect, by_primitive, found_turn, method_turn, sent_on, special_turn}
 use Rattle.s80_machine.specs.Sound.{IsSetting}
 use Rattle.s80_machine.specs.Seen.{Does, EndsRun, Given, IsBlock, block_of, pushed, FoundCode}
 use Rattle.s80_machine.specs.Came.{Came, Shows, ShowsWorld, places, sends}
-use Rattle.s80_machine.specs.Messages.{Takes, activates, finds, performs, refuses, runs, runs_method, runs_primitive, sends_one}
+use Rattle.s80_machine.specs.Messages.{Takes, activates, finds, makes_message, performs, refuses, runs, runs_method, runs_primitive, sends_on}
 use Rattle.s80_machine.proofs.SoundClasses.{found_at}
 use Rattle.s80_machine.proofs.SoundEnds.{block_takes}
 use Rattle.s80_machine.proofs.lemmas.SoundLists.{same_number}
@@ -79,13 +79,13 @@ module _ (on : Given) (setting : IsSetting on.table on.methods on.code) (selecto
 
 module _ (on : Given) (sent : World → Option Turn) (at : List Place) (selector : List ℕ) (r : Value) (arguments : List Value) (below : List Context) (w : World) (new : Machine) (result : Result (Unit {0}) Halt) where
   abbrev of_found : Option (Found (MethodEntry Code)) → Turn
-  of_found o = found_turn on.table on.methods on.code on.budget o sent selector r arguments below w
+  of_found o = found_turn on.table on.methods on.code on.budget o (finds on does_not_understand at) sent selector r arguments below w
 
   abbrev of_method : Key → Code → Turn
   of_method key code = method_turn on.table on.methods on.code on.budget (sent w) key code r arguments below w
 
   -- nothing is found
-  pub found_none : IsFound (finds on selector at) None → Came on (refuses on (class_of on.table w.objects r) selector w) new result → Came on (runs on sent at selector r arguments below w) new result
+  pub found_none : IsFound (finds on selector at) None → Came on (sends_on on at selector r arguments below w) new result → Came on (runs on sent at selector r arguments below w) new result
   found_none is h = go (finds on selector at) is
     where
       go : (o : Option (Found (MethodEntry Code))) → IsFound o None → Came on (of_found o) new result
@@ -119,26 +119,31 @@ module _ (on : Given) (sent : World → Option Turn) (at : List Place) (selector
       (option_map_or (λ b. block_activated on.table on.methods on.code on.budget b arguments below w) (block_with w.objects r (length arguments)) run) run (runs_primitive on key code r arguments below w) none in
       found_code g is (subst (λ turn. Came on turn new result) same h)
 
-pub none_either : {A : Type 0} (b : Bool) (o : Option A) → o ≡ None → (if b then o else None) ≡ None
-none_either true o e = e
-none_either false o e = refl
-
 none_mapped : {A B : Type 0} (f : A → B) (b : Bool) (o : Option A) → None ≡ (if b then o else None) → (if b then option_map f o else None) ≡ None
 none_mapped f true o e = ap (option_map f) (sym e)
 none_mapped f false o e = refl
 
+-- the message of a primitive is sent with the arguments behind the first
+performs_is : (on : Given) (r : Value) (arguments : List Value) (below : List Context) (w : World)
+    → performs on r arguments below w ≡ option_map (λ u. sends on (places on w r) u r (drop 1 arguments) below w) (sent_in w.objects arguments)
+performs_is on r [] below w = refl
+performs_is on r (a ∷ arguments) below w = refl
+
 module _ (on : Given) (at : List Place) (selector : List ℕ) (r : Value) (arguments : List Value) (below : List Context) (w : World) (new : Machine) (result : Result (Unit {0}) Halt) (g : FoundCode)
     (found : IsFound (finds on selector at) (Some g)) where
   abbrev asked : Option (List ℕ)
-  asked = if g.entry.now.code.primitive == 83 then unary_in w.objects arguments else None
+  asked = if g.entry.now.code.primitive == 83 then sent_in w.objects arguments else None
 
   abbrev sends_it : List ℕ → Turn
-  sends_it u = sends_one on (places on w r) u r below w
+  sends_it u = sends on (places on w r) u r (drop 1 arguments) below w
 
   -- no message is asked for
   pub runs_found : None ≡ asked → Came on (runs_method on (method g.class g.side selector) g.entry.now.code r arguments below w) new result
       → Came on (runs on (performs on r arguments below) at selector r arguments below w) new result
-  runs_found none h = found_runs on (performs on r arguments below) at selector r arguments below w new result g found (none_mapped sends_it (g.entry.now.code.primitive == 83) (unary_in w.objects arguments) none) h
+  runs_found none h =
+      let test : Bool = g.entry.now.code.primitive == 83 in
+      found_runs on (performs on r arguments below) at selector r arguments below w new result g found
+      (ap (λ o. if test then o else None) (performs_is on r arguments below w) ∙ none_mapped sends_it test (sent_in w.objects arguments) none) h
 
   sent_turn : (n : ℕ) (o : Option (List ℕ)) (u : List ℕ) (x run p : Turn) → Some u ≡ (if n == 83 then o else None) → sends_it u ≡ (if n == 81 then x else (if n == 83 then unwrap_or (option_map sends_it o) run else p))
   sent_turn n o u x run p e = go (n == 83) refl e
@@ -155,10 +160,44 @@ module _ (on : Given) (at : List Place) (selector : List ℕ) (r : Value) (argum
       let key : Key = method g.class g.side selector in
       let code : Code = g.entry.now.code in
       let run : Turn = activates on key code r arguments below w in
+      let block : Turn = option_map_or (λ b. block_activated on.table on.methods on.code on.budget b arguments below w) (block_with w.objects r (length arguments)) run in
+      let other : Turn = runs_primitive on key code r arguments below w in
       let same =
-      sent_turn code.primitive (unary_in w.objects arguments) u
-      (option_map_or (λ b. block_activated on.table on.methods on.code on.budget b arguments below w) (block_with w.objects r (length arguments)) run) run (runs_primitive on key code r arguments below w) e in
+      sent_turn code.primitive (sent_in w.objects arguments) u block run other e
+      ∙ ap (λ o. if code.primitive == 81 then block else (if code.primitive == 83 then unwrap_or o run else other)) (sym (performs_is on r arguments below w)) in
       found_code on (performs on r arguments below) at selector r arguments below w new result g found (subst (λ turn. Came on turn new result) same h)
+
+-- ---- a message that isn't understood
+
+module _ (on : Given) (at : List Place) (selector : List ℕ) (r : Value) (arguments : List Value) (below : List Context) (w : World) (new : Machine) (result : Result (Unit {0}) Halt) where
+  abbrev of_other : Option (Found (MethodEntry Code)) → Turn
+  of_other o = sent_on on.table on.methods on.code on.budget o selector r arguments below w
+
+  -- no method takes it on
+  pub refused : IsFound (finds on does_not_understand at) None → Came on (refuses on (class_of on.table w.objects r) selector w) new result → Came on (sends_on on at selector r arguments below w) new result
+  refused is h = go (finds on does_not_understand at) is
+    where
+      go : (o : Option (Found (MethodEntry Code))) → IsFound o None → Came on (of_other o) new result
+      go None is = h
+      go (Some f) is = absurd is
+
+  -- this one does, with a Message
+  abbrev pub taken_on : Key → Code → Value → World → Turn
+  taken_on key code m = runs_method on key code r (m ∷ []) below
+
+  abbrev turn_of : Key → Code → Turn
+  turn_of key code = makes_message on selector arguments w (taken_on key code)
+
+  pub takes_on : (g : FoundCode) → IsFound (finds on does_not_understand at) (Some g) → Came on (turn_of (method g.class g.side does_not_understand) g.entry.now.code) new result
+      → Came on (sends_on on at selector r arguments below w) new result
+  takes_on g is h = go (finds on does_not_understand at) is
+    where
+      go : (o : Option (Found (MethodEntry Code))) → IsFound o (Some g) → Came on (of_other o) new result
+      go None is = absurd is
+      go (Some f) is =
+          subst (λ class. Came on (turn_of (method class f.side does_not_understand) f.entry.code) new result) is.0
+          (subst (λ side. Came on (turn_of (method g.class side does_not_understand) f.entry.code) new result) is.1
+          (subst (λ code. Came on (turn_of (method g.class g.side does_not_understand) code) new result) (ap (λ (e : MethodEntry Code). e.code) is.2) h))
 
 -- ---- blocks
 

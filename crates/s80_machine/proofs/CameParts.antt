@@ -103,11 +103,14 @@ module _ (on : Given) where
       sites = shows.sites;
     }
 
-    pub made_on : (go : World → Turn) (new : Machine) (result : Result (Unit {0}) Halt) → Came on (go (with_objects w (with_body w.objects b))) new result → Came on (with_room w b go) new result
-    made_on go new result came =
+    -- there is room for it
+    pub made_goes : (go : World → Turn) → with_room w b go ≡ go (with_objects w (with_body w.objects b))
+    made_goes go =
         let room : words_of w.objects.bodies + cost b ≤ word_limit = subst (λ (s : Objects). words_of s.bodies + cost b ≤ word_limit) shows.objects made.1.1 in
-        when_true (nat_le (words_of w.objects.bodies + cost b) word_limit) (go (with_objects w (with_body w.objects b))) (stops (ObjectsFull (words_of w.objects.bodies)) w) new result
-        (at_most (words_of w.objects.bodies + cost b) word_limit room) came
+        ap (λ (t : Bool). if t then go (with_objects w (with_body w.objects b)) else stops (ObjectsFull (words_of w.objects.bodies)) w) (at_most (words_of w.objects.bodies + cost b) word_limit room)
+
+    pub made_on : (go : World → Turn) (new : Machine) (result : Result (Unit {0}) Halt) → Came on (go (with_objects w (with_body w.objects b))) new result → Came on (with_room w b go) new result
+    made_on go new result came = subst (λ (turn : Turn). Came on turn new result) (sym (made_goes go)) came
 
   -- ---- objects that aren't made
 

@@ -4,10 +4,13 @@ use Rattle.std.specs.List.{list_any, position_or_len}
 use Rattle.std.proofs.lemmas.Option.{slice_get_read}
 use Rattle.s80_code.proofs.lemmas.TableLemmas.{value}
 use Rattle.s80_object.specs.Literal.{added_once}
+use Rattle.s80_class.specs.Lookup.{Place, places_up}
 use Rattle.s80_machine.specs.declared.sites.Site.{Site}
+use Rattle.s80_machine.specs.declared.sites.Target.{Target}
+use Rattle.s80_machine.specs.declared.sites.Target.TheVariants.{Numbered, Primitive, Handler}
 use Rattle.s80_machine.specs.World.{Key, same_key}
 use Rattle.s80_machine.specs.Seen.{Given}
-use Rattle.s80_machine.specs.Sites.{IsLiteralOf, IsSite}
+use Rattle.s80_machine.specs.Sites.{IsLiteralOf, IsNumberFound, IsSentAt, IsSite, IsTarget}
 use Rattle.s80_machine.proofs.lemmas.SoundLists.{number_same, once_front, same_number}
 
 -- ---- places of what passes a test
@@ -119,7 +122,7 @@ module _ (on : Given) (key : Key) (keys : List Key) where
       by_test true = within
       by_test false = let grows = longer keys key in omega (arith, within, grows)
 
-  pub literal_stays : (m k : ℕ) (selector : List ℕ) → IsLiteralOf on keys m k selector → IsLiteralOf on more m k selector
+  literal_stays : (m k : ℕ) (selector : List ℕ) → IsLiteralOf on keys m k selector → IsLiteralOf on more m k selector
   literal_stays m k selector is = record {
     key = is.key;
     code = is.code;
@@ -128,13 +131,27 @@ module _ (on : Given) (key : Key) (keys : List Key) where
     selector_is = is.selector_is;
   }
 
-  pub site_stays : (m k : ℕ) (site : Site) → IsSite on keys m k site → IsSite on more m k site
-  site_stays m k site is = record {
-    selector = is.selector;
+  pub sent_stays : (m k : ℕ) (selector : List ℕ) → IsSentAt on keys m k selector → IsSentAt on more m k selector
+  sent_stays zero k selector is = is
+  sent_stays (suc m) k selector is = literal_stays m k selector is
+
+  number_stays : (selector : List ℕ) (at : List Place) (n : ℕ) → IsNumberFound on keys selector at n → IsNumberFound on more selector at n
+  number_stays selector at n is = record {
     found = is.found;
-    sent = literal_stays m k is.selector is.sent;
     finds = is.finds;
     plain = is.plain;
     number = same_place _ (subst (λ n. n < length keys) (sym is.number) is.there) ∙ is.number;
-    there = no_fewer site.method is.there;
+    there = no_fewer n is.there;
+  }
+
+  target_stays : (selector : List ℕ) (at : List Place) (t : Target) → IsTarget on keys selector at t → IsTarget on more selector at t
+  target_stays selector at (Numbered n) is = number_stays selector at n is
+  target_stays selector at (Primitive g) is = is
+  target_stays selector at (Handler g) is = is
+
+  pub site_stays : (m k : ℕ) (site : Site) → IsSite on keys m k site → IsSite on more m k site
+  site_stays m k site is = record {
+    selector = is.selector;
+    sent = sent_stays m k is.selector is.sent;
+    goes = target_stays is.selector (places_up on.table site.class site.side) site.target is.goes;
   }

@@ -6,8 +6,10 @@ use Rattle.s80_class.specs.Table.{Table}
 use Rattle.s80_code.specs.declared.code.Code.{Code}
 use Rattle.s80_dict.specs.Table.{MethodsValue}
 use Rattle.s80_dict.specs.declared.dict.MethodEntry.{MethodEntry}
+use Rattle.s80_object.specs.Body.{BodyTree}
 use Rattle.s80_object.specs.Body as body
-use Rattle.s80_object.specs.Objects.{body_at, home_parts_of, with_body}
+use Rattle.s80_object.specs.Literal.{named}
+use Rattle.s80_object.specs.Objects.{State as Objects, body_at, home_parts_of, with_body}
 use Rattle.s80_object.specs.declared.value.Value.{Value}
 use Rattle.s80_object.specs.declared.value.Value.TheVariants.{Small, Character, Nil, True, False, Symbol, Number, ClassRef, Object, Context as ThisContext, Transcript, Smalltalk}
 use Rattle.s80_prims.specs.Classes.{class_of}
@@ -18,8 +20,8 @@ use Rattle.s80_prims.specs.declared.stop.Stop.TheVariants.{BlockActive}
 use Rattle.s80_machine.specs.World.{World, Key, method, Activation, block, changed, home, number_in, numbered, one_tick, own, reached, with_objects}
 use Rattle.s80_machine.specs.Turn.{Context, is_active, Turn, Goes, holds_block, pushed_all, stops, deeper}
 use Rattle.s80_class.specs.Lookup.{Found, Place, first_found}
-use Rattle.s80_machine.specs.Shared.{Block, block_with, depth_limit, unary_in}
-use Rattle.s80_machine.specs.Step.{activated, at_home, block_activated, block_started, by_effect, found_turn, looked_up, method_turn, not_understood, performed, places_for, sent, started, with_home, without_home}
+use Rattle.s80_machine.specs.Shared.{Block, arguments_body, block_with, depth_limit, does_not_understand, message_body, selector_of}
+use Rattle.s80_machine.specs.Step.{activated, at_home, block_activated, block_started, by_effect, found_turn, looked_up, message_made, method_turn, not_understood, performed, places_for, sent, sent_on, started, with_home, with_room, without_home}
 use Rattle.s80_machine.proofs.LeftParts.{IsPaid, Lowers, Pays, one_above, paid_again, spent, by_delivery, by_depth, by_given, by_map_or, by_room, by_test, by_tick}
 
 module _ (t : Table) (methods : MethodsValue (MethodEntry Code)) (doit_code : Code) (budget most : ℕ) where
@@ -114,29 +116,53 @@ module _ (t : Table) (methods : MethodsValue (MethodEntry Code)) (doit_code : Co
   by_none Transcript selector w = tt
   by_none Smalltalk selector w = tt
 
-  pub by_found : (o : Option (Found (MethodEntry Code))) (further : World → Option Turn) (selector : List ℕ) (r : Value) (arguments : List Value) (below : List Context) (w : World)
+  -- an Array and a Message are made, which take no tick
+  pub by_message_made : (selector : List ℕ) (arguments : List Value) (w : World) (go : Value → World → Turn) → ((m : Value) (s : Objects) → Lowers budget most (go m (with_objects w s)))
+      → Lowers budget most (message_made t methods doit_code budget selector arguments w go)
+  by_message_made selector arguments w go h =
+      let first : World = with_objects w (with_body w.objects (arguments_body t arguments)) in
+      let before : World = with_objects first (named selector first.objects).0 in
+      let whole : BodyTree = message_body t (named selector first.objects).1 (Object (length w.objects.bodies)) in
+      by_room budget most w (arguments_body t arguments)
+      (λ w1.
+      with_room (with_objects w1 (named selector w1.objects).0) (message_body t (named selector w1.objects).1 (Object (length w.objects.bodies))) (go (Object (length w1.objects.bodies))))
+      (by_room budget most before whole (go (Object (length first.objects.bodies))) (h (Object (length first.objects.bodies)) (with_body before.objects whole)))
+
+  pub by_sent_on : (o : Option (Found (MethodEntry Code))) (selector : List ℕ) (r : Value) (arguments : List Value) (below : List Context) (w : World)
+      → IsPaid budget most w.ticks → length below ≤ depth_limit → Lowers budget most (sent_on t methods doit_code budget o selector r arguments below w)
+  by_sent_on None selector r arguments below w p few = by_none (class_of t w.objects r) selector w
+  by_sent_on (Some f) selector r arguments below w p few =
+      by_message_made selector arguments w (λ m. method_turn t methods doit_code budget None (method f.class f.side does_not_understand) f.entry.code r (m ∷ []) below)
+      (λ m s. by_method None (method f.class f.side does_not_understand) f.entry.code r (m ∷ []) below (with_objects w s) p few tt)
+
+  pub by_found : (o other : Option (Found (MethodEntry Code))) (further : World → Option Turn) (selector : List ℕ) (r : Value) (arguments : List Value) (below : List Context) (w : World)
       → IsPaid budget most w.ticks → length below ≤ depth_limit → IfThere (further w)
-      → Lowers budget most (found_turn t methods doit_code budget o further selector r arguments below w)
-  by_found None further selector r arguments below w p few h = by_none (class_of t w.objects r) selector w
-  by_found (Some f) further selector r arguments below w p few h = by_method (further w) (method f.class f.side selector) f.entry.code r arguments below w p few h
+      → Lowers budget most (found_turn t methods doit_code budget o other further selector r arguments below w)
+  by_found None other further selector r arguments below w p few h = by_sent_on other selector r arguments below w p few
+  by_found (Some f) other further selector r arguments below w p few h = by_method (further w) (method f.class f.side selector) f.entry.code r arguments below w p few h
 
   pub by_look_up : (further : World → Option Turn) (places : List Place) (selector : List ℕ) (r : Value) (arguments : List Value) (below : List Context) (w : World)
       → Pays budget most w.ticks → length below ≤ depth_limit → (w.ticks < budget → IfThere (further (one_tick w)))
       → Lowers budget most (looked_up t methods doit_code budget further places selector r arguments below w)
   by_look_up further places selector r arguments below w pays few h =
-      by_tick budget most w (found_turn t methods doit_code budget (first_found methods selector places) further selector r arguments below)
-      (λ l. by_found (first_found methods selector places) further selector r arguments below (one_tick w) (pays l) few (h l))
+      by_tick budget most w
+      (found_turn t methods doit_code budget (first_found methods selector places) (first_found methods does_not_understand places) further selector r arguments below)
+      (λ l.
+      by_found (first_found methods selector places) (first_found methods does_not_understand places) further selector r arguments below (one_tick w) (pays l) few (h l))
 
   pub by_mapped : (o : Option (List ℕ)) (go : List ℕ → Turn) → ((selector : List ℕ) → Lowers budget most (go selector)) → IfThere (option_map go o)
   by_mapped None go h = tt
   by_mapped (Some selector) go h = h selector
 
-  -- the message of a primitive takes a second tick
+  -- the message of a primitive takes a tick more, and each message that this sends again
   pub by_performing : (r : Value) (arguments : List Value) (below : List Context) (w : World) → Pays budget most w.ticks → length below ≤ depth_limit
       → IfThere (performed t methods doit_code budget r arguments below w)
-  by_performing r arguments below w pays few =
-      by_mapped (unary_in w.objects arguments) _
-      (λ selector. by_look_up (λ _. None) (places_for t methods doit_code budget w r) selector r [] below w pays few (λ l. tt))
+  by_performing r [] below w pays few = tt
+  by_performing r (a ∷ arguments) below w pays few =
+      by_mapped (selector_of w.objects a (length arguments)) _
+      (λ selector.
+      by_look_up (performed t methods doit_code budget r arguments below) (places_for t methods doit_code budget w r) selector r arguments below w pays few
+      (λ l. by_performing r arguments below (one_tick w) (paid_again budget most (suc w.ticks) (pays l)) few))
 
   pub by_send : (places : List Place) (selector : List ℕ) (r : Value) (arguments : List Value) (below : List Context) (w : World)
       → Pays budget most w.ticks → length below ≤ depth_limit → Lowers budget most (sent t methods doit_code budget places selector r arguments below w)

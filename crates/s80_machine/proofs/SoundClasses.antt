@@ -1,9 +1,7 @@
 -- Classes by number, and what they inherit: a class above has no more variables.
-use Rattle.std.proofs.Common.{◌≡◌, ◌∙◌, ap, sym, subst, refl, ℕ, zero, suc, ◌≤◌, cond, List, [], ◌∷◌, map, codes, Option, Some, None, Bool, true, false, unwrap_or, All, length, arith, option_and_then}
+use Rattle.std.proofs.Common.{◌≡◌, ◌∙◌, ap, sym, subst, refl, ℕ, ◌≤◌, List, [], ◌∷◌, map, codes, Option, Some, None, true, false, unwrap_or, All, length, arith}
 use Rattle.std.specs.FinMap as map_of
-use Rattle.std.specs.Option.{option_map}
 use Rattle.std.specs.Str.{bytes_eq}
-use Rattle.std.specs.Cmp.Lexicographic.{bytes_decides}
 use Rattle.std.proofs.lemmas.List.Elements.{All-nil, All-cons, All-head, All-tail, All-append, All-map}
 use Rattle.std.proofs.lemmas.List.Sums.{sum_by-cons}
 use Rattle.s80_base.specs.declared.names.Side.{Side}
@@ -78,6 +76,11 @@ module _ (t : Table) (methods : MethodsValue (MethodEntry Code)) (code : Code) (
   pub kernel_plain : (word : Name) → rows.is_kernel_class word ≡ true → bytes_eq word (codes "Message") ≡ false → variables_of t (number t word) ≡ 0
   kernel_plain word is differs =
       ap (λ n. (inherited_of t.classes n).inst_vars) (name_is t (number t word) word (kernel_number word is)) ∙ setting.plain word is (not_eq word (codes "Message") differs)
+
+  pub kernel_message : variables_of t (number t (codes "Message")) ≡ 2
+  unfolding rows.is_kernel_class
+  kernel_message =
+      ap (λ n. (inherited_of t.classes n).inst_vars) (name_is t (number t (codes "Message")) (codes "Message") (kernel_number (codes "Message") refl)) ∙ setting.message
 
   -- the places of a side of a class have no more variables than it
   pub places_within : (c : ℕ) (side : Side) (most : ℕ) → IsClass t.names c → variables_on t c side ≤ most → All (HasAtMost t most) (places_up t c side)

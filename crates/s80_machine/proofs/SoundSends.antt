@@ -1,8 +1,8 @@
 -- Messages: each method that is found may be activated with the receiver.
-use Rattle.std.proofs.Common.{◌≡◌, ap, sym, subst, refl, ℕ, ◌<◌, ◌≤◌, ◌==◌, List, [], ◌∷◌, codes, Option, Some, None, IfSome, Bool, true, false, length, unwrap_or, All, arith, inl, if◌then◌else◌, option_and_then}
+use Rattle.std.proofs.Common.{◌≡◌, ap, sym, subst, refl, ℕ, ◌<◌, ◌≤◌, ◌==◌, List, [], ◌∷◌, codes, Option, Some, None, IfSome, length, unwrap_or, All, arith, if◌then◌else◌}
 use Rattle.std.specs.FinMap as map_of
 use Rattle.std.specs.Option.{IsSome, option_map, option_map_or}
-use Rattle.std.proofs.lemmas.List.Elements.{All-nil, All-drop}
+use Rattle.std.proofs.lemmas.List.Elements.{All-nil, All-cons, All-tail, All-drop}
 use Rattle.s80_base.specs.declared.names.Side.{Side}
 use Rattle.s80_base.specs.declared.names.Side.TheVariants.{Instance}
 use Rattle.s80_kernel.specs.Rows as rows
@@ -10,9 +10,7 @@ use Rattle.s80_class.specs.Table.{Table, class_name}
 use Rattle.s80_code.specs.declared.code.Code.{Code}
 use Rattle.s80_dict.specs.Table.{MethodsValue, methods_at}
 use Rattle.s80_dict.specs.declared.dict.MethodEntry.{MethodEntry}
-use Rattle.s80_object.specs.Objects.{text_of}
 use Rattle.s80_object.specs.declared.value.Value.{Value}
-use Rattle.s80_object.specs.declared.value.Value.TheVariants.{Symbol}
 use Rattle.s80_prims.specs.declared.applied.Applied.{Applied}
 use Rattle.s80_prims.specs.declared.applied.Applied.TheVariants.{Done, Fails, Stops}
 use Rattle.s80_prims.specs.declared.stop.Stop.TheVariants.{NotUnderstood}
@@ -20,20 +18,20 @@ use Rattle.s80_prims.specs.Classes.{class_of}
 use Rattle.s80_prims.specs.Kept.{AnswersKnown, KeepsKnown}
 use Rattle.s80_prims.specs.Known.{AreKnown, IsKnown}
 use Rattle.s80_prims.specs.Primitives.{World as ReachedWorld, primitive}
-use Rattle.s80_lex.specs.Selector.{IsSelectorOf, is_name}
-use Rattle.s80_lex.proofs.lemmas.SelectorLemmas.{name_is}
+use Rattle.s80_lex.specs.Selector.{IsSelectorOf}
 use Rattle.s80_machine.specs.World.{World, Key, doit, method, changed, one_tick, reached, receiver_variable}
 use Rattle.s80_machine.specs.Turn.{Context, Turn}
 use Rattle.s80_class.specs.Lookup.{Found, Place, first_found, number, places_up}
-use Rattle.s80_machine.specs.Shared.{Block, block_with, if_unary, unary_in}
-use Rattle.s80_machine.specs.Step.{activated, block_activated, by_effect, by_primitive, code_for, found_turn, looked_up, method_turn, not_understood, performed, places_above, places_for, places_of, sent}
+use Rattle.s80_machine.specs.Shared.{Block, block_with, does_not_understand, selector_of}
+use Rattle.s80_machine.specs.Step.{activated, block_activated, by_effect, by_primitive, code_for, found_turn, looked_up, method_turn, not_understood, performed, places_above, places_for, places_of, sent, sent_on}
 use Rattle.s80_machine.specs.Sound.{IsSetting, IsMethod, IsSoundTurn, IsSoundWorld, SuitsMethod, variables_for, variables_on}
 use Rattle.s80_machine.proofs.SoundClasses.{HasAtMost, found_at, kernel_number, kernel_plain, places_within}
 use Rattle.s80_machine.proofs.SoundOperands.{one_selector}
-use Rattle.s80_machine.proofs.SoundWorlds.{Onward, variable_stays}
+use Rattle.s80_machine.proofs.SoundWorlds.{Onward, value_stays, variable_stays}
 use Rattle.s80_machine.proofs.SoundChanges.{Follows}
 use Rattle.s80_machine.proofs.SoundValues.{has_class}
 use Rattle.s80_machine.proofs.SoundPrims.{primitive_good}
+use Rattle.s80_machine.proofs.SoundMessages.{made_sound, selector_takes, takes_one}
 use Rattle.s80_machine.proofs.SoundEnds.{AllWait, CanRun, activated_sound, block_sound, block_takes, deliver_sound, if_sound, stops_sound, ticked_sound, wait_on}
 use Rattle.s80_code.proofs.lemmas.TableLemmas.{value}
 
@@ -137,11 +135,10 @@ module _ (t : Table) (methods : MethodsValue (MethodEntry Code)) (code : Code) (
       let c = has_class t methods code setting w h r known in
       subst (λ v. IsSoundTurn t methods code (not_understood t methods code budget v selector w)) (sym c.is) (stops_sound t methods code (NotUnderstood (class_name t c.number) c.side selector) w h)
 
-  found_sound : (o : Option (Found (MethodEntry Code))) (other : World → Option Turn) (places : List Place) (selector : List ℕ) (r : Value) (arguments : List Value) (below : List Context) (w : World)
-      → first_found methods selector places ≡ o → IsSoundWorld t methods code w → IfSome (other w) (IsSoundTurn t methods code) → IsKnown t w.objects r → Serves t w r places → All (IsKnown t w.objects) arguments
-      → IsSelectorOf (length arguments) selector → AllWait t methods code w below → IsSoundTurn t methods code (found_turn t methods code budget o other selector r arguments below w)
-  found_sound None other places selector r arguments below w e h fine known serves all takes wait = none_sound w r selector h known
-  found_sound (Some f) other places selector r arguments below w e h fine known serves all takes wait =
+  run_sound : (f : Found (MethodEntry Code)) (other : Option Turn) (places : List Place) (selector : List ℕ) (r : Value) (arguments : List Value) (below : List Context) (w : World)
+      → first_found methods selector places ≡ Some f → IsSoundWorld t methods code w → IfSome other (IsSoundTurn t methods code) → IsKnown t w.objects r → Serves t w r places → All (IsKnown t w.objects) arguments
+      → IsSelectorOf (length arguments) selector → AllWait t methods code w below → IsSoundTurn t methods code (method_turn t methods code budget other (method f.class f.side selector) f.entry.code r arguments below w)
+  run_sound f other places selector r arguments below w e h fine known serves all takes wait =
       let found = found_at methods selector (HasAtMost t serves.most) places f serves.within e in
       let suits = setting.methods_suit f.class f.side selector f.entry found.entry in
       let same : f.entry.code.arguments ≡ length arguments = one_selector selector f.entry.code.arguments (length arguments) suits.selector_is takes in
@@ -153,44 +150,58 @@ module _ (t : Table) (methods : MethodsValue (MethodEntry Code)) (code : Code) (
         known = known;
         variables = λ i below. serves.variables i (omega (arith, below, fits));
       } in
-      method_sound (other w) (method f.class f.side selector) f.entry.code r arguments below w h fine can all few wait
+      method_sound other (method f.class f.side selector) f.entry.code r arguments below w h fine can all few wait
+
+  on_sound : (o : Option (Found (MethodEntry Code))) (places : List Place) (selector : List ℕ) (r : Value) (arguments : List Value) (below : List Context) (w : World)
+      → first_found methods does_not_understand places ≡ o → IsSoundWorld t methods code w → IsKnown t w.objects r → Serves t w r places → All (IsKnown t w.objects) arguments
+      → AllWait t methods code w below → IsSoundTurn t methods code (sent_on t methods code budget o selector r arguments below w)
+  on_sound None places selector r arguments below w e h known serves all wait = none_sound w r selector h known
+  on_sound (Some f) places selector r arguments below w e h known serves all wait =
+      made_sound t methods code setting budget selector arguments w (λ m. method_turn t methods code budget None (method f.class f.side does_not_understand) f.entry.code r (m ∷ []) below) h all
+      (λ m w1 follows is.
+      run_sound f None places does_not_understand r (m ∷ []) below w1 e follows.sound tt (value_stays t w w1 follows.onward r known) (serves_on t w w1 follows.onward r places serves)
+      (All-cons (IsKnown t w1.objects) m [] is (All-nil (IsKnown t w1.objects))) takes_one (wait_on t methods code w w1 follows below wait))
+
+  found_sound : (o on : Option (Found (MethodEntry Code))) (other : World → Option Turn) (places : List Place) (selector : List ℕ) (r : Value) (arguments : List Value) (below : List Context) (w : World)
+      → first_found methods selector places ≡ o → first_found methods does_not_understand places ≡ on → IsSoundWorld t methods code w → IfSome (other w) (IsSoundTurn t methods code) → IsKnown t w.objects r
+      → Serves t w r places → All (IsKnown t w.objects) arguments → IsSelectorOf (length arguments) selector → AllWait t methods code w below
+      → IsSoundTurn t methods code (found_turn t methods code budget o on other selector r arguments below w)
+  found_sound None on other places selector r arguments below w e is h fine known serves all takes wait = on_sound on places selector r arguments below w is h known serves all wait
+  found_sound (Some f) on other places selector r arguments below w e is h fine known serves all takes wait =
+      run_sound f (other w) places selector r arguments below w e h fine known serves all takes wait
 
   looked_sound : (other : World → Option Turn) (places : List Place) (selector : List ℕ) (r : Value) (arguments : List Value) (below : List Context) (w : World) → IsSoundWorld t methods code w
       → (Follows t methods code w (one_tick w) → IfSome (other (one_tick w)) (IsSoundTurn t methods code)) → IsKnown t w.objects r → Serves t w r places → All (IsKnown t w.objects) arguments
       → IsSelectorOf (length arguments) selector → AllWait t methods code w below → IsSoundTurn t methods code (looked_up t methods code budget other places selector r arguments below w)
   looked_sound other places selector r arguments below w h fine known serves all takes wait =
-      ticked_sound t methods code budget w (found_turn t methods code budget (first_found methods selector places) other selector r arguments below) h
+      let o : Option (Found (MethodEntry Code)) = first_found methods selector places in
+      let on : Option (Found (MethodEntry Code)) = first_found methods does_not_understand places in
+      ticked_sound t methods code budget w (found_turn t methods code budget o on other selector r arguments below) h
       (λ f.
       let w1 : World = one_tick w in
-      found_sound (first_found methods selector places) other places selector r arguments below w1 refl f.sound (fine f) known (serves_on t w w1 f.onward r places serves) all takes (wait_on t methods code w w1 f below wait))
+      found_sound o on other places selector r arguments below w1 refl refl f.sound (fine f) known (serves_on t w w1 f.onward r places serves) all takes (wait_on t methods code w w1 f below wait))
 
   -- ---- a message that a primitive sends
 
-  named_unary : (o : Option (List ℕ)) (selector : List ℕ) → option_and_then if_unary o ≡ Some selector → is_name selector ≡ true
-  named_unary None selector e = cc
-  named_unary (Some text) selector e = go (is_name text) refl e
-    where
-      go : (b : Bool) → is_name text ≡ b → (if b then Some text else None) ≡ Some selector → is_name selector ≡ true
-      go true is e = subst (λ s. is_name s ≡ true) (value e) is
-      go false is e = cc
+  by_told : (o : Option (List ℕ)) (takes : List ℕ → Type 0) (go : List ℕ → Turn) → ((selector : List ℕ) → o ≡ Some selector → takes selector)
+      → ((selector : List ℕ) → takes selector → IsSoundTurn t methods code (go selector)) → IfSome (option_map go o) (IsSoundTurn t methods code)
+  by_told None takes go told h = tt
+  by_told (Some selector) takes go told h = h selector (told selector refl)
 
-  performed_sound : (r : Value) (arguments : List Value) (below : List Context) (w : World) → IsSoundWorld t methods code w → IsKnown t w.objects r → AllWait t methods code w below
-      → IfSome (performed t methods code budget r arguments below w) (IsSoundTurn t methods code)
-  performed_sound r arguments below w h known wait = go (unary_in w.objects arguments) (λ selector e. unary_is arguments selector e)
-    where
-      unary_is : (arguments : List Value) (selector : List ℕ) → unary_in w.objects arguments ≡ Some selector → is_name selector ≡ true
-      unary_is (Symbol n ∷ []) selector e = named_unary (text_of w.objects (Symbol n)) selector e
-      unary_is _ selector e = cc
-
-      go : (o : Option (List ℕ)) → ((selector : List ℕ) → o ≡ Some selector → is_name selector ≡ true)
-          → IfSome (option_map (λ selector. looked_up t methods code budget (λ _. None) (places_for t methods code budget w r) selector r [] below w) o) (IsSoundTurn t methods code)
-      go None named = tt
-      go (Some selector) named =
-          looked_sound (λ _. None) (places_for t methods code budget w r) selector r [] below w h (λ f. tt) known (serves_class w r h known) (All-nil (IsKnown t w.objects))
-          (inl (name_is selector (named selector refl), refl)) wait
+  performed_sound : (r : Value) (arguments : List Value) (below : List Context) (w : World) → IsSoundWorld t methods code w → IsKnown t w.objects r → All (IsKnown t w.objects) arguments
+      → AllWait t methods code w below → IfSome (performed t methods code budget r arguments below w) (IsSoundTurn t methods code)
+  performed_sound r [] below w h known all wait = tt
+  performed_sound r (a ∷ arguments) below w h known all wait =
+      by_told (selector_of w.objects a (length arguments)) (IsSelectorOf (length arguments))
+      (λ selector. looked_up t methods code budget (performed t methods code budget r arguments below) (places_for t methods code budget w r) selector r arguments below w)
+      (selector_takes w.objects a (length arguments))
+      (λ selector takes.
+      looked_sound (performed t methods code budget r arguments below) (places_for t methods code budget w r) selector r arguments below w h
+      (λ f. performed_sound r arguments below (one_tick w) f.sound known (All-tail (IsKnown t w.objects) a arguments all) (wait_on t methods code w (one_tick w) f below wait)) known (serves_class w r h known)
+      (All-tail (IsKnown t w.objects) a arguments all) takes wait)
 
   pub sent_sound : (places : List Place) (selector : List ℕ) (r : Value) (arguments : List Value) (below : List Context) (w : World) → IsSoundWorld t methods code w → IsKnown t w.objects r → Serves t w r places
       → All (IsKnown t w.objects) arguments → IsSelectorOf (length arguments) selector → AllWait t methods code w below → IsSoundTurn t methods code (sent t methods code budget places selector r arguments below w)
   sent_sound places selector r arguments below w h known serves all takes wait =
       looked_sound (performed t methods code budget r arguments below) places selector r arguments below w h
-      (λ f. performed_sound r arguments below (one_tick w) f.sound known (wait_on t methods code w (one_tick w) f below wait)) known serves all takes wait
+      (λ f. performed_sound r arguments below (one_tick w) f.sound known all (wait_on t methods code w (one_tick w) f below wait)) known serves all takes wait

@@ -11,6 +11,7 @@ use Rattle.s80_object.specs.declared.value.Value.TheVariants.{Object}
 use Rattle.s80_object.specs.declared.value.ObjectFault.{ObjectFault}
 use Rattle.s80_object.specs.declared.value.ObjectFault.TheVariants as fault
 use Rattle.s80_prims.specs.Known.{AreKnown, HasKernel, IsKnown}
+use Rattle.s80_prims.specs.Numbers.{AreNumbers}
 use Rattle.s80_prims.specs.declared.stop.End.{End}
 use Rattle.s80_prims.specs.declared.stop.End.TheVariants.{Answer, Stopped}
 use Rattle.s80_prims.specs.declared.stop.Outcome.{Outcome}
@@ -24,10 +25,10 @@ use Rattle.s80_machine.specs.Turn.{Context, waiting, State, Turn, Goes, Ends, St
 use Rattle.s80_class.specs.Lookup.{Place}
 use Rattle.s80_machine.specs.Sites.{IsSite, site_in}
 use Rattle.s80_machine.specs.declared.sites.Site.{Site}
-use Rattle.s80_machine.specs.Shared.{depth_limit}
+use Rattle.s80_machine.specs.Shared.{depth_limit, does_not_understand}
 use Rattle.s80_machine.specs.Step.{code_for, places_above, places_for, push, sent, store}
 use Rattle.s80_machine.specs.Sound.{IsSetting}
-use Rattle.s80_machine.specs.Seen.{AreNumbers, EndsRun, Given, Method, value_in, value_of}
+use Rattle.s80_machine.specs.Seen.{EndsRun, Given, Method, value_in, value_of}
 
 -- ---- what a run is given
 
@@ -40,6 +41,7 @@ pub record IsReady (s : Setting) : Type 0 where
   pub kernel : HasKernel s.classes.now
   pub numbers : AreNumbers s.classes.now s.kernel
   pub selectors : s.special ≡ special_selectors
+  pub unknown : s.unknown ≡ does_not_understand
   pub sides : length s.methods.now.sides ≡ length s.classes.now.names
 
 -- ---- what a machine shows

@@ -1,5 +1,5 @@
 -- What messages rest on, and the parts of what they come to.
-use Rattle.std.specs.Prelude.{◌≡◌, ℕ, ◌≤◌, List, [], ◌∷◌, length, codes, map, slice_get, All, Option, Some, None}
+use Rattle.std.specs.Prelude.{◌≡◌, ℕ, ◌≤◌, List, ◌∷◌, length, codes, map, slice_get, All, Option, Some, None, Result, Ok, Err}
 use Rattle.s80_base.specs.declared.names.Side.TheVariants.{Instance}
 use Rattle.s80_class.specs.Table.{Table}
 use Rattle.s80_code.specs.declared.code.Code.{Code}
@@ -11,9 +11,13 @@ use Rattle.s80_prims.specs.Known.{AreKnown, IsKnown}
 use Rattle.s80_machine.specs.declared.machine.Machine.{Machine}
 use Rattle.s80_machine.specs.World.{World, Key, doit, method}
 use Rattle.s80_machine.specs.Turn.{Context, Turn}
-use Rattle.s80_class.specs.Lookup.{Found, Place, first_found, number}
-use Rattle.s80_machine.specs.Step.{activated, by_primitive, code_for, found_turn, looked_up, method_turn, not_understood, performed, places_of}
+use Rattle.s80_class.specs.Lookup.{Found, Place, first_found, number, places_from}
+use Rattle.s80_machine.specs.declared.setting.Line.{Line}
+use Rattle.s80_machine.specs.Shared.{does_not_understand}
+use Rattle.s80_machine.specs.Step.{activated, by_primitive, code_for, found_turn, message_made, method_turn, not_understood, performed, places_of, sent_on}
 use Rattle.s80_machine.specs.Seen.{Given, FoundCode}
+use Rattle.s80_machine.specs.Came.{Came, ShowsWorld}
+use Rattle.s80_machine.specs.declared.halt.Halt.{Halt}
 use Rattle.s80_machine.specs.Sites.{IsLiteralOf}
 
 -- the receiver and the arguments of a message are known, and so is all that objects hold
@@ -62,14 +66,14 @@ finds on selector places = first_found on.methods selector places
 
 -- the method that is found, which may send a message by its primitive
 abbrev pub runs : Given → (World → Option Turn) → List Place → List ℕ → Value → List Value → List Context → World → Turn
-runs on sent places selector = found_turn on.table on.methods on.code on.budget (finds on selector places) sent selector
+runs on sent places selector = found_turn on.table on.methods on.code on.budget (finds on selector places) (finds on does_not_understand places) sent selector
 
 abbrev pub performs : Given → Value → List Value → List Context → World → Option Turn
 performs on = performed on.table on.methods on.code on.budget
 
--- a message of a primitive, whose method's primitive sends none
-abbrev pub sends_one : Given → List Place → List ℕ → Value → List Context → World → Turn
-sends_one on places selector r below = looked_up on.table on.methods on.code on.budget (λ w. None) places selector r [] below
+-- a message that isn't understood along these places
+abbrev pub sends_on : Given → List Place → List ℕ → Value → List Value → List Context → World → Turn
+sends_on on places = sent_on on.table on.methods on.code on.budget (finds on does_not_understand places)
 
 -- a method that sends no message by its primitive
 abbrev pub runs_method : Given → Key → Code → Value → List Value → List Context → World → Turn
@@ -85,3 +89,18 @@ runs_primitive on key code r arguments below w =
 
 abbrev pub refuses : Given → Value → List ℕ → World → Turn
 refuses on = not_understood on.table on.methods on.code on.budget
+
+-- a message as an object
+abbrev pub makes_message : Given → List ℕ → List Value → World → (Value → World → Turn) → Turn
+makes_message on = message_made on.table on.methods on.code on.budget
+
+-- the place of a look-up's beginning has these behind it
+abbrev pub along : Given → Line → List Place
+along on line = places_from on.table line.class line.side
+
+-- the machine goes on with a Message in its world, or the run ends where it is made
+abbrev pub MakesMessage : Given → List ℕ → List Value → World → Machine → Machine → Result Value Halt → Type 0
+MakesMessage on selector arguments w old new (Ok m) =
+    (new.contexts ≡ old.contexts)
+    × ((w1 : World) × (ShowsWorld on new w1) × ((go : Value → World → Turn) → makes_message on selector arguments w go ≡ go m w1))
+MakesMessage on selector arguments w old new (Err h) = (go : Value → World → Turn) → Came on (makes_message on selector arguments w go) new (Err h)

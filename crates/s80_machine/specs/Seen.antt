@@ -1,5 +1,5 @@
 -- What the machine's parts are seen as, and what their calls promise.
-use Rattle.std.specs.Prelude.{◌≡◌, ℕ, Bool, zero, suc, ◌+◌, ◌*◌, ◌<◌, ◌≤◌, ◌^◌, ◌==◌, List, [], ◌∷◌, ◌++◌, length, nat_lt, slice_get, slice_set, take, drop, map, codes, find, All, Vec, Option, Some, None, Result, Ok, Err, option_and_then, unwrap_or, if◌then◌else◌}
+use Rattle.std.specs.Prelude.{◌≡◌, ℕ, Bool, zero, suc, ◌+◌, ◌*◌, ◌<◌, ◌≤◌, ◌^◌, ◌==◌, List, [], ◌∷◌, ◌++◌, length, nat_lt, slice_get, slice_set, take, drop, map, find, All, Vec, Option, Some, None, Result, Ok, Err, option_and_then, unwrap_or, if◌then◌else◌}
 use Rattle.std.specs.Int.{w32, to_be_bytes, from_be_bytes}
 use Rattle.std.specs.List.{position_or_len}
 use Rattle.std.specs.Option.{option_map}
@@ -8,7 +8,7 @@ use Rattle.s80_base.specs.declared.names.Side.{Side}
 use Rattle.s80_base.specs.declared.names.Side.TheVariants.{Instance, Class}
 use Rattle.s80_class.specs.declared.found.Found.{Found as FoundEntry}
 use Rattle.s80_class.specs.Lookup.{Place}
-use Rattle.s80_class.specs.Table.{Table, number_of}
+use Rattle.s80_class.specs.Table.{Table}
 use Rattle.s80_code.specs.declared.code.Code.{Code}
 use Rattle.s80_code.specs.declared.instruction.Instruction.{Instruction}
 use Rattle.s80_code.specs.Table.{decoded}
@@ -16,7 +16,6 @@ use Rattle.s80_dict.specs.Table.{MethodsValue}
 use Rattle.s80_dict.specs.declared.dict.MethodEntry.{MethodEntry}
 use Rattle.s80_object.specs.Literal.{added_once}
 use Rattle.s80_object.specs.declared.value.Value.{Value}
-use Rattle.s80_object.specs.declared.value.Value.TheVariants as value
 use Rattle.s80_prims.specs.declared.stop.End.{End}
 use Rattle.s80_prims.specs.declared.stop.End.TheVariants.{Stopped}
 use Rattle.s80_prims.specs.declared.stop.Stop.TheVariants.{CannotReturn}
@@ -24,7 +23,6 @@ use Rattle.s80_machine.specs.declared.context.Activation.{Activation as Kept}
 use Rattle.s80_machine.specs.declared.context.Activation.TheVariants as kept
 use Rattle.s80_machine.specs.declared.halt.Halt.{Halt}
 use Rattle.s80_machine.specs.declared.halt.Halt.TheVariants as halt
-use Rattle.s80_machine.specs.declared.kernel.Kernel.{Kernel}
 use Rattle.s80_machine.specs.declared.methods.Activated.{Activated}
 use Rattle.s80_machine.specs.declared.variables.Variables.{Variables}
 use Rattle.s80_machine.specs.declared.activations.Block.{Block as KeptBlock}
@@ -134,34 +132,7 @@ IsUnwound (Some rest) old new result = (result ≡ Ok tt) × (new ≡ rest)
 IsUnwound None old new (Ok done) = ⊥
 IsUnwound None old new (Err h) = EndsRun (Stopped CannotReturn) h × (new ≡ old)
 
--- ---- classes
-
-abbrev pub class_place : Value → Option Place
-class_place (value.ClassRef c side) = Some (c, side)
-class_place _ = None
-
-abbrev pub IsNumber : Table → List ℕ → ℕ → Type 0
-IsNumber t name c = number_of t.names name ≡ Some c
-
--- the numbers of the kernel's classes in this table
-pub record AreNumbers (t : Table) (k : Kernel) : Type 0 where
-  pub small_integer : IsNumber t (codes "SmallInteger") k.small_integer
-  pub character : IsNumber t (codes "Character") k.character
-  pub undefined_object : IsNumber t (codes "UndefinedObject") k.undefined_object
-  pub true_class : IsNumber t (codes "True") k.true_class
-  pub false_class : IsNumber t (codes "False") k.false_class
-  pub symbol : IsNumber t (codes "Symbol") k.symbol
-  pub large_positive : IsNumber t (codes "LargePositiveInteger") k.large_positive
-  pub large_negative : IsNumber t (codes "LargeNegativeInteger") k.large_negative
-  pub float : IsNumber t (codes "Float") k.float
-  pub metaclass : IsNumber t (codes "Metaclass") k.metaclass
-  pub method_context : IsNumber t (codes "MethodContext") k.method_context
-  pub block_context : IsNumber t (codes "BlockContext") k.block_context
-  pub text_collector : IsNumber t (codes "TextCollector") k.text_collector
-  pub system_dictionary : IsNumber t (codes "SystemDictionary") k.system_dictionary
-  pub class : IsNumber t (codes "Class") k.class
-  pub string : IsNumber t (codes "String") k.string
-  pub array : IsNumber t (codes "Array") k.array
+-- ---- what a run is given
 
 -- a method that was found
 abbrev pub FoundCode : Type 0

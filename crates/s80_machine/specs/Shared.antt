@@ -1,9 +1,10 @@
 -- What the run of code and the evaluation of trees share beside the world: what is decided or answered at once, blocks, the depth of
--- activations, and the outcome.
-use Rattle.std.specs.Prelude.{ℕ, pos, negsuc, ◌==◌, ◌||◌, List, [], ◌∷◌, Bool, false, slice_get, get_or, Option, Some, None, option_and_then, if◌then◌else◌, true}
-use Rattle.s80_base.specs.Literal.{symbol}
+-- activations, a message as an object, and the outcome.
+use Rattle.std.specs.Prelude.{ℕ, pos, negsuc, ◌==◌, ◌||◌, List, [], ◌∷◌, Bool, codes, false, length, slice_get, get_or, Option, Some, None, option_and_then, if◌then◌else◌}
+use Rattle.std.specs.Option.{option_map_or}
+use Rattle.s80_class.specs.Lookup.{number}
 use Rattle.s80_class.specs.Table.{Table}
-use Rattle.s80_object.specs.Body.{BodyTree, block, words_of}
+use Rattle.s80_object.specs.Body.{BodyTree, block, pointers, words_of}
 use Rattle.s80_object.specs.Objects.{State as Objects, text_of}
 use Rattle.s80_object.specs.declared.value.Value.{Value}
 use Rattle.s80_object.specs.declared.value.Value.TheVariants.{Small, Nil, True, False, Symbol, Object}
@@ -11,8 +12,8 @@ use Rattle.s80_prims.specs.Arithmetic.{arithmetic, truth}
 use Rattle.s80_prims.specs.Classes.{class_of}
 use Rattle.s80_prims.specs.Primitives.{same}
 use Rattle.s80_prims.specs.declared.stop.End.{End}
-use Rattle.s80_lex.specs.Selector.{is_name}
-use Rattle.s80_machine.specs.World.{World, home}
+use Rattle.s80_lex.specs.Selector.{is_binary, is_name, keywords_of}
+use Rattle.s80_machine.specs.World.{World}
 use Rattle.s80_prims.specs.declared.stop.Outcome.{Outcome}
 
 abbrev pub depth_limit : ℕ
@@ -68,13 +69,34 @@ block_with s r count = option_and_then (if_takes count) (block_at s r)
 abbrev pub is_value : ℕ → Bool
 is_value n = n == 25 || n == 26
 
-abbrev pub if_unary : List ℕ → Option (List ℕ)
-if_unary text = if is_name text then Some text else None
+-- how many parameters a selector has
+abbrev pub parameters : List ℕ → Option ℕ
+parameters text = if is_name text then Some 0 else (if is_binary text then Some 1 else keywords_of text)
 
--- a symbol that is a selector without parameters, as the only argument
-abbrev pub unary_in : Objects → List Value → Option (List ℕ)
-unary_in s (Symbol n ∷ []) = option_and_then if_unary (text_of s (Symbol n))
-unary_in s _ = None
+-- a selector of so many parameters
+abbrev pub if_selector : ℕ → List ℕ → Option (List ℕ)
+if_selector count text = if option_map_or (λ n. n == count) (parameters text) false then Some text else None
+
+-- the selector of so many parameters that a symbol is
+abbrev pub selector_of : Objects → Value → ℕ → Option (List ℕ)
+selector_of s (Symbol n) count = option_and_then (if_selector count) (text_of s (Symbol n))
+selector_of s _ count = None
+
+-- the selector of the message that a primitive sends: it is the first argument, and takes the further ones
+abbrev pub sent_in : Objects → List Value → Option (List ℕ)
+sent_in s [] = None
+sent_in s (a ∷ arguments) = selector_of s a (length arguments)
+
+-- a message as an object, whose class has two variables: its selector, and an Array of its arguments
+abbrev pub arguments_body : Table → List Value → BodyTree
+arguments_body t arguments = pointers (number t (codes "Array")) [] arguments
+
+abbrev pub message_body : Table → Value → Value → BodyTree
+message_body t selector arguments = pointers (number t (codes "Message")) (selector ∷ arguments ∷ []) []
+
+-- the message that a receiver is sent with a Message which it doesn't understand
+abbrev pub does_not_understand : List ℕ
+does_not_understand = codes "doesNotUnderstand:"
 
 abbrev pub outcome_of : End → World → Outcome
 outcome_of end w = record { end = end; transcript = w.transcript; ticks = w.ticks; words = words_of w.objects.bodies; objects = w.objects }

@@ -66,14 +66,15 @@ pub record SuitsMethod (t : Table) (c : ℕ) (side : Side) (selector : List ℕ)
   pub suits : Suits (variables_on t c side) code
   pub selector_is : IsSelectorOf code.arguments selector
 
--- The classes are those of a table, with a number each. The classes of the kernel are there; Message apart, none of them has variables. No class
--- of bytes or words has any. The code of each method is that of one of its class and selector, and the doIt's is that of a method without
+-- The classes are those of a table, with a number each. The classes of the kernel are there; Message has two variables, and none of the others
+-- any. No class of bytes or words has any. The code of each method is that of one of its class and selector, and the doIt's is that of a method without
 -- arguments of a class without variables.
 pub record IsSetting (t : Table) (methods : MethodsValue (MethodEntry Code)) (code : Code) : Type 0 where
   pub classes : IsKnownTable t
   pub kernel : HasKernel t
   pub numbers : HasNumbers t
   pub plain : (word : Name) → is_kernel_class word ≡ true → word ≢ codes "Message" → (inherited_of t.classes word).inst_vars ≡ 0
+  pub message : (inherited_of t.classes (codes "Message")).inst_vars ≡ 2
   pub bits : (c : ℕ) → IsClass t.names c → is_bits (kind_of_class t c) ≡ true → variables_of t c ≡ 0
   pub methods_suit : (c : ℕ) (side : Side) (selector : List ℕ) (entry : MethodEntry Code)
       → map_of.get (methods_at methods c side) selector ≡ Some entry → SuitsMethod t c side selector entry.code

@@ -18,7 +18,7 @@ use Rattle.s80_dict.specs.Table.{MethodsValue, methods_at}
 use Rattle.s80_dict.specs.declared.dict.MethodEntry.{MethodEntry}
 use Rattle.s80_object.specs.Body.{BodyTree, block, cost, words_of, word_limit}
 use Rattle.s80_object.specs.Body as body
-use Rattle.s80_object.specs.Literal.{built, is_object, made_before, noted}
+use Rattle.s80_object.specs.Literal.{built, is_object, made_before, named, noted}
 use Rattle.s80_object.specs.Objects.{State as Objects, body_at, home_parts_of, with_body}
 use Rattle.s80_object.specs.declared.value.Value.{Value}
 use Rattle.s80_object.specs.declared.value.Value.TheVariants.{Small, Nil, ClassRef, Object}
@@ -28,11 +28,11 @@ use Rattle.s80_prims.specs.Primitives.{primitive}
 use Rattle.s80_prims.specs.declared.applied.Applied.{Applied}
 use Rattle.s80_prims.specs.declared.applied.Applied.TheVariants.{Done, Fails, Stops}
 use Rattle.s80_prims.specs.declared.stop.Stop.TheVariants.{NonBoolean, BlockActive, NotUnderstood, ObjectsFull}
-use Rattle.s80_machine.specs.World.{World, Key, doit, method, Activation, own, home, changed, home_in, number_in, numbered, reached, receiver_variable, temporary, variable_named, with_objects, with_receiver_variable, with_temporary, with_variable}
+use Rattle.s80_machine.specs.World.{World, Key, doit, method, own, home, changed, home_in, number_in, numbered, reached, receiver_variable, temporary, variable_named, with_objects, with_receiver_variable, with_temporary, with_variable}
 use Rattle.s80_machine.specs.Turn.{Context, is_active, waiting, State, Turn, Goes, Stuck, constant_in, deeper, deliver, given, goes_on, holds_block, message_off, place_at, popped, pushed_all, return_from, selector_in, stops, ticked}
 use Rattle.s80_machine.specs.World as world
 use Rattle.s80_class.specs.Lookup.{Found, Place, first_found, number, places_up}
-use Rattle.s80_machine.specs.Shared.{Block, at_once, block_with, decided, fixed, is_value, unary_in}
+use Rattle.s80_machine.specs.Shared.{Block, arguments_body, at_once, block_with, decided, does_not_understand, fixed, is_value, message_body, selector_of}
 
 -- one more object, or the words would pass the limit
 abbrev pub with_room : World → BodyTree → (World → Turn) → Turn
@@ -116,14 +116,28 @@ module _ (t : Table) (methods : MethodsValue (MethodEntry Code)) (doit_code : Co
   not_understood (ClassRef c side) selector w = stops (NotUnderstood (class_name t c) side selector) w
   not_understood _ selector w = Stuck
 
-  abbrev pub found_turn : Option (Found (MethodEntry Code)) → (World → Option Turn) → List ℕ → Value → List Value → List Context → World → Turn
-  found_turn None sent selector r arguments below w = not_understood (class_of t w.objects r) selector w
-  found_turn (Some f) sent selector r arguments below w = method_turn (sent w) (method f.class f.side selector) f.entry.code r arguments below w
+  -- a message as an object: an Array of its arguments is made, and then the Message of its selector and that Array
+  abbrev pub message_made : List ℕ → List Value → World → (Value → World → Turn) → Turn
+  message_made selector arguments w go =
+      with_room w (arguments_body t arguments) (λ w1.
+      with_room (with_objects w1 (named selector w1.objects).0) (message_body t (named selector w1.objects).1 (Object (length w.objects.bodies))) (λ w2.
+      go (Object (length w1.objects.bodies)) w2))
+
+  -- a message that isn't understood, with what is found of `doesNotUnderstand:`, which is sent a Message in its place
+  abbrev pub sent_on : Option (Found (MethodEntry Code)) → List ℕ → Value → List Value → List Context → World → Turn
+  sent_on None selector r arguments below w = not_understood (class_of t w.objects r) selector w
+  sent_on (Some f) selector r arguments below w =
+      message_made selector arguments w (λ m. method_turn None (method f.class f.side does_not_understand) f.entry.code r (m ∷ []) below)
+
+  -- a message that finds a method or none, and what is found of `doesNotUnderstand:` along the same places
+  abbrev pub found_turn : Option (Found (MethodEntry Code)) → Option (Found (MethodEntry Code)) → (World → Option Turn) → List ℕ → Value → List Value → List Context → World → Turn
+  found_turn None other sent selector r arguments below w = sent_on other selector r arguments below w
+  found_turn (Some f) other sent selector r arguments below w = method_turn (sent w) (method f.class f.side selector) f.entry.code r arguments below w
 
   -- the tick, the look-up along these places, and the method
   abbrev pub looked_up : (World → Option Turn) → List Place → List ℕ → Value → List Value → List Context → World → Turn
   looked_up sent places selector r arguments below w =
-      ticked budget w (found_turn (first_found methods selector places) sent selector r arguments below)
+      ticked budget w (found_turn (first_found methods selector places) (first_found methods does_not_understand places) sent selector r arguments below)
 
   -- the places of a receiver's class
   abbrev pub places_of : Value → List Place
@@ -133,10 +147,11 @@ module _ (t : Table) (methods : MethodsValue (MethodEntry Code)) (doit_code : Co
   abbrev pub places_for : World → Value → List Place
   places_for w r = places_of (class_of t w.objects r)
 
-  -- the message of a primitive has no arguments, so its method's primitive sends none
+  -- the message of a primitive: the first argument is its selector, and its arguments are those behind, so that it may again send one
   abbrev pub performed : Value → List Value → List Context → World → Option Turn
-  performed r arguments below w =
-      option_map (λ selector. looked_up (λ _. None) (places_for w r) selector r [] below w) (unary_in w.objects arguments)
+  performed r [] below w = None
+  performed r (a ∷ arguments) below w =
+      option_map (λ selector. looked_up (performed r arguments below) (places_for w r) selector r arguments below w) (selector_of w.objects a (length arguments))
 
   abbrev pub sent : List Place → List ℕ → Value → List Value → List Context → World → Turn
   sent places selector r arguments below w = looked_up (performed r arguments below) places selector r arguments below w

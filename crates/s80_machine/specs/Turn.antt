@@ -9,7 +9,6 @@ use Rattle.s80_code.specs.declared.instruction.Instruction.TheVariants.{SendSpec
 use Rattle.s80_code.specs.Entries.{EntryTree, constant}
 use Rattle.s80_code.specs.Special.{block_copy}
 use Rattle.s80_code.specs.Table.{decoded}
-use Rattle.s80_object.specs.Body.{block}
 use Rattle.s80_object.specs.declared.value.Value.{Value}
 use Rattle.s80_prims.specs.declared.stop.End.{End}
 use Rattle.s80_prims.specs.declared.stop.End.TheVariants.{Answer, Stopped}

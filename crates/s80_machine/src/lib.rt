@@ -6,7 +6,6 @@ mod context;
 mod contexts;
 mod execution;
 mod halt;
-mod kernel;
 mod laws;
 mod machine;
 mod methods;

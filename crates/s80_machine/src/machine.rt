@@ -24,7 +24,7 @@ pub(crate) struct Machine<'a> {
     pub ticks: u64,
     pub methods: Methods<'a>,
     pub variables: Variables,
-    pub sites: Sites,
+    pub sites: Sites<'a>,
 }
 
 impl<'a> Machine<'a> {

@@ -1,33 +1,33 @@
 // Messages.
-ghost use Rattle.std.specs.Prelude.{◌≡◌, ◌∷◌, ◌==◌, ℕ, All, IfOk, IfSome, List, [], None, Some, get_or, length, slice_get, if◌then◌else◌};
-ghost use Rattle.std.specs.Option.{option_map};
-ghost use Rattle.s80_class.specs.Table.{IsClass, class_name};
+ghost use Rattle.std.specs.Prelude.{◌≡◌, ◌∷◌, ◌==◌, ℕ, All, IfOk, IfSome, List, [], None, Some, drop, false, get_or, length, slice_get, if◌then◌else◌};
+ghost use Rattle.std.specs.Option.{option_map, option_map_or};
+ghost use Rattle.s80_class.specs.Table.{IsClass, IsSuperclass, class_name};
 ghost use Rattle.s80_object.specs.declared.value.Value.{Value};
 ghost use Rattle.s80_prims.specs.Arithmetic.{truth};
 ghost use Rattle.s80_prims.specs.Classes.{class_of};
 ghost use Rattle.s80_prims.specs.Known.{AreKnown, IsKnown};
 ghost use Rattle.s80_prims.specs.Primitives.{same};
 ghost use Rattle.s80_prims.specs.declared.stop.Stop.TheVariants.{NotUnderstood};
-ghost use Rattle.s80_lex.specs.Selector.{IsSelectorOf, is_name};
+ghost use Rattle.s80_lex.specs.Selector.{IsSelectorOf};
 ghost use Rattle.s80_machine.specs.declared.machine.Machine.{Machine as MachineValue};
 ghost use Rattle.s80_machine.specs.Turn.{Context, waiting, State, message_off};
 ghost use Rattle.s80_machine.specs.World.{Key, World, method, number_in};
 ghost use Rattle.s80_class.specs.Lookup.{Place, places_up, IsFound};
-ghost use Rattle.s80_machine.specs.Sites.{IsLiteralOf};
+ghost use Rattle.s80_machine.specs.Sites.{IsSentAt, IsTarget};
 ghost use Rattle.s80_code.specs.declared.code.Code.{Code};
 ghost use Rattle.s80_code.specs.Special.{special_arguments};
-ghost use Rattle.s80_machine.specs.Shared.{at_once, block_with, is_value, of_integers, unary_in};
+ghost use Rattle.s80_machine.specs.Shared.{at_once, block_with, does_not_understand, is_value, of_integers, parameters, selector_of, sent_in};
 ghost use Rattle.s80_machine.specs.Step.{special_turn};
 ghost use Rattle.s80_machine.specs.Seen.{IsBlock};
 ghost use Rattle.s80_machine.specs.Came.{Came, IsGiven, IsReady, IsSet, Shows, ShowsWorld, TopIsKnown, above, at_place, given_of, places, sends};
-ghost use Rattle.s80_machine.specs.Messages.{IsKnownMessage, IsPlain, ReceiverIsKnown, Takes, TopSends, activates, finds, own_place, performs, places_in, refuses, runs, runs_method, runs_primitive, sends_one};
+ghost use Rattle.s80_machine.specs.Messages.{IsKnownMessage, IsPlain, MakesMessage, ReceiverIsKnown, Takes, TopSends, activates, along, finds, own_place, performs, refuses, runs, runs_method, runs_primitive, sends_on};
 
 use crate::activations::Block;
 use crate::halt::Halt;
-use crate::machine::Machine;
+use crate::machine::{Machine, made};
 use crate::selectors::integer_primitive;
-use crate::setting::Setting;
-use crate::sites::Sending;
+use crate::setting::{Line, Setting};
+use crate::sites::{SPECIAL, Sending, Target, row_of};
 use s80_base::{OutOfMemory, Side, Text};
 use s80_class::Found;
 use s80_code::special_arguments;
@@ -75,17 +75,73 @@ impl<'a> Machine<'a> {
     {
         let method = self.contexts.active().ok_or(Halt::Stuck)?.method;
         let (receiver, arguments) = self.contexts.take_message(on.alloc, count)?;
+        self.send_at(on, row_of(method), literal, selector, receiver, arguments)
+    }
+
+    // Sends a message by its row and its place there. Where it went before to such a class it goes again.
+    #[inline(always)]
+    fn send_at(
+        &mut self,
+        on: &Setting<'a>,
+        row: usize,
+        place: u8,
+        selector: &Text,
+        receiver: Value,
+        arguments: Vec<Value>,
+    ) -> Result<(), Halt>
+        requires ready { IsReady on.now }
+        requires setting { IsSet (given_of on.now) }
+        requires known { IsKnownMessage on.now.classes.now self.old.objects receiver arguments.items }
+        requires selector { IsSelectorOf (length arguments.items) selector.now }
+        ensures { (c : Context) (rest : List Context) (w : World) → Shows (given_of on.now) self.old (record { contexts = c ∷ rest; world = w })
+            → IsSentAt (given_of on.now) w.keys row place selector.now
+            → Came (given_of on.now) (sends (given_of on.now) (places (given_of on.now) w receiver) selector.now receiver arguments.items (c ∷ rest) w) self.new result }
+    {
         let (class, side) = on.class_of(&self.objects, receiver).ok_or(Halt::Stuck)?;
         let sending = Sending {
-            method,
-            literal,
+            row,
+            place,
             class,
             side,
         };
         self.tick(on.budget)?;
         match self.sites.get(sending) {
-            Some(number) => self.activate_again(on, number, receiver, arguments),
+            Some(target) => self.go_again(on, sending, target, selector, receiver, arguments),
             None => self.find_and_run(on, sending, selector, receiver, arguments),
+        }
+    }
+
+    // Goes where the message went before.
+    #[inline(always)]
+    fn go_again(
+        &mut self,
+        on: &Setting<'a>,
+        sending: Sending,
+        target: Target<'a>,
+        selector: &Text,
+        receiver: Value,
+        arguments: Vec<Value>,
+    ) -> Result<(), Halt>
+        requires ready { IsReady on.now }
+        requires setting { IsSet (given_of on.now) }
+        requires known { IsKnownMessage on.now.classes.now self.old.objects receiver arguments.items }
+        requires selector { IsSelectorOf (length arguments.items) selector.now }
+        requires class { IsClass on.now.classes.now.names sending.class }
+        ensures { (c : Context) (rest : List Context) (w : World) → Shows (given_of on.now) self.old (record { contexts = c ∷ rest; world = w })
+            → IsTarget (given_of on.now) w.keys selector.now (places_up on.now.classes.now sending.class sending.side) target.entry
+            → Came (given_of on.now) (runs (given_of on.now) (performs (given_of on.now) receiver arguments.items (c ∷ rest)) (places_up on.now.classes.now sending.class sending.side)
+            selector.now receiver arguments.items (c ∷ rest) w) self.new result }
+    {
+        match target {
+            Target::Numbered(number) => self.activate_again(on, number, receiver, arguments),
+            Target::Primitive(found) => {
+                let line = Line {
+                    class: Some(sending.class),
+                    side: sending.side,
+                };
+                self.run_found(on, line, Some(found), selector, receiver, arguments)
+            }
+            Target::Handler(found) => self.hand_on(on, found, selector, receiver, arguments),
         }
     }
 
@@ -106,7 +162,7 @@ impl<'a> Machine<'a> {
         self.activate_method(on, number, receiver, arguments)
     }
 
-    // Looks a message up, and runs the method that it finds. Where that has no primitive, its number is noted.
+    // Looks a message up, runs the method that it finds, and notes where it went.
     #[inline(never)]
     fn find_and_run(
         &mut self,
@@ -122,15 +178,76 @@ impl<'a> Machine<'a> {
         requires selector { IsSelectorOf (length arguments.items) selector.now }
         requires class { IsClass on.now.classes.now.names sending.class }
         ensures { (c : Context) (rest : List Context) (w : World) → Shows (given_of on.now) self.old (record { contexts = c ∷ rest; world = w })
-            → IsLiteralOf (given_of on.now) w.keys sending.method sending.literal selector.now
+            → IsSentAt (given_of on.now) w.keys sending.row sending.place selector.now
             → Came (given_of on.now) (runs (given_of on.now) (performs (given_of on.now) receiver arguments.items (c ∷ rest)) (places_up on.now.classes.now sending.class sending.side)
             selector.now receiver arguments.items (c ∷ rest) w) self.new result }
     {
         let found = on.find(sending.class, sending.side, selector);
         match plain(found) {
             Some(plain) => self.activate_noting(on, sending, plain, selector, receiver, arguments),
-            None => self.run_found(on, found, selector, receiver, arguments),
+            None => self.run_noting(on, sending, found, selector, receiver, arguments),
         }
+    }
+
+    // Runs the method that was found, or sends the message on, and notes it.
+    #[inline(never)]
+    fn run_noting(
+        &mut self,
+        on: &Setting<'a>,
+        sending: Sending,
+        found: Option<Found<'a, Verified>>,
+        selector: &Text,
+        receiver: Value,
+        arguments: Vec<Value>,
+    ) -> Result<(), Halt>
+        requires ready { IsReady on.now }
+        requires setting { IsSet (given_of on.now) }
+        requires known { IsKnownMessage on.now.classes.now self.old.objects receiver arguments.items }
+        requires selector { IsSelectorOf (length arguments.items) selector.now }
+        requires class { IsClass on.now.classes.now.names sending.class }
+        ensures { (c : Context) (rest : List Context) (w : World) → Shows (given_of on.now) self.old (record { contexts = c ∷ rest; world = w })
+            → IsSentAt (given_of on.now) w.keys sending.row sending.place selector.now
+            → IsFound (finds (given_of on.now) selector.now (places_up on.now.classes.now sending.class sending.side)) found.entry
+            → Came (given_of on.now) (runs (given_of on.now) (performs (given_of on.now) receiver arguments.items (c ∷ rest)) (places_up on.now.classes.now sending.class sending.side)
+            selector.now receiver arguments.items (c ∷ rest) w) self.new result }
+    {
+        let Some(found) = found else {
+            return self.send_on_noting(on, sending, selector, receiver, arguments);
+        };
+        self.sites
+            .note(on.alloc, sending, Target::Primitive(found))?;
+        let line = Line {
+            class: Some(sending.class),
+            side: sending.side,
+        };
+        self.run_found(on, line, Some(found), selector, receiver, arguments)
+    }
+
+    // Sends a message on that isn't understood, and notes it.
+    #[inline(never)]
+    fn send_on_noting(
+        &mut self,
+        on: &Setting<'a>,
+        sending: Sending,
+        selector: &Text,
+        receiver: Value,
+        arguments: Vec<Value>,
+    ) -> Result<(), Halt>
+        requires ready { IsReady on.now }
+        requires setting { IsSet (given_of on.now) }
+        requires known { IsKnownMessage on.now.classes.now self.old.objects receiver arguments.items }
+        requires class { IsClass on.now.classes.now.names sending.class }
+        ensures { (c : Context) (rest : List Context) (w : World) → Shows (given_of on.now) self.old (record { contexts = c ∷ rest; world = w })
+            → IsSentAt (given_of on.now) w.keys sending.row sending.place selector.now
+            → IsFound (finds (given_of on.now) selector.now (places_up on.now.classes.now sending.class sending.side)) None
+            → Came (given_of on.now) (sends_on (given_of on.now) (places_up on.now.classes.now sending.class sending.side) selector.now receiver arguments.items (c ∷ rest) w) self.new result }
+    {
+        let Some(found) = on.find(sending.class, sending.side, &on.unknown) else {
+            let halt = not_understood(on, &self.objects, receiver, selector);
+            return Err(halt);
+        };
+        self.sites.note(on.alloc, sending, Target::Handler(found))?;
+        self.hand_on(on, found, selector, receiver, arguments)
     }
 
     // Activates a method that was found, and notes its number.
@@ -146,7 +263,7 @@ impl<'a> Machine<'a> {
     ) -> Result<(), Halt>
         requires plain { found.entry.now.code.primitive ≡ 0 }
         ensures { (s : State) → Shows (given_of on.now) self.old s
-            → IsLiteralOf (given_of on.now) s.world.keys sending.method sending.literal selector.now
+            → IsSentAt (given_of on.now) s.world.keys sending.row sending.place selector.now
             → IsFound (finds (given_of on.now) selector.now (places_up on.now.classes.now sending.class sending.side)) (Some found.entry)
             → Takes (given_of on.now) (method found.entry.class found.entry.side selector.now) found.entry.entry.now.code arguments.items
             → Came (given_of on.now) (activates (given_of on.now) (method found.entry.class found.entry.side selector.now) found.entry.entry.now.code receiver arguments.items s.contexts s.world) self.new result }
@@ -159,7 +276,8 @@ impl<'a> Machine<'a> {
             selector,
             &found.entry.code,
         )?;
-        self.sites.note(on.alloc, sending, number)?;
+        self.sites
+            .note(on.alloc, sending, Target::Numbered(number))?;
         self.activate_method(on, number, receiver, arguments)
     }
 
@@ -185,8 +303,9 @@ impl<'a> Machine<'a> {
         let (class, side) = self.place_of(on, method).ok_or(Halt::Stuck)?;
         let (_, arguments) = self.contexts.take_message(on.alloc, count)?;
         self.tick(on.budget)?;
-        let found = on.find_above(class, side, selector);
-        self.run_found(on, found, selector, receiver, arguments)
+        let line = on.line_above(class, side);
+        let found = on.find_along(line, selector);
+        self.run_found(on, line, found, selector, receiver, arguments)
     }
 
     // Where a method stands that was activated; a doIt is one of nil's class.
@@ -222,7 +341,7 @@ impl<'a> Machine<'a> {
             return self.activate_block(on, block, arguments);
         }
         let selector = on.special_selector(number).ok_or(Halt::Stuck)?;
-        self.send_to(on, selector, receiver, arguments)
+        self.send_at(on, SPECIAL, number, selector, receiver, arguments)
     }
 
     // The block that a special message activates, which `value` and `value:` do.
@@ -236,6 +355,7 @@ impl<'a> Machine<'a> {
     }
 
     // Sends a message that is looked up in the receiver's class.
+    #[cycle(sending)]
     fn send_to(
         &mut self,
         on: &Setting<'a>,
@@ -250,15 +370,26 @@ impl<'a> Machine<'a> {
         ensures { (c : Context) (rest : List Context) (w : World) → Shows (given_of on.now) self.old (record { contexts = c ∷ rest; world = w })
             → Came (given_of on.now) (sends (given_of on.now) (places (given_of on.now) w receiver) selector.now receiver arguments.items (c ∷ rest) w) self.new result }
     {
+        let (class, side) = on.class_of(&self.objects, receiver).ok_or(Halt::Stuck)?;
         self.tick(on.budget)?;
-        let found = find(on, &self.objects, receiver, selector);
-        self.run_found(on, found, selector, receiver, arguments)
+        let found = on.find(class, side, selector);
+        let class = Some(class);
+        self.run_found(
+            on,
+            Line { class, side },
+            found,
+            selector,
+            receiver,
+            arguments,
+        )
     }
 
-    // Runs the method that a message found, or sends the message of its primitive.
+    // Runs the method that a message found along a line, or sends the message of its primitive. Where none was found the message is sent on.
+    #[cycle(sending)]
     fn run_found(
         &mut self,
         on: &Setting<'a>,
+        line: Line,
         found: Option<Found<'a, Verified>>,
         selector: &Text,
         receiver: Value,
@@ -268,33 +399,89 @@ impl<'a> Machine<'a> {
         requires setting { IsSet (given_of on.now) }
         requires known { IsKnownMessage on.now.classes.now self.old.objects receiver arguments.items }
         requires selector { IsSelectorOf (length arguments.items) selector.now }
+        requires class { IsSuperclass on.now.classes.now.names line.class }
         ensures { (c : Context) (rest : List Context) (w : World) (at : List Place) → Shows (given_of on.now) self.old (record { contexts = c ∷ rest; world = w })
-            → IsFound (finds (given_of on.now) selector.now at) found.entry
+            → along (given_of on.now) line ≡ at → IsFound (finds (given_of on.now) selector.now at) found.entry
             → Came (given_of on.now) (runs (given_of on.now) (performs (given_of on.now) receiver arguments.items (c ∷ rest)) at selector.now receiver arguments.items (c ∷ rest) w) self.new result }
     {
         let Some(found) = found else {
-            return Err(not_understood(on, &self.objects, receiver, selector));
+            return self.send_on(on, line, selector, receiver, arguments);
         };
-        if let Some(unary) = sent_by(on.alloc, &self.objects, found, &arguments)? {
-            return self.perform(on, &unary, receiver);
+        match sent_by(on.alloc, &self.objects, found, &arguments)? {
+            Some(sent) => self.send_to(on, &sent, receiver, behind_first(arguments)),
+            None => self.run_method(on, found, selector, receiver, arguments),
         }
-        self.run_method(on, found, selector, receiver, arguments)
     }
 
-    // Sends the message that a primitive sends. It has no arguments, so that its method's primitive sends none.
-    fn perform(&mut self, on: &Setting<'a>, selector: &Text, receiver: Value) -> Result<(), Halt>
+    // Sends a message that isn't understood on: `doesNotUnderstand:` is looked up along the same line, and is given a Message.
+    #[inline(never)]
+    fn send_on(
+        &mut self,
+        on: &Setting<'a>,
+        line: Line,
+        selector: &Text,
+        receiver: Value,
+        arguments: Vec<Value>,
+    ) -> Result<(), Halt>
         requires ready { IsReady on.now }
         requires setting { IsSet (given_of on.now) }
-        requires known { IsKnownMessage on.now.classes.now self.old.objects receiver [] }
-        requires selector { IsSelectorOf 0 selector.now }
+        requires known { IsKnownMessage on.now.classes.now self.old.objects receiver arguments.items }
+        requires class { IsSuperclass on.now.classes.now.names line.class }
         ensures { (c : Context) (rest : List Context) (w : World) → Shows (given_of on.now) self.old (record { contexts = c ∷ rest; world = w })
-            → Came (given_of on.now) (sends_one (given_of on.now) (places (given_of on.now) w receiver) selector.now receiver (c ∷ rest) w) self.new result }
+            → Came (given_of on.now) (sends_on (given_of on.now) (along (given_of on.now) line) selector.now receiver arguments.items (c ∷ rest) w) self.new result }
     {
-        self.tick(on.budget)?;
-        let Some(found) = find(on, &self.objects, receiver, selector) else {
+        let Some(found) = on.find_along(line, &on.unknown) else {
             return Err(not_understood(on, &self.objects, receiver, selector));
         };
-        self.run_method(on, found, selector, receiver, Vec::new(on.alloc))
+        self.hand_on(on, found, selector, receiver, arguments)
+    }
+
+    // Gives a Message to the method that takes on what isn't understood.
+    #[inline(never)]
+    fn hand_on(
+        &mut self,
+        on: &Setting<'a>,
+        found: Found<'a, Verified>,
+        selector: &Text,
+        receiver: Value,
+        arguments: Vec<Value>,
+    ) -> Result<(), Halt>
+        requires ready { IsReady on.now }
+        requires setting { IsSet (given_of on.now) }
+        requires known { IsKnownMessage on.now.classes.now self.old.objects receiver arguments.items }
+        ensures { (c : Context) (rest : List Context) (w : World) (at : List Place) → Shows (given_of on.now) self.old (record { contexts = c ∷ rest; world = w })
+            → IsFound (finds (given_of on.now) does_not_understand at) (Some found.entry)
+            → Came (given_of on.now) (sends_on (given_of on.now) at selector.now receiver arguments.items (c ∷ rest) w) self.new result }
+    {
+        let message = self.make_message(on, selector, arguments)?;
+        let arguments = vec![in on.alloc; message]?;
+        self.run_method(on, found, &on.unknown, receiver, arguments)
+    }
+
+    // A message as an object: an Array of its arguments is made, and then the Message of its selector and that Array.
+    fn make_message(
+        &mut self,
+        on: &Setting<'a>,
+        selector: &Text,
+        arguments: Vec<Value>,
+    ) -> Result<Value, Halt>
+        requires ready { IsReady on.now }
+        requires setting { IsSet (given_of on.now) }
+        requires objects { AreKnown on.now.classes.now self.old.objects }
+        requires arguments { All (IsKnown on.now.classes.now self.old.objects) arguments.items }
+        ensures makes { (w : World) → ShowsWorld (given_of on.now) self.old w → MakesMessage (given_of on.now) selector.now arguments.items w self.old self.new result }
+        ensures known { IfOk result (λ m. (r : Value) → IsKnown on.now.classes.now self.old.objects r → IsKnownMessage on.now.classes.now self.new.objects r (m ∷ [])) }
+    {
+        let array = self
+            .objects
+            .make_pointers(on.kernel.array, Vec::new(on.alloc), arguments);
+        let array = made(on.alloc, array)?;
+        let symbol = self.objects.symbol(selector)?;
+        let fields = vec![in on.alloc; symbol, array]?;
+        let message = self
+            .objects
+            .make_pointers(on.kernel.message, fields, Vec::new(on.alloc));
+        made(on.alloc, message)
     }
 
     // Runs a method's primitive, or its body. Its primitive sends no message.
@@ -306,6 +493,7 @@ impl<'a> Machine<'a> {
         receiver: Value,
         arguments: Vec<Value>,
     ) -> Result<(), Halt>
+        requires ready { IsReady on.now }
         requires setting { IsSet (given_of on.now) }
         requires known { IsKnownMessage on.now.classes.now self.old.objects receiver arguments.items }
         ensures { (c : Context) (rest : List Context) (w : World) → Shows (given_of on.now) self.old (record { contexts = c ∷ rest; world = w })
@@ -331,6 +519,7 @@ impl<'a> Machine<'a> {
         receiver: Value,
         arguments: Vec<Value>,
     ) -> Result<(), Halt>
+        requires ready { IsReady on.now }
         requires setting { IsSet (given_of on.now) }
         requires known { IsKnownMessage on.now.classes.now self.old.objects receiver arguments.items }
         ensures { (c : Context) (rest : List Context) (w : World) → Shows (given_of on.now) self.old (record { contexts = c ∷ rest; world = w })
@@ -342,6 +531,7 @@ impl<'a> Machine<'a> {
             found.entry.code.code().primitive,
             receiver,
             &arguments,
+            &on.kernel,
             on.classes,
             &mut self.objects,
             &mut self.transcript,
@@ -455,23 +645,6 @@ fn of_integers(number: u8, r: Value, a: Value) -> Option<Value>
     }
 }
 
-// The method that a message to a receiver finds.
-fn find<'a>(
-    on: &Setting<'a>,
-    objects: &Objects,
-    receiver: Value,
-    selector: &Text,
-) -> Option<Found<'a, Verified>>
-    requires ready { IsReady on.now }
-    requires setting { IsSet (given_of on.now) }
-    requires objects { AreKnown on.now.classes.now objects.now }
-    requires receiver { IsKnown on.now.classes.now objects.now receiver }
-    ensures { IsFound (finds (given_of on.now) selector.now (places_in (given_of on.now) objects.now receiver)) result }
-{
-    let (class, side) = on.class_of(objects, receiver)?;
-    on.find(class, side, selector)
-}
-
 // The receiver's class doesn't understand the message.
 fn not_understood(on: &Setting<'_>, objects: &Objects, receiver: Value, selector: &Text) -> Halt
     requires ready { IsReady on.now }
@@ -510,38 +683,71 @@ fn sent_by(
     found: Found<'_, Verified>,
     arguments: &[Value],
 ) -> Result<Option<Text>, OutOfMemory>
-    ensures is { IfOk result (λ unary. unary ≡ (if found.entry.entry.now.code.primitive == 83 then unary_in objects.now arguments.now else None)) }
-    ensures unary { IfOk result (λ unary. IfSome unary (IsSelectorOf 0)) }
+    ensures is { IfOk result (λ sent. sent ≡ (if found.entry.entry.now.code.primitive == 83 then sent_in objects.now arguments.now else None)) }
+    ensures takes { IfOk result (λ sent. IfSome sent (IsSelectorOf (length (drop 1 arguments.now)))) }
 {
     if found.entry.code.code().primitive == SENDS_MESSAGE {
-        unary(alloc, objects, arguments)
+        sent_in(alloc, objects, arguments)
     } else {
         Ok(None)
     }
 }
 
-// The selector without parameters that a symbol is, as the only argument.
-fn unary(alloc: Global, objects: &Objects, arguments: &[Value]) -> Result<Option<Text>, OutOfMemory>
-    ensures is { IfOk result (λ unary. unary ≡ unary_in objects.now arguments.now) }
-    ensures unary { IfOk result (λ unary. IfSome unary (IsSelectorOf 0)) }
+// The selector that the first argument is, with a parameter for each further one.
+fn sent_in(
+    alloc: Global,
+    objects: &Objects,
+    arguments: &[Value],
+) -> Result<Option<Text>, OutOfMemory>
+    ensures is { IfOk result (λ sent. sent ≡ sent_in objects.now arguments.now) }
+    ensures takes { IfOk result (λ sent. IfSome sent (IsSelectorOf (length (drop 1 arguments.now)))) }
 {
-    let [Value::Symbol(n)] = arguments else {
+    match arguments {
+        [] => Ok(None),
+        [first, further @ ..] => selector_of(alloc, objects, *first, further.len()),
+    }
+}
+
+// The selector of so many parameters that a symbol is.
+fn selector_of(
+    alloc: Global,
+    objects: &Objects,
+    v: Value,
+    count: usize,
+) -> Result<Option<Text>, OutOfMemory>
+    ensures is { IfOk result (λ selector. selector ≡ selector_of objects.now v count) }
+    ensures takes { IfOk result (λ selector. IfSome selector (IsSelectorOf count)) }
+{
+    let Value::Symbol(n) = v else {
         return Ok(None);
     };
-    let Some(text) = objects.text_of(Value::Symbol(*n)) else {
+    let Some(text) = objects.text_of(Value::Symbol(n)) else {
         return Ok(None);
     };
-    if !is_unary(text) {
+    if !takes(text, count) {
         return Ok(None);
     }
     Ok(Some(Text::from_bytes(alloc, text)?))
 }
 
-fn is_unary(text: &[u8]) -> bool
-    ensures { result ≡ is_name text.now }
+// Whether it is a selector of so many parameters.
+fn takes(text: &[u8], count: usize) -> bool
+    ensures { result ≡ option_map_or (λ n. n == count) (parameters text.now) false }
 {
     match parameters_of(text) {
-        Some(count) => count == 0,
+        Some(parameters) => parameters == count,
         None => false,
     }
+}
+
+// The values behind the first.
+fn behind_first(values: Vec<Value>) -> Vec<Value>
+    ensures { result.items ≡ drop 1 values.items }
+{
+    let mut values = values;
+    if values.is_empty() {
+        return values;
+    }
+    values.remove(0);
+    values
 }

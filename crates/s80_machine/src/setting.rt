@@ -5,18 +5,28 @@ ghost use Rattle.s80_class.specs.Table.{IsClass, IsSuperclass};
 ghost use Rattle.s80_code.specs.Special.{special_selectors};
 ghost use Rattle.s80_prims.specs.Known.{HasKernel};
 ghost use Rattle.s80_prims.specs.Classes.{class_of};
+ghost use Rattle.s80_prims.specs.Numbers.{class_place};
 ghost use Rattle.s80_class.specs.Lookup.{first_found, places_up, IsFound, places_from};
-ghost use Rattle.s80_machine.specs.Seen.{class_place};
 ghost use Rattle.s80_machine.specs.Came.{IsReady, given_of};
 
-use crate::kernel::Kernel;
 use crate::selectors::special_selectors;
 use s80_base::{Names, OutOfMemory, Side, Text};
 use s80_class::{ClassTable, Found, lookup_from};
 use s80_dict::MethodTable;
 use s80_object::{Objects, Value};
+use s80_prims::Kernel;
 use s80_verify::Verified;
 use std::alloc::Global;
+
+// What a receiver is sent with a Message that it doesn't understand.
+const DOES_NOT_UNDERSTAND: &[u8] = b"doesNotUnderstand:";
+
+/// Where a look-up begins: a side of a class, or behind the last one.
+#[derive(Clone, Copy, Debug)]
+pub(crate) struct Line {
+    pub class: Option<u32>,
+    pub side: Side,
+}
 
 /// What a run doesn't change.
 #[derive(Debug, Drop)]
@@ -28,6 +38,7 @@ pub(crate) struct Setting<'a> {
     pub budget: u64,
     pub kernel: Kernel,
     pub special: Names,
+    pub unknown: Text,
 }
 
 impl<'a> Setting<'a> {
@@ -52,6 +63,7 @@ impl<'a> Setting<'a> {
             budget,
             kernel: Kernel::of(alloc, classes)?,
             special: special_selectors(alloc)?,
+            unknown: Text::from_bytes(alloc, DOES_NOT_UNDERSTAND)?,
         })
     }
 
@@ -87,38 +99,32 @@ impl<'a> Setting<'a> {
         requires class { IsClass self.now.classes.now.names class }
         ensures { IsFound (first_found self.now.methods.now selector.now (places_up self.now.classes.now class side)) result }
     {
-        self.find_from(Some(class), side, selector)
+        let class = Some(class);
+        self.find_along(Line { class, side }, selector)
     }
 
-    /// The method that a message to super finds, from a side of a class.
-    pub(crate) fn find_above(
-        &self,
-        class: u32,
-        side: Side,
-        selector: &Text,
-    ) -> Option<Found<'a, Verified>>
+    /// Where the look-up of a message to super begins, from a side of a class.
+    pub(crate) fn line_above(&self, class: u32, side: Side) -> Line
         requires ready { IsReady self.now }
         requires class { IsClass self.now.classes.now.names class }
-        ensures { IsFound (first_found self.now.methods.now selector.now (drop 1 (places_up self.now.classes.now class side))) result }
+        ensures class { IsSuperclass self.now.classes.now.names result.class }
+        ensures places { places_from self.now.classes.now result.class result.side ≡ drop 1 (places_up self.now.classes.now class side) }
     {
-        self.find_from(self.classes.at(class).superclass, side, selector)
+        let class = self.classes.at(class).superclass;
+        Line { class, side }
     }
 
-    fn find_from(
-        &self,
-        from: Option<u32>,
-        side: Side,
-        selector: &Text,
-    ) -> Option<Found<'a, Verified>>
+    /// The method that is found along a line.
+    pub(crate) fn find_along(&self, line: Line, selector: &Text) -> Option<Found<'a, Verified>>
         requires ready { IsReady self.now }
-        requires class { IsSuperclass self.now.classes.now.names from }
-        ensures { IsFound (first_found self.now.methods.now selector.now (places_from self.now.classes.now from side)) result }
+        requires class { IsSuperclass self.now.classes.now.names line.class }
+        ensures { IsFound (first_found self.now.methods.now selector.now (places_from self.now.classes.now line.class line.side)) result }
     {
         lookup_from(
             self.classes,
             self.methods,
-            from,
-            side,
+            line.class,
+            line.side,
             Some(self.kernel.class),
             selector,
         )

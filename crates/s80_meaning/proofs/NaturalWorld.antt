@@ -13,7 +13,7 @@ use Rattle.s80_object.specs.declared.value.Value.TheVariants.{Symbol, ClassRef, 
 use Rattle.s80_prims.specs.Primitives.{World as Reached}
 use Rattle.s80_machine.specs.World.{World, Activation, changed, field_read, field_set, in_activation, ok_of, reached, receiver_variable, temporary, with_objects, with_receiver_variable, with_temporary}
 use Rattle.s80_machine.specs.World as world
-use Rattle.s80_machine.specs.Shared.{Block, at_once, block_at, block_in, block_with, if_takes, unary_in}
+use Rattle.s80_machine.specs.Shared.{Block, at_once, block_at, block_in, block_with, if_takes, selector_of}
 use Rattle.s80_meaning.specs.Image.{placed, image, image_reached}
 use Rattle.s80_meaning.specs.Meaning.{read, same_activation, with_parameters, written}
 use Rattle.s80_meaning.proofs.NaturalObjects.{class_of_image, field_put_image, fields_at_image, get_map, placed_result, with_body_at_image}
@@ -111,10 +111,9 @@ module _ (at : Value → ℕ → ℕ) where
   at_once_image t s n r (a ∷ []) = refl
   at_once_image t s n r (a ∷ b ∷ rest) = refl
 
-  pub unary_image : (s : Objects) (arguments : List Value) → unary_in (image at s) arguments ≡ unary_in s arguments
-  unary_image s [] = refl
-  unary_image s (Symbol n ∷ []) = refl
-  unary_image s _ = refl
+  pub selector_image : (s : Objects) (v : Value) (count : ℕ) → selector_of (image at s) v count ≡ selector_of s v count
+  selector_image s (Symbol n) count = refl
+  selector_image s _ count = refl
 
   -- a block is the same, but for where it starts
   abbrev pub placed_block : Block → Block

@@ -99,6 +99,10 @@ module _ (t u : Table) (r : ℕ → ℕ) (is : IsRenumbering t u r) where
   unfolding rows.is_kernel_class
   arrays_renamed = is.kernel (codes "Array") refl
 
+  pub messages_renamed : number u (codes "Message") ≡ r (number t (codes "Message"))
+  unfolding rows.is_kernel_class
+  messages_renamed = is.kernel (codes "Message") refl
+
   pub nil_class_renamed : number u (codes "UndefinedObject") ≡ r (number t (codes "UndefinedObject"))
   unfolding rows.is_kernel_class
   nil_class_renamed = is.kernel (codes "UndefinedObject") refl

@@ -6,23 +6,26 @@ use Rattle.s80_base.specs.declared.names.Side.TheVariants.{Instance}
 use Rattle.s80_class.specs.Lookup.{Found, Place, found_or, number, places_up}
 use Rattle.s80_class.specs.Table.{class_name}
 use Rattle.s80_code.specs.Special.{special_number}
+use Rattle.s80_object.specs.Body.{BodyTree, pointers}
+use Rattle.s80_object.specs.Literal.{named}
+use Rattle.s80_object.specs.Objects.{with_body}
 use Rattle.s80_object.specs.declared.value.Value.{Value}
-use Rattle.s80_object.specs.declared.value.Value.TheVariants.{ClassRef}
+use Rattle.s80_object.specs.declared.value.Value.TheVariants.{ClassRef, Object}
 use Rattle.s80_prims.specs.declared.applied.Applied.{Applied}
 use Rattle.s80_prims.specs.declared.applied.Applied.TheVariants.{Done, Fails, Stops}
 use Rattle.s80_prims.specs.declared.stop.Stop.TheVariants.{NotUnderstood}
 use Rattle.s80_prims.specs.Classes.{class_of}
 use Rattle.s80_prims.specs.Primitives.{Effect, primitive}
-use Rattle.s80_machine.specs.World.{World, Key, doit, method, Variable, Activation, changed, one_tick, reached}
-use Rattle.s80_machine.specs.Shared.{Block, at_once, block_with, is_value, unary_in}
-use Rattle.s80_meaning.specs.Meaning.{Out, Gives, Stopped, Here, Evaluator, first_meant, activated, block_activated, by_effect, found_value, looked_up, message, method_value, not_understood, performed, places_above, places_of, plain, sent, sent_to}
+use Rattle.s80_machine.specs.World.{World, Key, doit, method, Variable, Activation, changed, one_tick, reached, with_objects}
+use Rattle.s80_machine.specs.Shared.{Block, arguments_body, at_once, block_with, does_not_understand, is_value, message_body, selector_of}
+use Rattle.s80_meaning.specs.Meaning.{Out, Gives, Stopped, Here, Evaluator, first_meant, activated, block_activated, by_effect, found_value, looked_up, message, message_made, method_value, not_understood, performed, places_above, places_of, plain, sent, sent_on, sent_to, with_room}
 use Rattle.s80_meaning.specs.Tree.{Meant, Tree}
-use Rattle.s80_meaning.proofs.RenamedObjects.{renamed, renamed_objects}
-use Rattle.s80_meaning.proofs.RenamedClasses.{class_name_same, class_of_renamed, nil_class_renamed}
+use Rattle.s80_meaning.proofs.RenamedObjects.{length_renamed, renamed, renamed_body, renamed_objects}
+use Rattle.s80_meaning.proofs.RenamedClasses.{arrays_renamed, class_name_same, class_of_renamed, messages_renamed, nil_class_renamed}
 use Rattle.s80_meaning.proofs.RenamedPrimitives.{primitive_renamed, renamed_applied}
 use Rattle.s80_meaning.proofs.RenamedPlaces.{found_or_renamed, places_up_renamed, renamed_found, renamed_place}
-use Rattle.s80_meaning.proofs.RenamedWorld.{AreRenamed, at_once_renamed, block_with_renamed, renamed_activation, renamed_block, renamed_key, renamed_world, unary_same}
-use Rattle.s80_meaning.proofs.RenamedOut.{gives, stopped, unfinished, if_alike, or_alike, ticked_alike}
+use Rattle.s80_meaning.proofs.RenamedWorld.{AreRenamed, at_once_renamed, block_with_renamed, renamed_activation, renamed_block, renamed_key, renamed_world, selector_same}
+use Rattle.s80_meaning.proofs.RenamedOut.{gives, stopped, unfinished, if_alike, or_alike, room_alike, ticked_alike}
 use Rattle.s80_meaning.proofs.RenamedActivations.{Houses, Same, TreeAlike, activated_alike, block_activated_alike, renamed_here}
 
 drop_one : {X Y : Type 0} (f : X → Y) (xs : List X) → drop 1 (map f xs) ≡ map f (drop 1 xs)
@@ -119,18 +122,71 @@ module _ (p : Houses) where
         (stopped (NotUnderstood (class_name p.t c) side selector) w vs h)
     not_understood_alike _ selector w vs h = unfinished
 
+    -- ---- a message as an object
+
+    -- what goes on alike with a Message
+    abbrev WithAlike : (Variable → Value) → (Value → World → Out Value) → (Value → World → Out Value) → Type 0
+    WithAlike vs go goes = (m : Value) (w : World) → AreRenamed p.r w.variables vs → Same p (go m w) (goes (rename m) (other w vs))
+
+    -- the second object: the selector is named, and the Message is made of it and the first
+    abbrev second : List ℕ → ℕ → (Value → World → Out Value) → World → Out Value
+    second selector n go w =
+        with_room (with_objects w (named selector w.objects).0) (message_body p.t (named selector w.objects).1 (Object n)) (λ w1. go (Object (length w.objects.bodies)) w1)
+
+    abbrev seconds : List ℕ → ℕ → (Value → World → Out Value) → World → Out Value
+    seconds selector n go w =
+        with_room (with_objects w (named selector w.objects).0) (message_body p.u (named selector w.objects).1 (Object n)) (λ w1. go (Object (length w.objects.bodies)) w1)
+
+    second_alike : (selector : List ℕ) (n : ℕ) (go goes : Value → World → Out Value) (w : World) (vs : Variable → Value) → AreRenamed p.r w.variables vs → WithAlike vs go goes
+        → Same p (second selector n go w) (seconds selector n goes (other w vs))
+    second_alike selector n go goes w vs h g =
+        let made : Value = Object (length w.objects.bodies) in
+        let symbol : Value = (named selector w.objects).1 in
+        let w1 : World = with_objects w (named selector w.objects).0 in
+        let body : BodyTree = message_body p.t symbol (Object n) in
+        let w2 : World = with_objects w1 (with_body w1.objects body) in
+        subst (λ c. Same p (second selector n go w) (with_room (other w1 vs) (pointers c (symbol ∷ Object n ∷ []) []) (λ x. goes (Object (length (map (renamed_body p.r) w.objects.bodies))) x)))
+        (sym (messages_renamed p.t p.u p.r p.is))
+        (subst (λ k. Same p (second selector n go w) (with_room (other w1 vs) (renamed_body p.r body) (λ x. goes (Object k) x))) (sym (length_renamed p.r w.objects.bodies))
+        (room_alike p.r (renamed p.r) w1 vs body (λ x. go made x) (λ x. goes made x) h (g made w2 h)))
+
+    message_made_alike : (selector : List ℕ) (arguments : List Value) (w : World) (vs : Variable → Value) (go goes : Value → World → Out Value) → AreRenamed p.r w.variables vs → WithAlike vs go goes
+        → Same p (message_made p.t p.methods p.meant p.budget next selector arguments w go) (message_made p.u p.others p.meant p.budget nexts selector (rename_all arguments) (other w vs) goes)
+    message_made_alike selector arguments w vs go goes h g =
+        let n : ℕ = length w.objects.bodies in
+        let body : BodyTree = arguments_body p.t arguments in
+        let w1 : World = with_objects w (with_body w.objects body) in
+        let made : Out Value = with_room w body (second selector n go) in
+        subst (λ c. Same p made (with_room (other w vs) (pointers c [] (rename_all arguments)) (seconds selector (length (map (renamed_body p.r) w.objects.bodies)) goes))) (sym (arrays_renamed p.t p.u p.r p.is))
+        (subst (λ k. Same p made (with_room (other w vs) (renamed_body p.r body) (seconds selector k goes))) (sym (length_renamed p.r w.objects.bodies))
+        (room_alike p.r (renamed p.r) w vs body (second selector n go) (seconds selector n goes) h (second_alike selector n go goes w1 vs h g)))
+
+    -- ---- look-ups and what primitives send
+
     -- what a primitive sends, from each world on
     abbrev PartsSame : (World → Option (Out Value)) → (World → Option (Out Value)) → Type 0
     PartsSame part parts = (w : World) (vs : Variable → Value) → AreRenamed p.r w.variables vs → PartSame (part w) (parts (other w vs))
 
-    found_alike : (found : Option (Found Meant)) (part parts : World → Option (Out Value)) (selector : List ℕ) (x : Value) (arguments : List Value) (alive : List Activation) (w : World) (f : Activation) (vs : Variable → Value)
-        → AreRenamed p.r w.variables vs → PartsSame part parts
-        → Same p (found_value p.t p.methods p.meant p.budget next found part selector x arguments alive w f)
-        (found_value p.u p.others p.meant p.budget nexts (option_map (renamed_found p.r) found) parts selector (rename x) (rename_all arguments) (acts alive) (other w vs) (act f))
-    found_alike None part parts selector x arguments alive w f vs h g =
+    sent_on_alike : (found : Option (Found Meant)) (selector : List ℕ) (x : Value) (arguments : List Value) (alive : List Activation) (w : World) (f : Activation) (vs : Variable → Value)
+        → AreRenamed p.r w.variables vs
+        → Same p (sent_on p.t p.methods p.meant p.budget next found selector x arguments alive w f)
+        (sent_on p.u p.others p.meant p.budget nexts (option_map (renamed_found p.r) found) selector (rename x) (rename_all arguments) (acts alive) (other w vs) (act f))
+    sent_on_alike None selector x arguments alive w f vs h =
         subst (λ v. Same p (not_understood p.t p.methods p.meant p.budget next (class_of p.t w.objects x) selector w) (not_understood p.u p.others p.meant p.budget nexts v selector (other w vs)))
         (sym (class_of_renamed p.t p.u p.r p.is w.objects x)) (not_understood_alike (class_of p.t w.objects x) selector w vs h)
-    found_alike (Some found) part parts selector x arguments alive w f vs h g =
+    sent_on_alike (Some found) selector x arguments alive w f vs h =
+        let key : Key = method found.class found.side does_not_understand in
+        message_made_alike selector arguments w vs (λ m w1. method_value p.t p.methods p.meant p.budget next None key found.entry x (m ∷ []) alive w1 f)
+        (λ m w1. method_value p.u p.others p.meant p.budget nexts None (renamed_key p.r key) found.entry (rename x) (m ∷ []) (acts alive) w1 (act f)) h
+        (λ m w1 h1. method_alike None None key found.entry x (m ∷ []) alive w1 f vs h1 refl)
+
+    found_alike : (found missing : Option (Found Meant)) (part parts : World → Option (Out Value)) (selector : List ℕ) (x : Value) (arguments : List Value) (alive : List Activation) (w : World) (f : Activation) (vs : Variable → Value)
+        → AreRenamed p.r w.variables vs → PartsSame part parts
+        → Same p (found_value p.t p.methods p.meant p.budget next found missing part selector x arguments alive w f)
+        (found_value p.u p.others p.meant p.budget nexts (option_map (renamed_found p.r) found) (option_map (renamed_found p.r) missing) parts selector (rename x) (rename_all arguments) (acts alive)
+        (other w vs) (act f))
+    found_alike None missing part parts selector x arguments alive w f vs h g = sent_on_alike missing selector x arguments alive w f vs h
+    found_alike (Some found) missing part parts selector x arguments alive w f vs h g =
         method_alike (part w) (parts (other w vs)) (method found.class found.side selector) found.entry x arguments alive w f vs h (g w vs h)
 
     looked_up_alike : (part parts : World → Option (Out Value)) (line : List Place) (selector : List ℕ) (x : Value) (arguments : List Value) (alive : List Activation) (w : World) (f : Activation) (vs : Variable → Value)
@@ -138,11 +194,14 @@ module _ (p : Houses) where
         → Same p (looked_up p.t p.methods p.meant p.budget next part line selector x arguments alive w f)
         (looked_up p.u p.others p.meant p.budget nexts parts (places line) selector (rename x) (rename_all arguments) (acts alive) (other w vs) (act f))
     looked_up_alike part parts line selector x arguments alive w f vs h g =
-        let go : Option (Found Meant) → World → Out Value = λ found w1. found_value p.t p.methods p.meant p.budget next found part selector x arguments alive w1 f in
-        let goes : Option (Found Meant) → World → Out Value = λ found w1. found_value p.u p.others p.meant p.budget nexts found parts selector (rename x) (rename_all arguments) (acts alive) w1 (act f) in
-        ticked_alike p.r (renamed p.r) p.budget w vs (go (first_meant p.methods selector line)) (goes (first_meant p.others selector (places line))) h
-        (subst (λ found. Same p (go (first_meant p.methods selector line) (one_tick w)) (goes found (other (one_tick w) vs))) (sym (meant_renamed selector line))
-        (found_alike (first_meant p.methods selector line) part parts selector x arguments alive (one_tick w) f vs h g))
+        let found : Option (Found Meant) = first_meant p.methods selector line in
+        let missing : Option (Found Meant) = first_meant p.methods does_not_understand line in
+        let go : World → Out Value = λ w1. found_value p.t p.methods p.meant p.budget next found missing part selector x arguments alive w1 f in
+        let goes : Option (Found Meant) → Option (Found Meant) → World → Out Value = λ o k w1. found_value p.u p.others p.meant p.budget nexts o k parts selector (rename x) (rename_all arguments) (acts alive) w1 (act f) in
+        ticked_alike p.r (renamed p.r) p.budget w vs go (goes (first_meant p.others selector (places line)) (first_meant p.others does_not_understand (places line))) h
+        (subst (λ o. Same p (go (one_tick w)) (goes o (first_meant p.others does_not_understand (places line)) (other (one_tick w) vs))) (sym (meant_renamed selector line))
+        (subst (λ k. Same p (go (one_tick w)) (goes (option_map (renamed_found p.r) found) k (other (one_tick w) vs))) (sym (meant_renamed does_not_understand line))
+        (found_alike found missing part parts selector x arguments alive (one_tick w) f vs h g)))
 
     -- ---- messages
 
@@ -151,28 +210,42 @@ module _ (p : Houses) where
     places_of_class w x =
         ap (places_of p.u p.others p.meant p.budget nexts) (class_of_renamed p.t p.u p.r p.is w.objects x) ∙ places_of_renamed (class_of p.t w.objects x)
 
-    -- a message of a primitive, at these places
-    abbrev alone_by : List Place → Value → List Activation → World → Activation → List ℕ → Out Value
-    alone_by line x alive w f selector = looked_up p.t p.methods p.meant p.budget next (λ _. None) line selector x [] alive w f
+    -- a message of a primitive, at these places, by whose method's primitive the next is sent
+    abbrev next_by : List Place → Value → List Value → List Activation → World → Activation → List ℕ → Out Value
+    next_by line x arguments alive w f selector = looked_up p.t p.methods p.meant p.budget next (performed p.t p.methods p.meant p.budget next x arguments alive f) line selector x arguments alive w f
 
-    abbrev alone_so : List Place → Value → List Activation → World → Activation → List ℕ → Out Value
-    alone_so line x alive w f selector = looked_up p.u p.others p.meant p.budget nexts (λ _. None) line selector x [] alive w f
+    abbrev next_so : List Place → Value → List Value → List Activation → World → Activation → List ℕ → Out Value
+    next_so line x arguments alive w f selector = looked_up p.u p.others p.meant p.budget nexts (performed p.u p.others p.meant p.budget nexts x arguments alive f) line selector x arguments alive w f
 
-    alone_alike : (line : List Place) (x : Value) (alive : List Activation) (w : World) (f : Activation) (vs : Variable → Value) (o : Option (List ℕ)) → AreRenamed p.r w.variables vs
-        → PartSame (option_map (alone_by line x alive w f) o) (option_map (alone_so (places line) (rename x) (acts alive) (other w vs) (act f)) o)
-    alone_alike line x alive w f vs None h = refl
-    alone_alike line x alive w f vs (Some selector) h =
-        (alone_so (places line) (rename x) (acts alive) (other w vs) (act f) selector, looked_up_alike (λ _. None) (λ _. None) line selector x [] alive w f vs h (λ w1 vs1 h1. refl), refl)
+    -- what primitives send of these arguments
+    abbrev AreSent : Value → List Value → List Activation → Activation → Type 0
+    AreSent x arguments alive f =
+        PartsSame (performed p.t p.methods p.meant p.budget next x arguments alive f) (performed p.u p.others p.meant p.budget nexts (rename x) (rename_all arguments) (acts alive) (act f))
 
-    performed_alike : (x : Value) (arguments : List Value) (alive : List Activation) (f : Activation)
-        → PartsSame (performed p.t p.methods p.meant p.budget next x arguments alive f) (performed p.u p.others p.meant p.budget nexts (rename x) (rename_all arguments) (acts alive) (act f))
-    performed_alike x arguments alive f w vs h =
+    next_alike : (line : List Place) (x : Value) (arguments : List Value) (alive : List Activation) (w : World) (f : Activation) (vs : Variable → Value) (o : Option (List ℕ)) → AreRenamed p.r w.variables vs
+        → AreSent x arguments alive f
+        → PartSame (option_map (next_by line x arguments alive w f) o) (option_map (next_so (places line) (rename x) (rename_all arguments) (acts alive) (other w vs) (act f)) o)
+    next_alike line x arguments alive w f vs None h g = refl
+    next_alike line x arguments alive w f vs (Some selector) h g = (
+      next_so (places line) (rename x) (rename_all arguments) (acts alive) (other w vs) (act f) selector,
+      looked_up_alike (performed p.t p.methods p.meant p.budget next x arguments alive f) (performed p.u p.others p.meant p.budget nexts (rename x) (rename_all arguments) (acts alive) (act f))
+          line selector x arguments alive w f vs h g,
+      refl,
+    )
+
+    more_alike : (x a : Value) (arguments : List Value) (alive : List Activation) (f : Activation) → AreSent x arguments alive f → AreSent x (a ∷ arguments) alive f
+    more_alike x a arguments alive f g w vs h =
         let line : List Place = places_of p.t p.methods p.meant p.budget next (class_of p.t w.objects x) in
-        let o : Option (List ℕ) = unary_in w.objects arguments in
-        let part : Option (Out Value) = option_map (alone_by line x alive w f) o in
-        subst (λ k. PartSame part (option_map (alone_so (places_of p.u p.others p.meant p.budget nexts (class_of p.u (renamed_objects p.r w.objects) (rename x))) (rename x) (acts alive) (other w vs) (act f)) k))
-        (sym (unary_same p.r w.objects arguments))
-        (subst (λ l. PartSame part (option_map (alone_so l (rename x) (acts alive) (other w vs) (act f)) o)) (sym (places_of_class w x)) (alone_alike line x alive w f vs o h))
+        let o : Option (List ℕ) = selector_of w.objects a (length arguments) in
+        let part : Option (Out Value) = option_map (next_by line x arguments alive w f) o in
+        let so : List Place → List ℕ → Out Value = λ l. next_so l (rename x) (rename_all arguments) (acts alive) (other w vs) (act f) in
+        subst (λ k. PartSame part (option_map (so (places_of p.u p.others p.meant p.budget nexts (class_of p.u (renamed_objects p.r w.objects) (rename x)))) k))
+        (sym (ap (selector_of (renamed_objects p.r w.objects) (rename a)) (length-map arguments (renamed p.r)) ∙ selector_same p.r w.objects a (length arguments)))
+        (subst (λ l. PartSame part (option_map (so l) o)) (sym (places_of_class w x)) (next_alike line x arguments alive w f vs o h g))
+
+    performed_alike : (x : Value) (arguments : List Value) (alive : List Activation) (f : Activation) → AreSent x arguments alive f
+    performed_alike x [] alive f = λ w vs h. refl
+    performed_alike x (a ∷ arguments) alive f = more_alike x a arguments alive f (performed_alike x arguments alive f)
 
     sent_alike : (line : List Place) (selector : List ℕ) (x : Value) (arguments : List Value) (alive : List Activation) (w : World) (f : Activation) (vs : Variable → Value) → AreRenamed p.r w.variables vs
         → Same p (sent p.t p.methods p.meant p.budget next line selector x arguments alive w f)

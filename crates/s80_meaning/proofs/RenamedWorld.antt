@@ -20,7 +20,7 @@ use Rattle.s80_prims.specs.Primitives.{same, same_side}
 use Rattle.s80_prims.specs.Arithmetic.{truth}
 use Rattle.s80_machine.specs.World.{World, Key, doit, method, Variable, class_variable, class_side, Activation, own, home, field_read, field_set, first_value, first_world, in_activation, is_activation_of_block, is_home_activation, home_in, number_in, numbered, ok_of, outer_value, receiver_variable, same_key, same_variable, temporary, with_objects, with_receiver_variable, with_temporary, with_variable}
 use Rattle.s80_machine.specs.World as world
-use Rattle.s80_machine.specs.Shared.{Block, at_once, block_at, block_in, block_with, if_takes, integer_primitives, of_integers, unary_in}
+use Rattle.s80_machine.specs.Shared.{Block, at_once, block_at, block_in, block_with, if_takes, integer_primitives, of_integers, selector_of}
 use Rattle.s80_meaning.specs.Meaning.{read, with_parameters, written}
 use Rattle.s80_meaning.proofs.NaturalObjects.{get_map, set_map}
 use Rattle.s80_meaning.proofs.RenamedNumbers.{IsRenumbering}
@@ -188,10 +188,9 @@ module _ (r : ℕ → ℕ) where
   block_with_renamed s v count =
       ap (option_and_then (if_takes count)) (block_at_renamed s v) ∙ and_then_map renamed_block renamed_block (if_takes count) (if_takes count) (if_takes_renamed count) (block_at s v)
 
-  pub unary_same : (s : Objects) (arguments : List Value) → unary_in (renamed_objects r s) (map (renamed r) arguments) ≡ unary_in s arguments
-  unary_same s [] = refl
-  unary_same s (Symbol n ∷ []) = refl
-  unary_same s _ = refl
+  pub selector_same : (s : Objects) (v : Value) (count : ℕ) → selector_of (renamed_objects r s) (renamed r v) count ≡ selector_of s v count
+  selector_same s (Symbol n) count = refl
+  selector_same s _ count = refl
 
   module _ (injective : (c d : ℕ) → r c ≡ r d → c ≡ d) where
     -- ---- keys

@@ -14,7 +14,7 @@ use Rattle.s80_core.specs.Core as core
 use Rattle.s80_core.specs.Measures.{fixed_number}
 use Rattle.s80_object.specs.Body.{BodyTree, cost, words_of, word_limit}
 use Rattle.s80_object.specs.Body as body
-use Rattle.s80_object.specs.Literal.{built, is_object, made_before, noted}
+use Rattle.s80_object.specs.Literal.{built, is_object, made_before, named, noted}
 use Rattle.s80_object.specs.Objects.{body_at, home_parts_of, with_body}
 use Rattle.s80_object.specs.declared.value.Value.{Value}
 use Rattle.s80_object.specs.declared.value.Value.TheVariants.{True, False, Nil, ClassRef, Object, Context}
@@ -30,7 +30,7 @@ use Rattle.s80_prims.specs.declared.stop.Stop.TheVariants.{Budget, NonBoolean, C
 use Rattle.s80_machine.specs.World.{World, Key, doit, method, Variable, Activation, own, home, changed, first_world, home_in, is_home_activation, is_activation_of_block, numbered, number_in, one_tick, reached, receiver_variable, temporary, with_objects, with_receiver_variable, with_temporary, with_variable}
 use Rattle.s80_machine.specs.World as world
 use Rattle.s80_class.specs.Lookup.{Found, Place, found_or, number, places_up}
-use Rattle.s80_machine.specs.Shared.{outcome_of, Block, at_once, block_with, decided, depth_limit, fixed, is_value, unary_in}
+use Rattle.s80_machine.specs.Shared.{outcome_of, Block, arguments_body, at_once, block_with, decided, depth_limit, does_not_understand, fixed, is_value, message_body, selector_of}
 use Rattle.s80_meaning.specs.Tree.{Meant, RealBlock, Tree, Trees, Sends, place_of, leaf, assign, value, send, cascade, real, two_arms, one_arm, shortcut, repeat, nothing, before, answer, answer_fixed, leave, no_trees, trees, no_sends, sends}
 
 -- ---- what evaluation comes to
@@ -239,23 +239,39 @@ module _ (t : Table) (methods : Methods) (doit_meant : Meant) (budget : ℕ) whe
     not_understood (ClassRef c side) selector w = Stopped (NotUnderstood (class_name t c) side selector) w
     not_understood _ selector w = Unfinished
 
-    abbrev pub found_value : Option (Found Meant) → (World → Option (Out Value)) → List ℕ → Value → List Value → List Activation → World → Activation → Out Value
-    found_value None performed selector r arguments alive w f = not_understood (class_of t w.objects r) selector w
-    found_value (Some found) performed selector r arguments alive w f =
-        method_value (performed w) (method found.class found.side selector) found.entry r arguments alive w f
+    -- a message as an object: an Array of its arguments is made, and then the Message of its selector and that Array
+    abbrev pub message_made : List ℕ → List Value → World → (Value → World → Out Value) → Out Value
+    message_made selector arguments w go =
+        with_room w (arguments_body t arguments) (λ w1.
+        with_room (with_objects w1 (named selector w1.objects).0) (message_body t (named selector w1.objects).1 (Object (length w.objects.bodies))) (λ w2.
+        go (Object (length w1.objects.bodies)) w2))
 
-    abbrev pub looked_up : (World → Option (Out Value)) → List Place → List ℕ → Value → List Value → List Activation → World → Activation → Out Value
-    looked_up performed places selector r arguments alive w f =
-        ticked budget w (λ w1. found_value (first_meant methods selector places) performed selector r arguments alive w1 f)
+    -- a message that isn't understood, with what is found of `doesNotUnderstand:`, which is sent a Message in its place
+    abbrev pub sent_on : Option (Found Meant) → List ℕ → Value → List Value → List Activation → World → Activation → Out Value
+    sent_on None selector r arguments alive w f = not_understood (class_of t w.objects r) selector w
+    sent_on (Some found) selector r arguments alive w f =
+        message_made selector arguments w (λ m w1. method_value None (method found.class found.side does_not_understand) found.entry r (m ∷ []) alive w1 f)
+
+    -- a message that finds a method or none, and what is found of `doesNotUnderstand:` along the same places
+    abbrev pub found_value : Option (Found Meant) → Option (Found Meant) → (World → Option (Out Value)) → List ℕ → Value → List Value → List Activation → World → Activation → Out Value
+    found_value None other performed selector r arguments alive w f = sent_on other selector r arguments alive w f
+    found_value (Some found) other performed selector r arguments alive w f =
+        method_value (performed w) (method found.class found.side selector) found.entry r arguments alive w f
 
     abbrev pub places_of : Value → List Place
     places_of (ClassRef c side) = places_up t c side
     places_of _ = []
 
-    -- the message of a primitive has no arguments, so its method's primitive sends none
+    abbrev pub looked_up : (World → Option (Out Value)) → List Place → List ℕ → Value → List Value → List Activation → World → Activation → Out Value
+    looked_up performed places selector r arguments alive w f =
+        ticked budget w (λ w1. found_value (first_meant methods selector places) (first_meant methods does_not_understand places) performed selector r arguments alive w1 f)
+
+    -- the message of a primitive: the first argument is its selector, and its arguments are those behind, so that it may again send one
     abbrev pub performed : Value → List Value → List Activation → Activation → World → Option (Out Value)
-    performed r arguments alive f w =
-        option_map (λ selector. looked_up (λ _. None) (places_of (class_of t w.objects r)) selector r [] alive w f) (unary_in w.objects arguments)
+    performed r [] alive f w = None
+    performed r (a ∷ arguments) alive f w =
+        option_map (λ selector. looked_up (performed r arguments alive f) (places_of (class_of t w.objects r)) selector r arguments alive w f)
+        (selector_of w.objects a (length arguments))
 
     abbrev pub sent : List Place → List ℕ → Value → List Value → List Activation → World → Activation → Out Value
     sent places selector r arguments alive w f = looked_up (performed r arguments alive f) places selector r arguments alive w f

@@ -9,6 +9,7 @@ returns-clause-setting c = λ text code is.
     let laws : Laws = record {
       lasts = c.kernel_classes_last.ensures;
       plain = c.kernel_classes_have_their_variables.ensures.instance;
+      message = c.kernel_classes_have_their_variables.ensures.message;
       bits = c.classes_of_bits_have_no_variables.ensures;
       few = c.classes_have_few_variables.ensures.instance;
       few_of_class = c.classes_have_few_variables.ensures.class;

@@ -17,6 +17,6 @@ returns c = λ s shows sends found takes.
     let values = c.args.arguments.items in
     let number = c.in_ok-number.number in
     let n = method_numbered on m s key of c.number.new.self number shows takes.code_is c.in_ok-number.ensures in
-    let noted = noted_after on m s c.args.sending.method c.args.sending.literal c.args.selector.now c.args.sending.class c.args.sending.side number g c.number.new.self c.note.new.self sends found c.requires.plain n c.in_ok-note.ensures in
+    let noted = noted_after on m s c.args.sending.row c.args.sending.place c.args.selector.now c.args.sending.class c.args.sending.side number g c.number.new.self c.note.new.self sends found c.requires.plain n c.in_ok-note.ensures in
     goes_deeper on m s.world s.contexts (started on.table on.methods on.code on.budget key of c.args.receiver (values ++ replicate (of.temporaries - length values) Nil) s.contexts (numbered s.world key)) c.activate_method.new.self
     c.in_ok-check_depth.field-0 c.activate_method.result shows c.in_ok-check_depth.ensures (c.activate_method.ensures (alive s.contexts (numbered s.world key)) key of noted n.there n.own takes.code_is takes.few)

@@ -19,5 +19,4 @@ returns-in-Some c = λ top rest w shows sends.
 
 pub returns-in-None : goal.returns-in-None
 returns-in-None c = λ top rest w shows sends.
-    let on = given_of c.args.on.now in
-    c.run_found.ensures top rest w (places_up on.table c.args.sending.class c.args.sending.side) shows c.find-found.ensures
+    c.run_noting.ensures top rest w shows sends c.find-found.ensures

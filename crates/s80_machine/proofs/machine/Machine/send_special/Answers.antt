@@ -29,15 +29,15 @@ at_once-requires-clause-receiver c =
     (taken_known (λ p. (p.0, p.1.items)) c.special_arguments-count.result c.args.on.now.classes.now c.args.self.now c.take_message.new.self (c.in_ok-receiver.receiver, c.in_ok-receiver.arguments) c.requires.known
     c.in_ok-receiver.ensures).receiver
 
-pub send_to-requires-clause-known : goal.send_to-requires-clause-known
-send_to-requires-clause-known c =
+pub send_at-requires-clause-known : goal.send_at-requires-clause-known
+send_at-requires-clause-known c =
     let known =
     taken_known (λ p. (p.0, p.1.items)) c.special_arguments-count.result c.args.on.now.classes.now c.args.self.now c.take_message.new.self (c.in_ok-receiver.receiver, c.in_ok-receiver.arguments) c.requires.known
     c.in_ok-receiver.ensures in
     record { objects = c.requires.known.objects; receiver = known.receiver; arguments = known.arguments }
 
-pub send_to-requires-clause-selector : goal.send_to-requires-clause-selector
-send_to-requires-clause-selector c =
+pub send_at-requires-clause-selector : goal.send_at-requires-clause-selector
+send_at-requires-clause-selector c =
     let known =
     taken_known (λ p. (p.0, p.1.items)) c.special_arguments-count.result c.args.on.now.classes.now c.args.self.now c.take_message.new.self (c.in_ok-receiver.receiver, c.in_ok-receiver.arguments) c.requires.known
     c.in_ok-receiver.ensures in
@@ -109,12 +109,12 @@ returns c = λ top rest w next shows.
     let r = c.in_ok-receiver.receiver in
     let values = c.in_ok-receiver.arguments.items in
     let count : c.len.result ≡ length values = omega (arith, c.len.ensures, c.in_ok-receiver.arguments.ok.0) in
-    taken (λ p. (p.0, p.1.items)) c.special_arguments-count.result (get_or special_arguments n 0) c.special_arguments-count.ensures on m c.send_to.new.self top rest w next c.take_message.new.self (r, c.in_ok-receiver.arguments) c.send_to.result
+    taken (λ p. (p.0, p.1.items)) c.special_arguments-count.result (get_or special_arguments n 0) c.special_arguments-count.ensures on m c.send_at.new.self top rest w next c.take_message.new.self (r, c.in_ok-receiver.arguments) c.send_at.result
     (special_turn on.table on.methods on.code on.budget n top next rest w) shows
     c.in_ok-receiver.ensures
     (λ stack shows.
-    special_sends on n top next rest w r values stack c.send_to.new.self c.send_to.result
+    special_sends on n top next rest w r values stack c.send_at.new.self c.send_at.result
     (c.in_default.ensures ∙ ap (λ s. at_once on.table s n r c.deref.result.now) shows.world.objects ∙ ap (at_once on.table w.objects n r) c.deref.ensures.value)
     (subst (λ k. IsBlock (if is_value n then block_with w.objects r k else None) None) count
     (subst (λ s. IsBlock (if is_value n then block_with s r c.len.result else None) None) shows.world.objects c.in_default-valued.ensures)) c.in_ok-selector.selector.now
-    (ap option_copied (sym c.in_ok-selector.ensures.ok_part) ∙ c.special_selector.ensures) (c.send_to.ensures (waiting top next stack) rest w shows))
+    (ap option_copied (sym c.in_ok-selector.ensures.ok_part) ∙ c.special_selector.ensures) (c.send_at.ensures (waiting top next stack) rest w shows (sym (ap option_copied (sym c.in_ok-selector.ensures.ok_part) ∙ c.special_selector.ensures))))

@@ -2,11 +2,12 @@ use Rattle.std.proofs.Common.{◌≡◌, ◌∙◌, ◌∷◌, Err, Some, ap, sl
 use Rattle.std.specs.Option.{option_copied}
 use Rattle.std.proofs.lemmas.Result.{err_from_is_err_and}
 use Rattle.s80_lex.specs.Selector.{IsSelectorOf}
+use Rattle.s80_class.specs.Lookup.{IsFound}
 use Rattle.s80_machine.specs.Turn.{Context, waiting}
 use Rattle.s80_machine.specs.World.{one_tick}
 use Rattle.s80_machine.specs.Came.{Came, above, given_of, sends}
-use Rattle.s80_machine.specs.Messages.{IsKnownMessage, performs, runs}
-use Rattle.s80_machine.proofs.CameClasses.{above_found}
+use Rattle.s80_machine.specs.Messages.{IsKnownMessage, along, finds, performs, runs}
+use Rattle.s80_machine.proofs.CameClasses.{above_places}
 use Rattle.s80_machine.proofs.CameSends.{active_is, active_known, not_taken, taken, taken_known, tick_goes, tick_stops}
 use Rattle.s80_machine.proofs.machine.Machine.send_super.Goals as goal
 
@@ -61,9 +62,9 @@ returns c = λ top rest w next key shows is.
     let active : slice_get m.contexts 0 ≡ Some c.in_ok-active.active.now = sym c.active.ensures ∙ ap option_copied c.in_ok-active.ensures.ok_part in
     let same = c.active-2.view_is ∙ active_is on m top rest w next shows c.in_ok-active.active.now active in
     let place = sym c.in_ok-class.ensures.ok_part ∙ c.place_of.ensures.place in
-    let found =
-    above_found on m.methods w.keys c.active-2.inside.method top.method key selector (c.in_ok-class.class, c.in_ok-class.side) c.find_above-found.result shows.world.keys is (ap (λ (a : Context). a.method) same) place
-    c.find_above-found.ensures in
+    let above_it : along on c.line_above-line.result ≡ above on key =
+    c.line_above-line.ensures.places ∙ above_places on m.methods w.keys c.active-2.inside.method top.method key (c.in_ok-class.class, c.in_ok-class.side) shows.world.keys is (ap (λ (a : Context). a.method) same) place in
+    let found = subst (λ at. IsFound (finds on selector at) c.find_along-found.result) above_it c.find_along-found.ensures in
     taken (λ p. (p.0, p.1.items)) c.args.count c.args.count refl on m c.run_found.new.self top rest w next c.take_message.new.self (c.in_ok-arguments.field-0-0, c.in_ok-arguments.arguments) c.run_found.result
     (λ r values stack. sends on (above on key) selector top.receiver values (waiting top next stack ∷ rest) w) shows c.in_ok-arguments.ensures
     (λ stack shows.
@@ -72,4 +73,4 @@ returns c = λ top rest w next key shows is.
     c.in_ok-tick.field-0 c.run_found.result shows c.in_ok-tick.ensures
     (λ shows.
     subst (λ r. Came on (runs on (performs on r values below) (above on key) selector r values below (one_tick w)) c.run_found.new.self c.run_found.result) (ap (λ (a : Context). a.receiver) same)
-    (c.run_found.ensures (waiting top next stack) rest (one_tick w) (above on key) shows found)))
+    (c.run_found.ensures (waiting top next stack) rest (one_tick w) (above on key) shows above_it found)))

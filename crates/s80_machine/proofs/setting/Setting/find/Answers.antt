@@ -5,5 +5,5 @@ use Rattle.s80_machine.proofs.setting.Setting.find.Goals as goal
 
 pub returns : goal.returns
 returns c =
-    subst (λ places. IsFound (first_found c.args.self.now.methods.now c.args.selector.now places) c.find_from.result) (places_from_class c.args.self.now.classes.now c.args.class c.args.side)
-    c.find_from.ensures
+    subst (λ places. IsFound (first_found c.args.self.now.methods.now c.args.selector.now places) c.find_along.result) (places_from_class c.args.self.now.classes.now c.args.class c.args.side)
+    c.find_along.ensures

@@ -10,5 +10,6 @@ returns-clause-ready c = record {
   kernel = c.requires.kernel;
   numbers = c.in_ok-of.ensures;
   selectors = c.in_ok-special_selectors.ensures;
+  unknown = c.in_ok-from_bytes.ensures;
   sides = c.requires.sides;
 }

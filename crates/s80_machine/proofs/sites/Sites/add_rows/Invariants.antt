@@ -7,4 +7,4 @@ abbrev pub invariant-loop-alloc : goal.invariant-loop-alloc
 invariant-loop-alloc l = (n k : ℕ) → site_in l.self n k ≡ site_in l.fn.self n k
 
 abbrev pub decreases-loop-alloc : goal.decreases-loop-alloc
-decreases-loop-alloc l = l.method + 1 - length l.self.rows.items
+decreases-loop-alloc l = l.row + 1 - length l.self.rows.items
