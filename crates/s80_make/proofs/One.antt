@@ -1,7 +1,6 @@
 -- What is asked of generated input is one list, and so is what its replies come to.
-use Rattle.std.proofs.Common.{All, ◌≡◌, ◌∙◌, ◌*◌, ℕ, ℤ, Bool, List, [], ◌∷◌, ◌++◌, map, sym, ap, subst, Option, Result, Ok, Err}
-use Rattle.std.proofs.lemmas.List.Elements.{All-cons, All-nil, All-push}
-use Rattle.s80_chunk.specs.declared.item.Item.{Item}
+use Rattle.std.proofs.Common.{All, ◌≡◌, ◌∙◌, ℕ, ℤ, Bool, List, [], ◌∷◌, map, sym, ap, subst, Option, Result, Ok, Err}
+use Rattle.std.proofs.lemmas.List.Elements.{All-push}
 use Rattle.s80_form.specs.declared.refusal.Refusal.{Refusal}
 use Rattle.s80_change.specs.declared.change.Change.{Change}
 use Rattle.s80_change.specs.declared.change.Change.TheVariants.{DoIt}
@@ -13,8 +12,9 @@ use Rattle.s80_model.specs.declared.item.SessionItem.TheVariants.{Chunk, Query}
 use Rattle.s80_model.specs.Asked.{Ask, IsTimed, refuses, adds, evaluates, condenses, opens, refuses_head, adds_source, refuses_source, closes, tells, files}
 use Rattle.s80_model.specs.Replies.{AllAsk, Work, work_after}
 use Rattle.s80_model.specs.Settings.{Settings}
+use Rattle.s80_model.proofs.lemmas.Timed.{chunks_timed}
 use Rattle.s80_make.specs.declared.tally.Tally.{Tally}
-use Rattle.s80_make.specs.Items.{items_each, made_first, make_items}
+use Rattle.s80_make.specs.Items.{classes_items, make_items}
 use Rattle.s80_make.specs.Tally.{Counts, CountsAdded, CountsAll, with_doit}
 
 -- in the state of a list a doIt answers one SmallInteger, or none
@@ -51,12 +51,7 @@ all_counted_once law work (ask ∷ asks) before now other (mid, counts, all) (ag
     let P : Tally → Type 0 = λ t. CountsAll (work_after work ask) asks t other in
     all_counted_once law (work_after work ask) asks mid now other all (subst P (counted_once law work ask before mid again counts also) others)
 
--- no item files out
-chunks_timed : (settings : Settings) (given : List Item) → All (IsTimed settings) (map Chunk given)
-chunks_timed settings [] = All-nil (IsTimed settings)
-chunks_timed settings (item ∷ given) = All-cons (IsTimed settings) (Chunk item) (map Chunk given) tt (chunks_timed settings given)
-
 pub one_list : OneList → (work : Work) (count : ℕ) (asks others : List Ask) → AllAsk work (make_items count) asks → AllAsk work (make_items count) others → others ≡ asks
 one_list law work count asks others =
     law work (make_items count) asks others
-    (All-push (IsTimed work.settings) (map Chunk (made_first (items_each * count))) (Query Condense) (chunks_timed work.settings (made_first (items_each * count))) tt)
+    (All-push (IsTimed work.settings) (map Chunk (classes_items count)) (Query Condense) (chunks_timed work.settings (classes_items count)) tt)

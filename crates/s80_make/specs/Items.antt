@@ -1,5 +1,5 @@
 -- The items of generated input: classes, each with a variable, a section of ten methods, and a doIt that sends one of them.
-use Rattle.std.specs.Prelude.{ℕ, zero, suc, ◌+◌, ◌-◌, ◌*◌, ◌/◌, ◌%◌, ◌==◌, List, [], ◌∷◌, ◌++◌, codes, decimal, map, if◌then◌else◌}
+use Rattle.std.specs.Prelude.{ℕ, zero, suc, ◌+◌, ◌*◌, ◌/◌, ◌==◌, List, [], ◌∷◌, ◌++◌, codes, decimal, map, if◌then◌else◌}
 use Rattle.s80_chunk.specs.Chunks.{item_of}
 use Rattle.s80_chunk.specs.declared.item.Item.{Item}
 use Rattle.s80_chunk.specs.declared.item.Item.TheVariants.{SectionEnd}
@@ -40,28 +40,22 @@ method_text k j = (codes "m" ++ decimal j) ++ (codes ": x ^x + " ++ decimal (10 
 abbrev pub doit_text : ℕ → List ℕ
 doit_text k = class_name k ++ (codes " new m9: " ++ decimal k)
 
--- an item of a class by its place: the definition, the head, ten methods, the section's end and the doIt
-abbrev pub class_item : ℕ → ℕ → Item
-class_item k place =
-    if place == 0 then item_of Plain (definition_text (definition k))
-    else (if place == 1 then item_of Head (head_text k)
-    else (if place == 12 then SectionEnd
-    else (if place == 13 then item_of Plain (doit_text k)
-    else item_of Method (method_text k (place - 2)))))
+-- the items of a class: the definition, the head, ten methods, the section's end and the doIt
+abbrev pub class_items : ℕ → List Item
+class_items k =
+    item_of Plain (definition_text (definition k)) ∷ item_of Head (head_text k)
+    ∷ map (λ j. item_of Method (method_text k j)) (0 ∷ 1 ∷ 2 ∷ 3 ∷ 4 ∷ 5 ∷ 6 ∷ 7 ∷ 8 ∷ 9 ∷ [])
+    ++ SectionEnd ∷ item_of Plain (doit_text k) ∷ []
 
--- how many items a class has
+-- how many these are
 abbrev pub items_each : ℕ
 items_each = 14
 
--- the item of this number, from 0 on
-abbrev pub made_item : ℕ → Item
-made_item i = class_item (1 + i / items_each) (i % items_each)
+-- the items of so many classes, one class after another
+abbrev pub classes_items : ℕ → List Item
+classes_items zero = []
+classes_items (suc count) = classes_items count ++ class_items (suc count)
 
--- the first so many items
-abbrev pub made_first : ℕ → List Item
-made_first zero = []
-made_first (suc i) = made_first i ++ made_item i ∷ []
-
--- the items of so many classes, and condensing behind them
+-- and condensing behind them
 abbrev pub make_items : ℕ → List SessionItem
-make_items count = map Chunk (made_first (items_each * count)) ++ Query Condense ∷ []
+make_items count = map Chunk (classes_items count) ++ Query Condense ∷ []

@@ -1,8 +1,9 @@
 // The items of generated input.
-ghost use Rattle.std.specs.Prelude.{◌≡◌, ◌++◌, ◌∷◌, ◌^◌, ◌<◌, [], IfOk, codes, decimal};
+ghost use Rattle.std.specs.Prelude.{◌≡◌, ◌++◌, ◌∷◌, ◌*◌, ◌^◌, ◌<◌, ℕ, [], IfOk, Some, codes, decimal, slice_get};
 ghost use Rattle.s80_chunk.specs.Chunks.{IsChunkText, IsNoMark, IsSound, item_of};
 ghost use Rattle.s80_form.specs.Definition.{definition_text};
-ghost use Rattle.s80_make.specs.Items.{class_item, class_name, definition, doit_text, head_text, made_item, method_text, superclass_name};
+ghost use Rattle.s80_make.specs.Items.{class_items, class_name, definition, doit_text, head_text, items_each, make_items, method_text, superclass_name};
+ghost use Rattle.s80_model.specs.declared.item.SessionItem.TheVariants.{Chunk};
 
 use s80_base::{Names, OutOfMemory, Text};
 use s80_chunk::{Item, LONGEST, Role};
@@ -15,7 +16,7 @@ pub const ITEMS_EACH: u32 = 14;
 /// The item of this number, from 0 on: of the first class those from 0 to 13, and so on.
 pub fn made_item(alloc: Global, number: u32) -> Result<Item, OutOfMemory>
     requires { number < 2 ^ 16 }
-    ensures item { IfOk result (λ item. item ≡ made_item number) }
+    ensures item { IfOk result (λ item. (count : ℕ) → number < items_each * count → slice_get (make_items count) number ≡ Some (Chunk item)) }
     ensures sound { IfOk result IsSound }
 {
     class_item(alloc, 1 + number / ITEMS_EACH, number % ITEMS_EACH)
@@ -24,8 +25,8 @@ pub fn made_item(alloc: Global, number: u32) -> Result<Item, OutOfMemory>
 /// An item of the class of a number by its place.
 fn class_item(alloc: Global, class: u32, place: u32) -> Result<Item, OutOfMemory>
     requires class { class < 2 ^ 16 }
-    requires place { place < 2 ^ 16 }
-    ensures item { IfOk result (λ item. item ≡ class_item class place) }
+    requires place { place < items_each }
+    ensures item { IfOk result (λ item. slice_get (class_items class) place ≡ Some item) }
     ensures sound { IfOk result IsSound }
 {
     if place == 0 {
@@ -46,11 +47,10 @@ fn class_item(alloc: Global, class: u32, place: u32) -> Result<Item, OutOfMemory
     ))
 }
 
-/// The item of a text that begins a chunk.
-fn text_item(role: Role, text: Text) -> Item
-    requires { IsChunkText text × IsNoMark text }
+/// The item of a text: above the greatest length it is given by its length alone.
+pub fn text_item(role: Role, text: Text) -> Item
     ensures item { result ≡ item_of role text }
-    ensures sound { IsSound result }
+    ensures sound { IsChunkText text → IsNoMark text → IsSound result }
 {
     let length = text.bytes().len();
     if length > LONGEST {

@@ -5,6 +5,6 @@ mod items;
 mod laws;
 mod tally;
 
-pub use items::{ITEMS_EACH, made_item};
+pub use items::{ITEMS_EACH, made_item, text_item};
 pub use laws::make_has_one_line;
 pub use tally::Tally;

@@ -1,3 +1,4 @@
+pub mod lemmas
 pub mod Asking
 mod Opening
 mod Naming

@@ -60,7 +60,7 @@ module _ (old now : Shown) (same : now ≡ old) (was may_leave : Image → Type 
 
 -- no item of those to be made is worked yet
 none_made : (work : Work) (count : ℕ) → FirstMakeAsks work count []
-none_made work count = inl (0, omega arith, tt)
+none_made work count = (0, tt)
 
 -- the disk fails before the first item
 pub lost_at_start : (job : Job) (end : SessionEnd) (may_leave : Image → Type 0) (now : Shown) (work : Work) (input before : List ℕ) → IsDiskEnd end → ReadsFor now.tells now.files may_leave work.changes → now.left ≡ Some input → now.taken ≡ Some before → LeavesFor job (status_after (Err end)) may_leave now work input before

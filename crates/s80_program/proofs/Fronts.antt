@@ -15,6 +15,7 @@ use Rattle.s80_model.specs.declared.item.SessionItem.TheVariants.{Chunk, Unended
 use Rattle.s80_model.specs.Asked.{Ask, IsTimed, evaluates}
 use Rattle.s80_model.specs.Replies.{AllAsk, AsksIn, Work, reply_to, reply_text, work_after, work_after_all, replies}
 use Rattle.s80_model.specs.Settings.{Settings}
+use Rattle.s80_model.proofs.lemmas.Timed.{chunks_timed}
 use Rattle.s80_disk.specs.Shown.{Shown, Faults}
 use Rattle.s80_make.specs.declared.tally.Tally.{Tally}
 use Rattle.s80_make.specs.Tally.{CountsAll, made_line, nothing}
@@ -72,10 +73,6 @@ whole_first work got left input asks (items, (given, rest, reads, none, is), ask
 -- ---- what an input asks
 
 -- an input files nothing out
-chunks_timed : (settings : Settings) (given : List Item) → All (IsTimed settings) (chunks given)
-chunks_timed settings [] = All-nil (IsTimed settings)
-chunks_timed settings (item ∷ given) = All-cons (IsTimed settings) (Chunk item) (chunks given) tt (chunks_timed settings given)
-
 items_timed : (settings : Settings) (input : List ℕ) (items : List SessionItem) → ItemsOf input items → All (IsTimed settings) items
 items_timed settings input items (given, rest, reading, inl (blank, is)) = All-same (IsTimed settings) items (chunks given) is (chunks_timed settings given)
 items_timed settings input items (given, rest, reading, inr (not, is)) =

@@ -1,9 +1,13 @@
 -- What stands behind the separators at a text's beginning.
-use Rattle.std.proofs.Common.{◌≡◌, ◌≢◌, ℕ, ◌+◌, suc, List, [], ◌∷◌, drop, Bool, true, false, refl, subst, arith}
+use Rattle.std.proofs.Common.{◌≡◌, ◌≢◌, inl, inr, ℕ, ◌+◌, suc, List, [], ◌∷◌, length, drop, Bool, true, false, refl, subst, arith}
 use Rattle.std.specs.Prelude.{cond}
 use Rattle.std.specs.List.{prefix_len}
+use Rattle.std.proofs.lemmas.Bool.Decides.{leb_tells}
 use Rattle.s80_base.specs.Byte.{is_separator}
-use Rattle.s80_chunk.specs.Chunks.{IsChunkText}
+use Rattle.s80_chunk.specs.declared.item.Role.TheVariants.{Plain}
+use Rattle.s80_chunk.specs.Chunks.{item_of, longest, IsChunkText}
+use Rattle.s80_model.specs.declared.item.SessionItem.TheVariants.{Chunk}
+use Rattle.s80_session.specs.Working.{IsReadable}
 use Rattle.s80_program.specs.Command.{behind_separators}
 
 behind_first : (separates : Bool) (b : ℕ) (bs : List ℕ) → is_separator b ≡ separates → (behind_separators bs ≢ [] → IsChunkText (behind_separators bs))
@@ -18,3 +22,11 @@ behind_first false b bs is rest = λ some h. cc (is, h)
 pub is_chunk_text : (text : List ℕ) → behind_separators text ≢ [] → IsChunkText (behind_separators text)
 is_chunk_text [] some = some refl
 is_chunk_text (b ∷ bs) some = behind_first (is_separator b) b bs refl (is_chunk_text bs) some
+
+-- whose item is as a reader gives it, but that it may begin with a mark
+pub readable_plain : (text : List ℕ) → IsChunkText text → IsReadable (Chunk (item_of Plain text))
+readable_plain text is =
+    elim (leb_tells (length text) longest) [
+      | inl h ↦ rw h.0 (is, h.1)
+      | inr h ↦ rw h.0 h.1
+    ]

@@ -30,10 +30,10 @@ use crate::outside::attach;
 use crate::status::Status;
 use crate::words::{DIGITS, MOST, Task, behind_separators, task_of};
 use s80_base::{OutOfMemory, Text};
-use s80_chunk::{Item, LONGEST, Role};
+use s80_chunk::{Item, Role};
 use s80_disk::Outside;
 use s80_line::{Line, number_in, read_line};
-use s80_make::make_has_one_line;
+use s80_make::{make_has_one_line, text_item};
 use s80_model::{Filed, Query, SessionItem, one_ask};
 use s80_session::{Session, SessionEnd};
 use std::alloc::Global;
@@ -251,14 +251,8 @@ fn chunk_of(alloc: Global, text: &Text) -> Result<Item, OutOfMemory>
     ensures item { IfOk result (λ item. item ≡ item_of Role.Plain (behind_separators text.now)) }
     ensures readable { IfOk result (λ item. IsReadable (SessionItem.Chunk item)) }
 {
-    let bytes = behind_separators(text);
-    if bytes.len() > LONGEST {
-        return Ok(Item::TooLong {
-            role: Role::Plain,
-            length: bytes.len() as u64,
-        });
-    }
-    Ok(Item::Plain(Text::from_bytes(alloc, bytes)?))
+    let behind = Text::from_bytes(alloc, behind_separators(text))?;
+    Ok(text_item(Role::Plain, behind))
 }
 
 /// Works the input to its end. Says whether some item was refused or stopped.

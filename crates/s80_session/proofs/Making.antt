@@ -1,7 +1,8 @@
 -- What making classes leaves: where an item more was worked and counted, where it breaks off, and at any moment.
-use Rattle.std.proofs.Common.{◌≡◌, ◌⊎◌, inl, inr, ⊎_elim, ℕ, suc, ◌+◌, ◌*◌, ◌<◌, ◌≤◌, List, [], ◌∷◌, ◌++◌, length, take, refl, sym, ap, subst, ◌∙◌, Option, Some, Bool, Result, Ok, Err, append_assoc, arith}
+use Rattle.std.proofs.Common.{◌≡◌, ◌⊎◌, inl, inr, ⊎_elim, ℕ, ◌+◌, ◌*◌, ◌≤◌, List, [], ◌∷◌, ◌++◌, length, slice_get, take, refl, sym, ap, subst, ◌∙◌, Option, Some, Bool, Result, Ok, Err, append_assoc, arith}
 use Rattle.std.specs.Prelude.{◌≢◌, ◌||◌, ℤ, None, false, true}
-use Rattle.std.proofs.lemmas.List.{append-nil}
+use Rattle.std.proofs.lemmas.List.{append-nil, take_more}
+use Rattle.std.proofs.lemmas.Option.{get_or_from_slice_get, slice_get_within}
 use Rattle.s80_apply.specs.List.{add, state_of}
 use Rattle.s80_apply.specs.State.{State}
 use Rattle.s80_apply.specs.System.{IsSystemOf, SystemState}
@@ -24,8 +25,9 @@ use Rattle.s80_keeper.specs.Keeper.{KeeperState, Keeps}
 use Rattle.s80_keeper.specs.Standing.{ReadsFor}
 use Rattle.s80_machine.specs.Came.{RanValue}
 use Rattle.s80_make.specs.declared.tally.Tally.{Tally}
-use Rattle.s80_make.specs.Items.{items_each, made_first, made_item}
+use Rattle.s80_make.specs.Items.{items_each, make_items}
 use Rattle.s80_make.specs.Tally.{Counts, CountsAdded, CountsAll, made_line, nothing, small_in, with_doit, with_reply}
+use Rattle.s80_make.proofs.lemmas.Made.{all_items, condense_at}
 use Rattle.s80_model.specs.declared.item.Filed.{Filed}
 use Rattle.s80_model.specs.declared.item.Query.{Query as SessionQuery}
 use Rattle.s80_model.specs.declared.item.Query.TheVariants.{Condense}
@@ -36,7 +38,7 @@ use Rattle.s80_model.specs.declared.reply.Reply.{Reply}
 use Rattle.s80_model.specs.declared.section.Section.{Section}
 use Rattle.s80_model.specs.declared.section.Section.TheVariants as sections
 use Rattle.s80_model.specs.Asked.{Ask, refuses, adds, evaluates, condenses, opens, refuses_head, adds_source, refuses_source, closes, tells, files, ask_of_too_long, Asks}
-use Rattle.s80_model.specs.Replies.{AsksIn, IsAnswer, Work, any_trouble, condensed, is_trouble, kept, list_after_all, method_in, refusal_of_head, reply_in_section, reply_to, reply_to_adding, reply_to_evaluating, reply_to_head, reply_to_source, work_after, work_after_all}
+use Rattle.s80_model.specs.Replies.{AllAsk, AsksIn, IsAnswer, Work, any_trouble, condensed, is_trouble, kept, list_after_all, method_in, refusal_of_head, reply_in_section, reply_to, reply_to_adding, reply_to_evaluating, reply_to_head, reply_to_source, work_after, work_after_all}
 use Rattle.s80_model.specs.Section.{section_or}
 use Rattle.s80_model.specs.Settings.{Settings}
 use Rattle.s80_print.specs.Outcome.{outcome_text}
@@ -46,10 +48,10 @@ use Rattle.s80_session.specs.declared.session.Session.{Session}
 use Rattle.s80_session.specs.Known.{IsKnowing}
 use Rattle.s80_session.specs.LastRun.{RunBehind, RunBehindAll, RunBehindAdding}
 use Rattle.s80_session.specs.Making.{FirstMakeAsks, IsMaking, IsStalled, MadeAsk, MakeAsks, MakeBreaks, MakeKeeps, MakeLost, Makes, MakesAll, MakesItem}
-use Rattle.s80_session.specs.Run.{HasKept, ShownFor, chunks}
+use Rattle.s80_session.specs.Run.{HasKept, ShownFor}
 use Rattle.s80_session.specs.Session.{Was, budget_of, held_of, keeper_of, kept_versions_of, last_run_of, section_of, troubled_of, was_of, HasSameRest, IsFaultless, RunAfterWork, RunSince}
 use Rattle.s80_session.specs.Working.{at_rest, Answers, EndsForMemory, Flushed, FlushLeaves, flushed, GoesOn, Ground, IsAmid, IsAt, IsLost, IsLostAt, IsPast, IsReadable, staying, Unreplied, WorkedAlone, WorkLeaves}
-use Rattle.s80_session.proofs.Answering.{asks_more, given_asks_more, readable, run_by_now, troubled_by_now}
+use Rattle.s80_session.proofs.Answering.{asks_more, readable, run_by_now, troubled_by_now}
 use Rattle.s80_session.proofs.Brief.{brief_after}
 use Rattle.s80_session.proofs.Grouping.{work_after_more}
 use Rattle.s80_session.proofs.Holding.{amid_alike, held_run}
@@ -170,16 +172,24 @@ counts_more work (first ∷ asks) ask before mid now all one = (all.0, all.1, co
 -- ---- what is asked
 
 -- one item more
-item_more : (work : Work) (done : ℕ) (asks : List Ask) (item : Item) (ask : Ask) → item ≡ made_item done → MadeAsk work done asks → AsksIn (work_after_all work asks) (Chunk item) ask → MadeAsk work (done + 1) (asks ++ ask ∷ [])
-item_more work done asks item ask is asked one =
-    let P : Item → Type 0 = λ i. AsksIn (work_after_all work asks) (Chunk i) ask in
-    let Q : ℕ → Type 0 = λ n. MadeAsk work n (asks ++ ask ∷ []) in
-    let more : suc done ≡ done + 1 = omega arith in
-    subst Q more (given_asks_more work (made_first done) asks (made_item done) ask asked (subst P is one))
+item_more : (work : Work) (count done : ℕ) (asks : List Ask) (item : SessionItem) (ask : Ask) → slice_get (make_items count) done ≡ Some item → MadeAsk work count done asks → AsksIn (work_after_all work asks) item ask → MadeAsk work count (done + 1) (asks ++ ask ∷ [])
+item_more work count done asks item ask is asked one =
+    let all : List SessionItem = make_items count in
+    let more : take (done + 1) all ≡ take done all ++ item ∷ [] = take_more all done item (slice_get_within all done item is) ∙ ap (λ i. take done all ++ i ∷ []) (get_or_from_slice_get all done item item is) in
+    let P : List SessionItem → Type 0 = λ l. AllAsk work l (asks ++ ask ∷ []) in
+    subst P (sym more) (asks_more work (take done all) asks item ask asked one)
 
 -- condensing, behind all of them
-all_more : (work : Work) (count : ℕ) (asks : List Ask) (ask : Ask) → MadeAsk work (items_each * count) asks → AsksIn (work_after_all work asks) (Query Condense) ask → MakeAsks work count (asks ++ ask ∷ [])
-all_more work count asks ask asked one = asks_more work (chunks (made_first (items_each * count))) asks (Query Condense) ask asked one
+all_more : (work : Work) (count : ℕ) (asks : List Ask) (ask : Ask) → MadeAsk work count (items_each * count) asks → AsksIn (work_after_all work asks) (Query Condense) ask → MakeAsks work count (asks ++ ask ∷ [])
+all_more work count asks ask asked one =
+    let P : List SessionItem → Type 0 = λ l. AllAsk work l (asks ++ ask ∷ []) in
+    subst P (all_items count) (item_more work count (items_each * count) asks (Query Condense) ask (condense_at count) asked one)
+
+-- all of it is a front of it
+all_first : (work : Work) (count : ℕ) (asks : List Ask) → MakeAsks work count asks → FirstMakeAsks work count asks
+all_first work count asks asked =
+    let P : List SessionItem → Type 0 = λ l. AllAsk work l asks in
+    (items_each * count + 1, subst P (sym (all_items count)) asked)
 
 -- the list behind one ask more
 list_more : (work : Work) (asks : List Ask) (ask : Ask) → (work_after (work_after_all work asks) ask).changes ≡ list_after_all work (asks ++ ask ∷ [])
@@ -323,22 +333,22 @@ entered may_leave now mid session work item ask answer basis e asks is h = recor
 }
 
 -- what it becomes of a session whose last run and trouble are noted
-module _ (may_leave : Image → Type 0) (now : Shown) (session : Session) (was : Was) (work : Work) (put : List ℕ) where
-  making_so : (done : ℕ) (tally : Tally) (early pending asks : List Ask) (early_done : ℕ) → asks ≡ early ++ pending → early_done ≤ done → MadeAsk work early_done early → MadeAsk work done asks → CountsAll work asks nothing tally → IsAmid may_leave now session (work_after_all work asks) (ground work put early) → troubled_of session ≡ (was.troubled || any_trouble work asks) → RunBehindAll work asks was.last_run (last_run_of session)
-      → IsMaking may_leave now session was work put done tally
+module _ (may_leave : Image → Type 0) (now : Shown) (session : Session) (was : Was) (work : Work) (put : List ℕ) (count : ℕ) where
+  making_so : (done : ℕ) (tally : Tally) (early pending asks : List Ask) (early_done : ℕ) → asks ≡ early ++ pending → early_done ≤ done → MadeAsk work count early_done early → MadeAsk work count done asks → CountsAll work asks nothing tally → IsAmid may_leave now session (work_after_all work asks) (ground work put early) → troubled_of session ≡ (was.troubled || any_trouble work asks) → RunBehindAll work asks was.last_run (last_run_of session)
+      → IsMaking may_leave now session was work put count done tally
   making_so done tally early pending asks early_done is no_more early_asked asked counted at troubled run =
-      let P : List Ask → Type 0 = λ l. MadeAsk work done l × CountsAll work l nothing tally × IsAmid may_leave now session (work_after_all work l) (ground work put early) × (troubled_of session ≡ (was.troubled || any_trouble work l)) × RunBehindAll work l was.last_run (last_run_of session) in
+      let P : List Ask → Type 0 = λ l. MadeAsk work count done l × CountsAll work l nothing tally × IsAmid may_leave now session (work_after_all work l) (ground work put early) × (troubled_of session ≡ (was.troubled || any_trouble work l)) × RunBehindAll work l was.last_run (last_run_of session) in
       let h = subst P is (asked, counted, at, troubled, run) in
       record { early = early; pending = pending; early_done = early_done; no_more = no_more; early_asked = early_asked; asked = h.0; counted = h.1; at = h.2; troubled = h.3; last_run = h.4 }
 
   -- one ask more
-  more_made : (was_left : Image → Type 0) (mid : Shown) (at_work : Session) (done : ℕ) (before tally : Tally) (item : Item) (ask : Ask) (m : IsMaking was_left mid at_work was work put done before) → item ≡ made_item done → AsksIn (work_after_all work (m.early ++ m.pending)) (Chunk item) ask → Counts (work_after_all work (m.early ++ m.pending)) ask before tally
-      → troubled_of session ≡ (troubled_of at_work || is_trouble (reply_to (work_after_all work (m.early ++ m.pending)) ask)) → RunBehind (work_after_all work (m.early ++ m.pending)) ask (last_run_of at_work) (last_run_of session) → GoesOn may_leave now session (work_after (work_after_all work (m.early ++ m.pending)) ask) (ground work put m.early) → IsMaking may_leave now session was work put (done + 1) tally
+  more_made : (was_left : Image → Type 0) (mid : Shown) (at_work : Session) (done : ℕ) (before tally : Tally) (item : Item) (ask : Ask) (m : IsMaking was_left mid at_work was work put count done before) → slice_get (make_items count) done ≡ Some (Chunk item) → AsksIn (work_after_all work (m.early ++ m.pending)) (Chunk item) ask → Counts (work_after_all work (m.early ++ m.pending)) ask before tally
+      → troubled_of session ≡ (troubled_of at_work || is_trouble (reply_to (work_after_all work (m.early ++ m.pending)) ask)) → RunBehind (work_after_all work (m.early ++ m.pending)) ask (last_run_of at_work) (last_run_of session) → GoesOn may_leave now session (work_after (work_after_all work (m.early ++ m.pending)) ask) (ground work put m.early) → IsMaking may_leave now session was work put count (done + 1) tally
   more_made was_left mid at_work done before tally item ask m is one counted troubled run goes =
       let asks : List Ask = m.early ++ m.pending in
       let all : List Ask = asks ++ ask ∷ [] in
       let behind : Work = work_after (work_after_all work asks) ask in
-      let asked = item_more work done asks item ask is m.asked one in
+      let asked = item_more work count done asks (Chunk item) ask is m.asked one in
       let counts = counts_more work asks ask nothing before tally m.counted counted in
       let trouble = troubled_by_now was.troubled work asks ask (troubled_of at_work) (troubled_of session) m.troubled troubled in
       let last = run_by_now work asks ask was.last_run (last_run_of at_work) (last_run_of session) m.last_run run in
@@ -350,7 +360,7 @@ module _ (may_leave : Image → Type 0) (now : Shown) (session : Session) (was :
       goes
 
   -- all that is pending was committed
-  making_flushed : (was_left : Image → Type 0) (mid : Shown) (at_work : Session) (done : ℕ) (tally : Tally) (m : IsMaking was_left mid at_work was work put done tally) → Flushed {T = Unit {0}} (Ok tt) may_leave now session (work_after_all work (m.early ++ m.pending)) (ground work put m.early) → HasSameRest at_work session → IsMaking may_leave now session was work put done tally
+  making_flushed : (was_left : Image → Type 0) (mid : Shown) (at_work : Session) (done : ℕ) (tally : Tally) (m : IsMaking was_left mid at_work was work put count done tally) → Flushed {T = Unit {0}} (Ok tt) may_leave now session (work_after_all work (m.early ++ m.pending)) (ground work put m.early) → HasSameRest at_work session → IsMaking may_leave now session was work put count done tally
   making_flushed was_left mid at_work done tally m at same =
       let asks : List Ask = m.early ++ m.pending in
       let P : Option RanValue → Type 0 = λ o. RunBehindAll work asks was.last_run o in
@@ -361,30 +371,30 @@ or_none true = refl
 or_none false = refl
 
 -- no item
-pub making_none : (may_leave : Image → Type 0) (o : Shown) (session : Session) (work : Work) (put : List ℕ) (tally : Tally) → tally ≡ nothing → IsAt may_leave o session work put → IsMaking may_leave o session (was_of session) work put 0 tally
-making_none may_leave o session work put tally none at = record { early = []; pending = []; early_done = 0; no_more = omega arith; early_asked = tt; asked = tt; counted = none; at = at; troubled = or_none (troubled_of session); last_run = refl }
+pub making_none : (may_leave : Image → Type 0) (o : Shown) (session : Session) (work : Work) (put : List ℕ) (count : ℕ) (tally : Tally) → tally ≡ nothing → IsAt may_leave o session work put → IsMaking may_leave o session (was_of session) work put count 0 tally
+making_none may_leave o session work put count tally none at = record { early = []; pending = []; early_done = 0; no_more = omega arith; early_asked = tt; asked = tt; counted = none; at = at; troubled = or_none (troubled_of session); last_run = refl }
 
 -- as many items as there are
-pub making_all : (may_leave : Image → Type 0) (o : Shown) (session : Session) (was : Was) (work : Work) (put : List ℕ) (done all : ℕ) (tally : Tally) → done ≡ all → IsMaking may_leave o session was work put done tally → IsMaking may_leave o session was work put all tally
-making_all may_leave o session was work put done all tally is m = let P : ℕ → Type 0 = λ n. IsMaking may_leave o session was work put n tally in subst P is m
+pub making_all : (may_leave : Image → Type 0) (o : Shown) (session : Session) (was : Was) (work : Work) (put : List ℕ) (count done all : ℕ) (tally : Tally) → done ≡ all → IsMaking may_leave o session was work put count done tally → IsMaking may_leave o session was work put count all tally
+making_all may_leave o session was work put count done all tally is m = let P : ℕ → Type 0 = λ n. IsMaking may_leave o session was work put count n tally in subst P is m
 
 -- the fronts of what was asked
-module _ (was_left : Image → Type 0) (mid : Shown) (at_work : Session) (was : Was) (work : Work) (put : List ℕ) (count done : ℕ) (before : Tally) (m : IsMaking was_left mid at_work was work put done before) (few : done ≤ items_each * count) where
+module _ (was_left : Image → Type 0) (mid : Shown) (at_work : Session) (was : Was) (work : Work) (put : List ℕ) (count done : ℕ) (before : Tally) (m : IsMaking was_left mid at_work was work put count done before) where
   abbrev so_far : List Ask
   so_far = m.early ++ m.pending
 
   first_early : FirstMakeAsks work count m.early
-  first_early = inl (m.early_done, omega (arith, m.no_more, few), m.early_asked)
+  first_early = (m.early_done, m.early_asked)
 
   first_done : FirstMakeAsks work count so_far
-  first_done = inl (done, few, m.asked)
+  first_done = (done, m.asked)
 
   -- a flush behind it
   making_breaks : (T : Type 0) (end : SessionEnd) (may_leave : Image → Type 0) (now : Shown) (session : Session) → ((w : Work) (basis : Ground) → IsAmid was_left mid at_work w basis → Flushed {T = T} (Err end) may_leave now session w basis) → MakeBreaks end may_leave now session work count put
   making_breaks T end may_leave now session broke = flush_breaks work put count m.early so_far first_early first_done T end may_leave now session (broke (work_after_all work so_far) (ground work put m.early) m.at)
 
   pub making_flush : (r : Result (Unit {0}) SessionEnd) (may_leave : Image → Type 0) (now : Shown) (session : Session) → HasSameRest at_work session → ((w : Work) (basis : Ground) → IsAmid was_left mid at_work w basis → Flushed r may_leave now session w basis) → MakesItem r may_leave now session was work put count done before
-  making_flush (Ok value) may_leave now session same flushes = making_flushed may_leave now session was work put was_left mid at_work done before m (flushes (work_after_all work so_far) (ground work put m.early) m.at) same
+  making_flush (Ok value) may_leave now session same flushes = making_flushed may_leave now session was work put count was_left mid at_work done before m (flushes (work_after_all work so_far) (ground work put m.early) m.at) same
   making_flush (Err end) may_leave now session same flushes = making_breaks (Unit {0}) end may_leave now session flushes
 
   -- memory is wanting
@@ -397,24 +407,21 @@ module _ (was_left : Image → Type 0) (mid : Shown) (at_work : Session) (was : 
         joined moment left_since old here new (MakeKeeps work count put) (FlushLeaves (work_after_all work so_far) (ground work put m.early)) first (second (work_after_all work so_far) (ground work put m.early) m.at) (flush_keeps work put count m.early so_far first_early first_done (work_after_all work so_far) refl)
 
 -- an item is worked
-module _ (was_left : Image → Type 0) (mid : Shown) (at_work : Session) (was : Was) (work : Work) (put : List ℕ) (count done : ℕ) (before : Tally) (item : Item) (sound : IsSound item) (is : item ≡ made_item done) (few : done < items_each * count) (m : IsMaking was_left mid at_work was work put done before) where
+module _ (was_left : Image → Type 0) (mid : Shown) (at_work : Session) (was : Was) (work : Work) (put : List ℕ) (count done : ℕ) (before : Tally) (item : Item) (sound : IsSound item) (is : slice_get (make_items count) done ≡ Some (Chunk item)) (m : IsMaking was_left mid at_work was work put count done before) where
   abbrev asked_then : List Ask
   asked_then = m.early ++ m.pending
 
   abbrev basis_then : Ground
   basis_then = ground work put m.early
 
-  no_more_then : done ≤ items_each * count
-  no_more_then = omega (arith, few)
-
   begins_early : FirstMakeAsks work count m.early
-  begins_early = first_early was_left mid at_work was work put count done before m no_more_then
+  begins_early = first_early was_left mid at_work was work put count done before m
 
   begins_then : FirstMakeAsks work count asked_then
-  begins_then = first_done was_left mid at_work was work put count done before m no_more_then
+  begins_then = first_done was_left mid at_work was work put count done before m
 
   grows_then : (ask : Ask) → AsksIn (work_after_all work asked_then) (Chunk item) ask → FirstMakeAsks work count (asked_then ++ ask ∷ [])
-  grows_then ask one = inl (done + 1, omega (arith, few), item_more work done asked_then item ask is m.asked one)
+  grows_then ask one = (done + 1, item_more work count done asked_then (Chunk item) ask is m.asked one)
 
   -- it breaks off
   pub item_broke : (end : SessionEnd) (may_leave : Image → Type 0) (now : Shown) (session : Session) → ((w : Work) (basis : Ground) → IsReadable (Chunk item) → IsAmid was_left mid at_work w basis → Unreplied end may_leave now session w basis (Chunk item)) → MakeBreaks end may_leave now session work count put
@@ -442,30 +449,30 @@ module _ (was_left : Image → Type 0) (mid : Shown) (at_work : Session) (was : 
         let ask : Ask = answered.0 in
         stalls work put count m.early (asked_then ++ ask ∷ []) begins_early (grows_then ask answered.1) may_leave now session (work_after (work_after_all work asked_then) ask) (list_more work asked_then ask) goes_entered
 
-    pub item_made : AnswersAlike → (tally : Tally) → troubled_of replied ≡ troubled_of at_work → troubled_of session ≡ (troubled_of replied || is_trouble answer.reply) → tally ≡ with_reply answer.reply (small_in (last_run_of session)) before → IsMaking may_leave now session was work put (done + 1) tally
+    pub item_made : AnswersAlike → (tally : Tally) → troubled_of replied ≡ troubled_of at_work → troubled_of session ≡ (troubled_of replied || is_trouble answer.reply) → tally ≡ with_reply answer.reply (small_in (last_run_of session)) before → IsMaking may_leave now session was work put count (done + 1) tally
     item_made alike tally calm troubled counted =
         let w : Work = work_after_all work asked_then in
         let ask : Ask = answered.0 in
         let P : Option RanValue → Type 0 = λ o. RunBehind w ask (last_run_of at_work) o in
         let run = subst P (sym e.last_run) answered.3 in
-        more_made may_leave now session was work put was_left mid at_work done before tally item ask m is answered.1 (chunk_counted alike w item ask answer.reply (last_run_of at_work) (last_run_of session) before tally answered.1.0 answered.2.0 run counted) (troubled ∙ (λ i. calm i || is_trouble (answered.2.0 i))) run goes_entered
+        more_made may_leave now session was work put count was_left mid at_work done before tally item ask m is answered.1 (chunk_counted alike w item ask answer.reply (last_run_of at_work) (last_run_of session) before tally answered.1.0 answered.2.0 run counted) (troubled ∙ (λ i. calm i || is_trouble (answered.2.0 i))) run goes_entered
 
 -- ---- what a crash leaves while items are worked
 
 module _ {D : Type 0} (moment : D → ℕ) (left_since : D → ℕ → ℕ → Image → Type 0) where
   -- no call was made
-  pub making_still : (may_leave : Image → Type 0) (o : Shown) (session : Session) (now : D) (was : Was) (work : Work) (put : List ℕ) (count done : ℕ) (tally : Tally) → ((told : ℕ) (c : Image) → left_since now (moment now) told c → may_leave c × (told ≡ o.told)) → done ≤ items_each * count → IsMaking may_leave o session was work put done tally → LeavesOnly moment left_since now now (MakeKeeps work count put)
-  making_still may_leave o session now was work put count done tally only few m =
+  pub making_still : (may_leave : Image → Type 0) (o : Shown) (session : Session) (now : D) (was : Was) (work : Work) (put : List ℕ) (count done : ℕ) (tally : Tally) → ((told : ℕ) (c : Image) → left_since now (moment now) told c → may_leave c × (told ≡ o.told)) → IsMaking may_leave o session was work put count done tally → LeavesOnly moment left_since now now (MakeKeeps work count put)
+  making_still may_leave o session now was work put count done tally only m =
       started moment left_since now (MakeKeeps work count put) (λ told c left.
       let x = only told c left in
-      inl (m.early, first_early may_leave o session was work put count done tally m few, record { no_more = omega (arith, m.at.told, x.1); files = amid_leaves may_leave o session (work_after_all work (m.early ++ m.pending)) (ground work put m.early) m.at c x.0 }))
+      inl (m.early, first_early may_leave o session was work put count done tally m, record { no_more = omega (arith, m.at.told, x.1); files = amid_leaves may_leave o session (work_after_all work (m.early ++ m.pending)) (ground work put m.early) m.at c x.0 }))
 
   -- before any item
   pub making_starts : (may_leave : Image → Type 0) (o : Shown) (session : Session) (now : D) (work : Work) (count : ℕ) (put : List ℕ) → ((told : ℕ) (c : Image) → left_since now (moment now) told c → may_leave c × (told ≡ o.told)) → IsAt may_leave o session work put → LeavesOnly moment left_since now now (MakeKeeps work count put)
   making_starts may_leave o session now work count put only at =
       started moment left_since now (MakeKeeps work count put) (λ told c left.
       let x = only told c left in
-      inl ([], inl (0, omega arith, tt), record { no_more = omega (arith, at.told, x.1); files = amid_leaves may_leave o session work (at_rest work put) at c x.0 }))
+      inl ([], (0, tt), record { no_more = omega (arith, at.told, x.1); files = amid_leaves may_leave o session work (at_rest work put) at c x.0 }))
 
   pub making_on : (old mid new : D) (work : Work) (count : ℕ) (put : List ℕ) → LeavesOnly moment left_since old mid (MakeKeeps work count put) → LeavesOnly moment left_since mid new (MakeKeeps work count put) → LeavesOnly moment left_since old new (MakeKeeps work count put)
   making_on old mid new work count put first second = joined moment left_since old mid new (MakeKeeps work count put) (MakeKeeps work count put) first second (λ told c h. h)
@@ -500,7 +507,7 @@ pub record IsMade (may_leave : Image → Type 0) (o : Shown) (session : Session)
   pub last_run : RunBehindAll work asks was.last_run (last_run_of session)
 
 -- it condenses
-module _ (was_left : Image → Type 0) (mid : Shown) (at_work : Session) (was : Was) (work : Work) (put : List ℕ) (count : ℕ) (before : Tally) (m : IsMaking was_left mid at_work was work put (items_each * count) before) where
+module _ (was_left : Image → Type 0) (mid : Shown) (at_work : Session) (was : Was) (work : Work) (put : List ℕ) (count : ℕ) (before : Tally) (m : IsMaking was_left mid at_work was work put count (items_each * count) before) where
   abbrev all_asked : List Ask
   all_asked = m.early ++ m.pending
 
@@ -508,13 +515,13 @@ module _ (was_left : Image → Type 0) (mid : Shown) (at_work : Session) (was : 
   all_basis = ground work put m.early
 
   begins_kept : FirstMakeAsks work count m.early
-  begins_kept = first_early was_left mid at_work was work put count (items_each * count) before m (omega arith)
+  begins_kept = first_early was_left mid at_work was work put count (items_each * count) before m
 
   begins_all : FirstMakeAsks work count all_asked
-  begins_all = first_done was_left mid at_work was work put count (items_each * count) before m (omega arith)
+  begins_all = first_done was_left mid at_work was work put count (items_each * count) before m
 
   grows_all : (ask : Ask) → AsksIn (work_after_all work all_asked) (Query Condense) ask → FirstMakeAsks work count (all_asked ++ ask ∷ [])
-  grows_all ask one = inr (all_more work count all_asked ask m.asked one)
+  grows_all ask one = all_first work count (all_asked ++ ask ∷ []) (all_more work count all_asked ask m.asked one)
 
   -- it breaks off
   pub condense_broke : (end : SessionEnd) (may_leave : Image → Type 0) (now : Shown) (session : Session) → ((w : Work) (basis : Ground) (item : SessionItem) → Asks item condenses → IsAmid was_left mid at_work w basis → WorkedAlone (Err end) may_leave now session w basis item condenses) → MakeBreaks end may_leave now session work count put
@@ -564,6 +571,9 @@ module _ (was_left : Image → Type 0) (mid : Shown) (at_work : Session) (was : 
   abbrev line_basis : Ground
   line_basis = record { kept = list_after_all work m.asks; put = put; held = made_line count tally }
 
+  asked_first : FirstMakeAsks work count m.asks
+  asked_first = all_first work count m.asks m.all
+
   line_held : IsAmid was_left mid session (work_after_all work m.asks) line_basis
   line_held = record {
     keeps = let P : KeeperState → Type 0 = λ k. Keeps mid.tells mid.files was_left k (list_after_all work m.asks) (list_after_all work m.asks) in subst P (sym keeper) m.at.keeps;
@@ -594,7 +604,7 @@ module _ (was_left : Image → Type 0) (mid : Shown) (at_work : Session) (was : 
           last_run = subst P (sym run) m.last_run;
         },
       )
-  line_put (Err (ends.Disk failed)) may_leave now last calm run h = lost_flush work put count m.asks m.asks (inr m.all) (inr m.all) may_leave now (work_after_all work m.asks) refl h
+  line_put (Err (ends.Disk failed)) may_leave now last calm run h = lost_flush work put count m.asks m.asks asked_first asked_first may_leave now (work_after_all work m.asks) refl h
   line_put (Err (ends.Write failed)) may_leave now last calm run (n, short, at) =
       let w : Work = work_after_all work m.asks in
       record {
@@ -616,7 +626,7 @@ module _ (was_left : Image → Type 0) (mid : Shown) (at_work : Session) (was : 
   line_flushed r may_leave now last calm run flushes = line_put r may_leave now last calm run (flushes (work_after_all work m.asks) line_basis line_held)
 
   line_keeps : (told : ℕ) (c : Image) → FlushLeaves (work_after_all work m.asks) line_basis told c → MakeKeeps work count put told c
-  line_keeps told c (inl h) = inl (m.asks, inr m.all, h)
+  line_keeps told c (inl h) = inl (m.asks, asked_first, h)
   line_keeps told c (inr h) = inr (m.asks, tally, m.all, m.counted, h)
 
   pub line_lasts : {D : Type 0} (moment : D → ℕ) (left_since : D → ℕ → ℕ → Image → Type 0) (old here new : D) → LeavesOnly moment left_since old here (MakeKeeps work count put) → ((w : Work) (basis : Ground) → IsAmid was_left mid session w basis → LeavesOnly moment left_since here new (FlushLeaves w basis)) → LeavesOnly moment left_since old new (MakeKeeps work count put)

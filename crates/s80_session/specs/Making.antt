@@ -1,11 +1,11 @@
 -- A session works generated input.
-use Rattle.std.specs.Prelude.{◌≡◌, ◌⊎◌, ◌<◌, ◌≤◌, ◌*◌, ◌||◌, ℕ, Bool, List, [], ◌++◌, length, take, Option, Some, Result, Ok, Err}
+use Rattle.std.specs.Prelude.{◌≡◌, ◌⊎◌, ◌<◌, ◌≤◌, ◌||◌, ℕ, Bool, List, [], ◌++◌, length, take, Option, Some, Result, Ok, Err}
 use Rattle.s80_disk.specs.Image.{Image}
 use Rattle.s80_disk.specs.Shown.{Shown}
 use Rattle.s80_keeper.specs.Standing.{ReadsFor}
 use Rattle.s80_machine.specs.Came.{RanValue}
 use Rattle.s80_make.specs.declared.tally.Tally.{Tally}
-use Rattle.s80_make.specs.Items.{items_each, made_first, make_items}
+use Rattle.s80_make.specs.Items.{make_items}
 use Rattle.s80_make.specs.Tally.{CountsAll, made_line, nothing}
 use Rattle.s80_model.specs.Asked.{Ask}
 use Rattle.s80_model.specs.Replies.{AllAsk, Work, any_trouble, list_after_all, work_after_all}
@@ -13,20 +13,19 @@ use Rattle.s80_session.specs.declared.end.SessionEnd.{SessionEnd}
 use Rattle.s80_session.specs.declared.end.SessionEnd.TheVariants as ends
 use Rattle.s80_session.specs.declared.session.Session.{Session}
 use Rattle.s80_session.specs.LastRun.{RunBehindAll}
-use Rattle.s80_session.specs.Run.{HasKept, ShownFor, chunks}
+use Rattle.s80_session.specs.Run.{HasKept, ShownFor}
 use Rattle.s80_session.specs.Session.{Was, last_run_of, troubled_of}
 use Rattle.s80_session.specs.Working.{IsAmid}
 
--- what the first so many items ask
-abbrev pub MadeAsk : Work → ℕ → List Ask → Type 0
-MadeAsk work done asks = AllAsk work (chunks (made_first done)) asks
-
--- what all that is worked for so many classes asks, condensing too, and what a front of it does
+-- what all that is worked for so many classes asks, condensing too, what its first so many items do, and what a front of it does
 abbrev pub MakeAsks : Work → ℕ → List Ask → Type 0
 MakeAsks work count asks = AllAsk work (make_items count) asks
 
+abbrev pub MadeAsk : Work → ℕ → ℕ → List Ask → Type 0
+MadeAsk work count done asks = AllAsk work (take done (make_items count)) asks
+
 abbrev pub FirstMakeAsks : Work → ℕ → List Ask → Type 0
-FirstMakeAsks work count asks = ((done : ℕ) × (done ≤ items_each * count) × MadeAsk work done asks) ⊎ MakeAsks work count asks
+FirstMakeAsks work count asks = (done : ℕ) × MadeAsk work count done asks
 
 -- all was worked and condensed, and one line is put
 pub record Made (may_leave : Image → Type 0) (now : Shown) (work : Work) (count : ℕ) (put : List ℕ) (trouble : Bool) (before_run ran : Option RanValue) : Type 0 where
@@ -86,13 +85,13 @@ MakeKeeps work count put told c =
 -- ---- in its midst
 
 -- the first so many items were worked and counted since the session held that; a front of what they ask is kept, and nothing is put or held
-pub record IsMaking (may_leave : Image → Type 0) (o : Shown) (session : Session) (was : Was) (work : Work) (put : List ℕ) (done : ℕ) (tally : Tally) : Type 0 where
+pub record IsMaking (may_leave : Image → Type 0) (o : Shown) (session : Session) (was : Was) (work : Work) (put : List ℕ) (count done : ℕ) (tally : Tally) : Type 0 where
   pub early : List Ask
   pub pending : List Ask
   pub early_done : ℕ
   pub no_more : early_done ≤ done
-  pub early_asked : MadeAsk work early_done early
-  pub asked : MadeAsk work done (early ++ pending)
+  pub early_asked : MadeAsk work count early_done early
+  pub asked : MadeAsk work count done (early ++ pending)
   pub counted : CountsAll work (early ++ pending) nothing tally
   pub at : IsAmid may_leave o session (work_after_all work (early ++ pending)) (record { kept = list_after_all work early; put = put; held = [] })
   pub troubled : troubled_of session ≡ (was.troubled || any_trouble work (early ++ pending))
@@ -119,7 +118,7 @@ MakeBreaks ends.TooLong may_leave now session work count put = ⊥
 
 -- after one item more was to be worked and counted
 abbrev pub MakesItem : {T : Type 0} → Result T SessionEnd → (Image → Type 0) → Shown → Session → Was → Work → List ℕ → ℕ → ℕ → Tally → Type 0
-MakesItem (Ok over) may_leave now session was work put count done tally = IsMaking may_leave now session was work put done tally
+MakesItem (Ok over) may_leave now session was work put count done tally = IsMaking may_leave now session was work put count done tally
 MakesItem (Err end) may_leave now session was work put count done tally = MakeBreaks end may_leave now session work count put
 
 -- after all was worked and told, with what the session held before it

@@ -16,7 +16,7 @@ use Rattle.s80_session.specs.LastRun.{RunBehindAll}
 use Rattle.s80_session.specs.Session.{group_limit, Was}
 use Rattle.s80_machine.specs.Came.{RanValue}
 use Rattle.s80_model.specs.Asked.{Ask, evaluates}
-use Rattle.s80_model.specs.Replies.{Work, AllAsk, replies, reply_to, reply_text, work_after_all, list_after_all, any_trouble}
+use Rattle.s80_model.specs.Replies.{Work, AllAsk, replies, list_after_all, any_trouble}
 
 -- what an outside shows stands for a list
 abbrev pub ShownFor : (Image → Type 0) → Shown → List Change → Type 0

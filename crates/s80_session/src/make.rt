@@ -1,14 +1,14 @@
 // Generated input: its items are worked as those of a run, but their replies are counted, and not written.
-ghost use Rattle.std.specs.Prelude.{◌≡◌, ◌⊎◌, ◌||◌, ◌<◌, ◌≤◌, ◌+◌, ◌*◌, ℕ, List, [], Some, option_map, IfErr, IfOk, OnErr, OnOk};
+ghost use Rattle.std.specs.Prelude.{◌≡◌, ◌||◌, ◌≤◌, ◌+◌, ◌*◌, ℕ, List, [], Some, OnOk, slice_get};
 ghost use Rattle.s80_chunk.specs.Chunks.{IsSound};
 ghost use Rattle.s80_disk.specs.Moments.{LeavesOnly};
 ghost use Rattle.s80_make.specs.declared.tally.Tally.{Tally as Counted};
-ghost use Rattle.s80_make.specs.Items.{items_each, made_item};
+ghost use Rattle.s80_make.specs.Items.{items_each, make_items};
 ghost use Rattle.s80_make.specs.Tally.{nothing, small_in, with_reply};
 ghost use Rattle.s80_model.specs.Replies.{is_trouble, Work};
-ghost use Rattle.s80_session.specs.Ending.{CountsFor, OnOkOrMemory, SourceCounts};
+ghost use Rattle.s80_session.specs.Ending.{OnOkOrMemory, SourceCounts};
 ghost use Rattle.s80_session.specs.Known.{IsKnowing, StaysKnowing};
-ghost use Rattle.s80_session.specs.Making.{IsMaking, MakeBreaks, MakeKeeps, Makes, MakesAll, MakesItem};
+ghost use Rattle.s80_session.specs.Making.{IsMaking, MakeKeeps, Makes, MakesAll, MakesItem};
 
 use crate::end::SessionEnd;
 use crate::session::Session;
@@ -135,11 +135,11 @@ impl Session {
         requires faultless { IsFaultless self.old }
         requires unheld { held_of self.old ≡ [] }
         requires sound { IsSound item }
-        ensures made { (was : Was) (work : Work) (put : List ℕ) (count done : ℕ) → item ≡ made_item done → done < items_each * count
-            → IsMaking (O.may_leave outside.old) (O.shown outside.old) self.old was work put done tally.old
+        ensures made { (was : Was) (work : Work) (put : List ℕ) (count done : ℕ) → slice_get (make_items count) done ≡ Some (SessionItem.Chunk item)
+            → IsMaking (O.may_leave outside.old) (O.shown outside.old) self.old was work put count done tally.old
             → MakesItem result (O.may_leave outside.new) (O.shown outside.new) self.new was work put count (done + 1) tally.new }
-        ensures any_moment { (was : Was) (work : Work) (put : List ℕ) (count done : ℕ) → item ≡ made_item done → done < items_each * count
-            → IsMaking (O.may_leave outside.old) (O.shown outside.old) self.old was work put done tally.old
+        ensures any_moment { (was : Was) (work : Work) (put : List ℕ) (count done : ℕ) → slice_get (make_items count) done ≡ Some (SessionItem.Chunk item)
+            → IsMaking (O.may_leave outside.old) (O.shown outside.old) self.old was work put count done tally.old
             → LeavesOnly O.moment O.left_since outside.old outside.new (MakeKeeps work count put) }
         ensures held { held_of self.new ≡ [] }
         ensures last_run { RunSince self.old self.new }
@@ -160,11 +160,11 @@ impl Session {
     fn flush_full<O: Outside>(&mut self, outside: &mut O) -> Result<(), SessionEnd>
         requires faultless { IsFaultless self.old }
         requires unheld { held_of self.old ≡ [] }
-        ensures made { (was : Was) (work : Work) (put : List ℕ) (count done : ℕ) (tally : Counted) → done ≤ items_each * count
-            → IsMaking (O.may_leave outside.old) (O.shown outside.old) self.old was work put done tally
+        ensures made { (was : Was) (work : Work) (put : List ℕ) (count done : ℕ) (tally : Counted)
+            → IsMaking (O.may_leave outside.old) (O.shown outside.old) self.old was work put count done tally
             → MakesItem result (O.may_leave outside.new) (O.shown outside.new) self.new was work put count done tally }
-        ensures any_moment { (was : Was) (work : Work) (put : List ℕ) (count done : ℕ) (tally : Counted) → done ≤ items_each * count
-            → IsMaking (O.may_leave outside.old) (O.shown outside.old) self.old was work put done tally
+        ensures any_moment { (was : Was) (work : Work) (put : List ℕ) (count done : ℕ) (tally : Counted)
+            → IsMaking (O.may_leave outside.old) (O.shown outside.old) self.old was work put count done tally
             → LeavesOnly O.moment O.left_since outside.old outside.new (MakeKeeps work count put) }
         ensures held { held_of self.new ≡ [] }
         ensures last_run { RunSince self.old self.new }

@@ -20,13 +20,13 @@ module _ (g : _) (c : After-answer_to g) where
 -- it breaks off
 
 pub returns-in_err-reply-clause-made : goal.returns-in_err-reply-clause-made
-returns-in_err-reply-clause-made g c = λ was work put count done is few m.
+returns-in_err-reply-clause-made g c = λ was work put count done is m.
     let p = err_from_is_err_and c.from_residual.result c.from_residual.ensures.1 in
-    rw (p.1, p.2) (item_broke (g.O.Disk.may_leave c.args.outside.now) (g.O.Outside.shown c.args.outside.now) c.args.self.now was work put count done c.args.tally.now c.args.item c.requires.sound is few m _ (g.O.Disk.may_leave c.answer_to.new.outside) (g.O.Outside.shown c.answer_to.new.outside) c.answer_to.new.self c.in_err-reply.ensures.answers)
+    rw (p.1, p.2) (item_broke (g.O.Disk.may_leave c.args.outside.now) (g.O.Outside.shown c.args.outside.now) c.args.self.now was work put count done c.args.tally.now c.args.item c.requires.sound is m _ (g.O.Disk.may_leave c.answer_to.new.outside) (g.O.Outside.shown c.answer_to.new.outside) c.answer_to.new.self c.in_err-reply.ensures.answers)
 
 pub returns-in_err-reply-clause-any_moment : goal.returns-in_err-reply-clause-any_moment
-returns-in_err-reply-clause-any_moment g c = λ was work put count done is few m.
-    item_lasts (g.O.Disk.may_leave c.args.outside.now) (g.O.Outside.shown c.args.outside.now) c.args.self.now was work put count done c.args.tally.now c.args.item c.requires.sound is few m g.O.Disk.moment g.O.Disk.left_since c.args.outside.now c.answer_to.new.outside c.answer_to.ensures.any_moment
+returns-in_err-reply-clause-any_moment g c = λ was work put count done is m.
+    item_lasts (g.O.Disk.may_leave c.args.outside.now) (g.O.Outside.shown c.args.outside.now) c.args.self.now was work put count done c.args.tally.now c.args.item c.requires.sound is m g.O.Disk.moment g.O.Disk.left_since c.args.outside.now c.answer_to.new.outside c.answer_to.ensures.any_moment
 
 pub returns-in_err-reply-clause-held : goal.returns-in_err-reply-clause-held
 returns-in_err-reply-clause-held g c = unheld_then g (goal.at.returns-in_err-reply-clause-held g c).After-answer_to
@@ -61,14 +61,14 @@ module _ (g : _) (c : After-note g) where
 -- memory is wanting to count it
 
 pub returns-in_err-note-clause-made : goal.returns-in_err-note-clause-made
-returns-in_err-note-clause-made g c = λ was work put count done is few m.
+returns-in_err-note-clause-made g c = λ was work put count done is m.
     let after = (goal.at.returns-in_err-note-clause-made g c).After-note in
     let p = err_from_is_err_and c.from_residual-in_err-note.result c.from_residual-in_err-note.ensures.1 in
-    rw (p.1, p.2) (item_stalls (g.O.Disk.may_leave c.args.outside.now) (g.O.Outside.shown c.args.outside.now) c.args.self.now was work put count done c.args.tally.now c.args.item c.requires.sound is few m (g.O.Disk.may_leave c.answer_to.new.outside) (g.O.Outside.shown c.answer_to.new.outside) c.answer_to.new.self c.note.new.self c.in_ok-reply.field-0 (noted g after) c.in_ok-reply.ensures.answers)
+    rw (p.1, p.2) (item_stalls (g.O.Disk.may_leave c.args.outside.now) (g.O.Outside.shown c.args.outside.now) c.args.self.now was work put count done c.args.tally.now c.args.item c.requires.sound is m (g.O.Disk.may_leave c.answer_to.new.outside) (g.O.Outside.shown c.answer_to.new.outside) c.answer_to.new.self c.note.new.self c.in_ok-reply.field-0 (noted g after) c.in_ok-reply.ensures.answers)
 
 pub returns-in_err-note-clause-any_moment : goal.returns-in_err-note-clause-any_moment
-returns-in_err-note-clause-any_moment g c = λ was work put count done is few m.
-    item_lasts (g.O.Disk.may_leave c.args.outside.now) (g.O.Outside.shown c.args.outside.now) c.args.self.now was work put count done c.args.tally.now c.args.item c.requires.sound is few m g.O.Disk.moment g.O.Disk.left_since c.args.outside.now c.answer_to.new.outside c.answer_to.ensures.any_moment
+returns-in_err-note-clause-any_moment g c = λ was work put count done is m.
+    item_lasts (g.O.Disk.may_leave c.args.outside.now) (g.O.Outside.shown c.args.outside.now) c.args.self.now was work put count done c.args.tally.now c.args.item c.requires.sound is m g.O.Disk.moment g.O.Disk.left_since c.args.outside.now c.answer_to.new.outside c.answer_to.ensures.any_moment
 
 pub returns-in_err-note-clause-held : goal.returns-in_err-note-clause-held
 returns-in_err-note-clause-held g c =
@@ -101,16 +101,16 @@ returns-in_err-note-clause-faultless g c =
 -- it is counted
 
 pub returns-clause-made : goal.returns-clause-made
-returns-clause-made g c = λ was work put count done is few m.
+returns-clause-made g c = λ was work put count done is m.
     let after = (goal.at.returns-clause-made g c).After-note in
     let reply = c.in_ok-reply.field-0.reply in
     let counted = noted_count c.enter.new.self c.note.new.self reply c.args.tally.now c.note.new.tally c.note.ensures.rest c.in_ok-note.ensures.tally in
-    item_made (g.O.Disk.may_leave c.args.outside.now) (g.O.Outside.shown c.args.outside.now) c.args.self.now was work put count done c.args.tally.now c.args.item c.requires.sound is few m (g.O.Disk.may_leave c.answer_to.new.outside) (g.O.Outside.shown c.answer_to.new.outside) c.answer_to.new.self c.note.new.self c.in_ok-reply.field-0 (noted g after) c.in_ok-reply.ensures.answers
+    item_made (g.O.Disk.may_leave c.args.outside.now) (g.O.Outside.shown c.args.outside.now) c.args.self.now was work put count done c.args.tally.now c.args.item c.requires.sound is m (g.O.Disk.may_leave c.answer_to.new.outside) (g.O.Outside.shown c.answer_to.new.outside) c.answer_to.new.self c.note.new.self c.in_ok-reply.field-0 (noted g after) c.in_ok-reply.ensures.answers
     c.runs_answer_the_smalls_of_trees.ensures c.note.new.tally c.answer_to.ensures.troubled (noted_trouble c.answer_to.new.self c.enter.new.self c.note.new.self reply c.enter.ensures.rest c.note.ensures.troubled) counted
 
 pub returns-clause-any_moment : goal.returns-clause-any_moment
-returns-clause-any_moment g c = λ was work put count done is few m.
-    item_lasts (g.O.Disk.may_leave c.args.outside.now) (g.O.Outside.shown c.args.outside.now) c.args.self.now was work put count done c.args.tally.now c.args.item c.requires.sound is few m g.O.Disk.moment g.O.Disk.left_since c.args.outside.now c.answer_to.new.outside c.answer_to.ensures.any_moment
+returns-clause-any_moment g c = λ was work put count done is m.
+    item_lasts (g.O.Disk.may_leave c.args.outside.now) (g.O.Outside.shown c.args.outside.now) c.args.self.now was work put count done c.args.tally.now c.args.item c.requires.sound is m g.O.Disk.moment g.O.Disk.left_since c.args.outside.now c.answer_to.new.outside c.answer_to.ensures.any_moment
 
 pub returns-clause-held : goal.returns-clause-held
 returns-clause-held g c =

@@ -1,8 +1,9 @@
-use Rattle.std.proofs.Common.{◌≡◌, ℕ, ◌+◌, ◌*◌, ◌≤◌, List, refl, ◌∙◌, arith}
+use Rattle.std.proofs.Common.{◌≡◌, ◌+◌, ◌*◌, List, ℕ, Some, slice_get, refl, ◌∙◌, arith}
 use Rattle.std.proofs.lemmas.Result.{err_from_is_err_and}
 use Rattle.s80_disk.specs.Moments.{LeavesOnly}
 use Rattle.s80_disk.proofs.lemmas.Showing.{told_beside}
-use Rattle.s80_make.specs.Items.{items_each}
+use Rattle.s80_make.specs.Items.{items_each, make_items}
+use Rattle.s80_model.specs.declared.item.SessionItem.TheVariants.{Chunk}
 use Rattle.s80_model.specs.Replies.{Work}
 use Rattle.s80_session.specs.Making.{MakeKeeps}
 use Rattle.s80_session.specs.Session.{was_of}
@@ -19,7 +20,7 @@ use Rattle.s80_session.proofs.session.Session.make_items.Goals.{After-count_item
 pub loop-number-init : goal.loop-number-init
 loop-number-init g c = record {
   makes = λ work put at. (
-    making_none (g.O.Disk.may_leave c.args.outside.now) (g.O.Outside.shown c.args.outside.now) c.args.self.now work put c.args.tally.now c.requires.tally at,
+    making_none (g.O.Disk.may_leave c.args.outside.now) (g.O.Outside.shown c.args.outside.now) c.args.self.now work put c.args.classes c.args.tally.now c.requires.tally at,
     making_starts g.O.Disk.moment g.O.Disk.left_since (g.O.Disk.may_leave c.args.outside.now) (g.O.Outside.shown c.args.outside.now) c.args.self.now c.args.outside.now work c.args.classes put (λ told image left. let x = g.met.O.Disk.only_now c.args.outside.now told image left in (x.0, x.1 ∙ told_beside g.met.O.Outside.beside_is g.met.O.Outside.shown_is c.args.outside.now)) at,
   );
   unheld = c.requires.resting.silent;
@@ -41,9 +42,8 @@ made_item-requires g c = omega (arith, c.loop-number-test.true, c.requires.class
 pub returns-in_err-item-clause-made : goal.returns-in_err-item-clause-made
 returns-in_err-item-clause-made g c = λ work put at.
     let x = c.loop-number.invariant.makes work put at in
-    let few : c.loop-number.number ≤ items_each * c.args.classes = omega (arith, c.loop-number-test.true) in
     let p = err_from_is_err_and c.from_residual.result c.from_residual.ensures.1 in
-    rw (p.1, p.2) (making_stalls (g.O.Disk.may_leave c.loop-number.outside) (g.O.Outside.shown c.loop-number.outside) c.loop-number.self (was_of c.args.self.now) work put c.args.classes c.loop-number.number c.loop-number.tally x.0 few)
+    rw (p.1, p.2) (making_stalls (g.O.Disk.may_leave c.loop-number.outside) (g.O.Outside.shown c.loop-number.outside) c.loop-number.self (was_of c.args.self.now) work put c.args.classes c.loop-number.number c.loop-number.tally x.0)
 
 pub returns-in_err-item-clause-any_moment : goal.returns-in_err-item-clause-any_moment
 returns-in_err-item-clause-any_moment g c = λ work put at. (c.loop-number.invariant.makes work put at).1
@@ -66,21 +66,21 @@ returns-in_err-item-clause-faultless g c =
 -- an item is worked and counted
 
 module _ (g : _) (c : After-count_item g) where
-  few_then : c.loop-number.number + 1 ≤ items_each * c.args.classes
-  few_then = omega (arith, c.loop-number-test.true)
+  item_then : slice_get (make_items c.args.classes) c.loop-number.number ≡ Some (Chunk c.in_ok-item.item)
+  item_then = c.in_ok-item.ensures.item c.args.classes (omega (arith, c.loop-number-test.true))
 
 pub returns-in_err-count_item-clause-made : goal.returns-in_err-count_item-clause-made
 returns-in_err-count_item-clause-made g c = λ work put at.
+    let is = item_then g (goal.at.returns-in_err-count_item-clause-made g c).After-count_item in
     let x = c.loop-number.invariant.makes work put at in
-    let few = few_then g (goal.at.returns-in_err-count_item-clause-made g c).After-count_item in
     let p = err_from_is_err_and c.from_residual-in_err-count_item.result c.from_residual-in_err-count_item.ensures.1 in
-    rw (p.1, p.2) (c.in_err-count_item.ensures.made (was_of c.args.self.now) work put c.args.classes c.loop-number.number c.in_ok-item.ensures.item (omega (arith, few)) x.0)
+    rw (p.1, p.2) (c.in_err-count_item.ensures.made (was_of c.args.self.now) work put c.args.classes c.loop-number.number is x.0)
 
 pub returns-in_err-count_item-clause-any_moment : goal.returns-in_err-count_item-clause-any_moment
 returns-in_err-count_item-clause-any_moment g c = λ work put at.
+    let is = item_then g (goal.at.returns-in_err-count_item-clause-any_moment g c).After-count_item in
     let x = c.loop-number.invariant.makes work put at in
-    let few = few_then g (goal.at.returns-in_err-count_item-clause-any_moment g c).After-count_item in
-    making_on g.O.Disk.moment g.O.Disk.left_since c.args.outside.now c.loop-number.outside c.count_item.new.outside work c.args.classes put x.1 (c.count_item.ensures.any_moment (was_of c.args.self.now) work put c.args.classes c.loop-number.number c.in_ok-item.ensures.item (omega (arith, few)) x.0)
+    making_on g.O.Disk.moment g.O.Disk.left_since c.args.outside.now c.loop-number.outside c.count_item.new.outside work c.args.classes put x.1 (c.count_item.ensures.any_moment (was_of c.args.self.now) work put c.args.classes c.loop-number.number is x.0)
 
 pub returns-in_err-count_item-clause-last_run : goal.returns-in_err-count_item-clause-last_run
 returns-in_err-count_item-clause-last_run g c = both_runs c.args.self.now c.loop-number.self c.count_item.new.self c.loop-number.invariant.last_run c.count_item.ensures.last_run
@@ -108,27 +108,27 @@ returns-in_err-count_item-clause-faultless g c =
 module _ (g : _) (c : After-count_item g) where
   run_then : (work : Work) (put : List ℕ) → IsAt (g.O.Disk.may_leave c.args.outside.now) (g.O.Outside.shown c.args.outside.now) c.args.self.now work put → LeavesOnly g.O.Disk.moment g.O.Disk.left_since c.args.outside.now c.count_item.new.outside (MakeKeeps work c.args.classes put)
   run_then work put at =
+      let is = item_then g c in
       let x = c.loop-number.invariant.makes work put at in
-      let few = few_then g c in
-      making_on g.O.Disk.moment g.O.Disk.left_since c.args.outside.now c.loop-number.outside c.count_item.new.outside work c.args.classes put x.1 (c.count_item.ensures.any_moment (was_of c.args.self.now) work put c.args.classes c.loop-number.number c.in_ok-item.ensures.item (omega (arith, few)) x.0)
+      making_on g.O.Disk.moment g.O.Disk.left_since c.args.outside.now c.loop-number.outside c.count_item.new.outside work c.args.classes put x.1 (c.count_item.ensures.any_moment (was_of c.args.self.now) work put c.args.classes c.loop-number.number is x.0)
 
 pub returns-in_err-flush_full-clause-made : goal.returns-in_err-flush_full-clause-made
 returns-in_err-flush_full-clause-made g c = λ work put at.
+    let is = item_then g (goal.at.returns-in_err-flush_full-clause-made g c).After-count_item in
     let x = c.loop-number.invariant.makes work put at in
-    let few = few_then g (goal.at.returns-in_err-flush_full-clause-made g c).After-count_item in
     let was = was_of c.args.self.now in
-    let m = c.in_ok-count_item.ensures.made was work put c.args.classes c.loop-number.number c.in_ok-item.ensures.item (omega (arith, few)) x.0 in
+    let m = c.in_ok-count_item.ensures.made was work put c.args.classes c.loop-number.number is x.0 in
     let p = err_from_is_err_and c.from_residual-in_err-flush_full.result c.from_residual-in_err-flush_full.ensures.1 in
-    rw (p.1, p.2) (c.in_err-flush_full.ensures.made was work put c.args.classes (c.loop-number.number + 1) c.count_item.new.tally few m)
+    rw (p.1, p.2) (c.in_err-flush_full.ensures.made was work put c.args.classes (c.loop-number.number + 1) c.count_item.new.tally m)
 
 pub returns-in_err-flush_full-clause-any_moment : goal.returns-in_err-flush_full-clause-any_moment
 returns-in_err-flush_full-clause-any_moment g c = λ work put at.
     let after = (goal.at.returns-in_err-flush_full-clause-any_moment g c).After-count_item in
+    let is = item_then g after in
     let x = c.loop-number.invariant.makes work put at in
-    let few = few_then g after in
     let was = was_of c.args.self.now in
-    let m = c.in_ok-count_item.ensures.made was work put c.args.classes c.loop-number.number c.in_ok-item.ensures.item (omega (arith, few)) x.0 in
-    making_on g.O.Disk.moment g.O.Disk.left_since c.args.outside.now c.count_item.new.outside c.flush_full.new.outside work c.args.classes put (run_then g after work put at) (c.flush_full.ensures.any_moment was work put c.args.classes (c.loop-number.number + 1) c.count_item.new.tally few m)
+    let m = c.in_ok-count_item.ensures.made was work put c.args.classes c.loop-number.number is x.0 in
+    making_on g.O.Disk.moment g.O.Disk.left_since c.args.outside.now c.count_item.new.outside c.flush_full.new.outside work c.args.classes put (run_then g after work put at) (c.flush_full.ensures.any_moment was work put c.args.classes (c.loop-number.number + 1) c.count_item.new.tally m)
 
 pub returns-in_err-flush_full-clause-last_run : goal.returns-in_err-flush_full-clause-last_run
 returns-in_err-flush_full-clause-last_run g c = both_runs c.args.self.now c.count_item.new.self c.flush_full.new.self (both_runs c.args.self.now c.loop-number.self c.count_item.new.self c.loop-number.invariant.last_run c.count_item.ensures.last_run) c.flush_full.ensures.last_run
@@ -155,12 +155,12 @@ pub loop-number-preserved : goal.loop-number-preserved
 loop-number-preserved g c = record {
   makes = λ work put at.
       let after = (goal.at.loop-number-preserved g c).After-count_item in
+      let is = item_then g after in
       let x = c.loop-number.invariant.makes work put at in
-      let few = few_then g after in
       let was = was_of c.args.self.now in
-      let m = c.in_ok-count_item.ensures.made was work put c.args.classes c.loop-number.number c.in_ok-item.ensures.item (omega (arith, few)) x.0 in (
-        c.in_ok-flush_full.ensures.made was work put c.args.classes (c.loop-number.number + 1) c.count_item.new.tally few m,
-        making_on g.O.Disk.moment g.O.Disk.left_since c.args.outside.now c.count_item.new.outside c.flush_full.new.outside work c.args.classes put (run_then g after work put at) (c.flush_full.ensures.any_moment was work put c.args.classes (c.loop-number.number + 1) c.count_item.new.tally few m),
+      let m = c.in_ok-count_item.ensures.made was work put c.args.classes c.loop-number.number is x.0 in (
+        c.in_ok-flush_full.ensures.made was work put c.args.classes (c.loop-number.number + 1) c.count_item.new.tally m,
+        making_on g.O.Disk.moment g.O.Disk.left_since c.args.outside.now c.count_item.new.outside c.flush_full.new.outside work c.args.classes put (run_then g after work put at) (c.flush_full.ensures.any_moment was work put c.args.classes (c.loop-number.number + 1) c.count_item.new.tally m),
       );
   unheld = c.flush_full.ensures.held;
   left = c.flush_full.ensures.left ∙ c.count_item.ensures.left ∙ c.loop-number.invariant.left;
@@ -179,7 +179,7 @@ pub returns-clause-made : goal.returns-clause-made
 returns-clause-made g c = λ work put at.
     let x = c.loop-number.invariant.makes work put at in
     let all : c.loop-number.number ≡ items_each * c.args.classes = omega (arith, c.loop-number-test.false, c.loop-number.auto.number-end) in
-    making_all (g.O.Disk.may_leave c.loop-number.outside) (g.O.Outside.shown c.loop-number.outside) c.loop-number.self (was_of c.args.self.now) work put c.loop-number.number (items_each * c.args.classes) c.loop-number.tally all x.0
+    making_all (g.O.Disk.may_leave c.loop-number.outside) (g.O.Outside.shown c.loop-number.outside) c.loop-number.self (was_of c.args.self.now) work put c.args.classes c.loop-number.number (items_each * c.args.classes) c.loop-number.tally all x.0
 
 pub returns-clause-any_moment : goal.returns-clause-any_moment
 returns-clause-any_moment g c = λ work put at. (c.loop-number.invariant.makes work put at).1

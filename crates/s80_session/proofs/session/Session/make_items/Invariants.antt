@@ -11,7 +11,7 @@ use Rattle.s80_session.proofs.session.Session.make_items.Given as goal
 abbrev pub invariant-loop-number : goal.invariant-loop-number
 invariant-loop-number g l = record {
   makes : (work : Work) (put : List ℕ) → IsAt (g.O.Disk.may_leave l.fn.outside) (g.O.Outside.shown l.fn.outside) l.fn.self work put
-      → IsMaking (g.O.Disk.may_leave l.outside) (g.O.Outside.shown l.outside) l.self (was_of l.fn.self) work put l.number l.tally
+      → IsMaking (g.O.Disk.may_leave l.outside) (g.O.Outside.shown l.outside) l.self (was_of l.fn.self) work put l.classes l.number l.tally
       × LeavesOnly g.O.Disk.moment g.O.Disk.left_since l.fn.outside l.outside (MakeKeeps work l.classes put);
   unheld : held_of l.self ≡ [];
   left : (g.O.Outside.shown l.outside).left ≡ (g.O.Outside.shown l.fn.outside).left;
