@@ -68,7 +68,7 @@ fn lines_of(alloc: Global, changes: &Changes) -> Result<Text> {
 }
 
 /// The changes whose blocks stand one behind the other.
-fn changes_of(alloc: Global, spelled: &str) -> Result<Changes> {
+pub(crate) fn changes_of(alloc: Global, spelled: &str) -> Result<Changes> {
     let log = bytes::read(alloc, spelled)?;
     let mut changes = Changes::empty(alloc);
     let mut rest = log.bytes();

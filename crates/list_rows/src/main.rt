@@ -1,11 +1,13 @@
 //! Reads rows from standard input and prints behind each the text of a file of changes, the shortest list that makes the state of a list of
-//! changes, or what a file of one class has. What it is given and what it prints are tables of the repository's tests.
+//! changes, what a file of one class has, or which methods send a message, implement it or refer to a name behind changes. What it is given and what it prints are tables of the repository's tests.
 #![tactic(auto)]
 
+mod links;
 mod lists;
 mod systems;
 
 use anyhow::{Context, Result, bail};
+use links::Asked;
 use s80_base::Text;
 use s80_rows::{input, print, word_of};
 use std::alloc::Global;
@@ -17,6 +19,12 @@ fn answer(alloc: Global, word: &str, rest: &str) -> Result<Text> {
         "file_on" => lists::file_on(alloc, rest),
         "filed_on" => lists::filed_on(alloc, rest),
         "shortest" => lists::shortest(alloc, rest),
+        "senders" => links::of_word(alloc, Asked::Senders, rest),
+        "implementors" => links::of_word(alloc, Asked::Implementors, rest),
+        "references" => links::of_word(alloc, Asked::References, rest),
+        "undeclared" => links::of_all(alloc, Asked::Undeclared, rest),
+        "unimplemented" => links::of_all(alloc, Asked::Unimplemented, rest),
+        "unsent" => links::of_all(alloc, Asked::Unsent, rest),
         _ => bail!("no row: {word}"),
     }
 }

@@ -1,4 +1,5 @@
-// What is filed out of a system that changes make. The owner of a system makes it and hands it on, and does nothing else.
+// What is filed out of a system that changes make, or asked of it. The owner of a system makes it and hands it on, and does nothing else.
+use crate::links::{Asked, lines};
 use anyhow::{Result, bail};
 use s80_apply::{System, boot};
 use s80_base::{OutOfMemory, Text};
@@ -35,6 +36,29 @@ fn filed_in(
 ) -> Result<Changes> {
     install_all(alloc, system, changes)?;
     Ok(filed_on(alloc, system, class_name)?)
+}
+
+/// What is asked of a system behind changes.
+pub(crate) fn linked_of(
+    alloc: Global,
+    changes: &Changes,
+    asked: Asked,
+    word: &Text,
+) -> Result<Text> {
+    let mut system = boot(alloc)?;
+    linked_in(alloc, &mut system, changes, asked, word)
+}
+
+/// The same, in the kernel's system.
+fn linked_in(
+    alloc: Global,
+    system: &mut System,
+    changes: &Changes,
+    asked: Asked,
+    word: &Text,
+) -> Result<Text> {
+    install_all(alloc, system, changes)?;
+    Ok(lines(alloc, system, asked, word)?)
 }
 
 /// Installs each change.

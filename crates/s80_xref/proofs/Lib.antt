@@ -1,0 +1,10 @@
+pub mod Gathering
+pub mod Leading
+pub mod Linking
+pub mod Members
+pub mod NameLists
+pub mod Naming
+pub mod Selecting
+pub mod Taking
+pub mod Those
+pub mod WordSets

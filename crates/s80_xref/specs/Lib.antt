@@ -1,0 +1,5 @@
+pub mod Found
+pub mod Links
+pub mod Named
+pub mod Places
+pub mod Undeclared
