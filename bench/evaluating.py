@@ -3,8 +3,8 @@
 
 usage: bench/evaluating.py [TURNS]
 
-The shapes: a loop over timesRepeat:, a recursion, calls of a block, and each of them below a deep stack of activations. A third of Python's
-speed is wanted at least. Times are user seconds of whole processes, the least of three, without those of a process that evaluates nothing.
+The shapes: a loop over timesRepeat:, a recursion, calls of a block, loop and block calls below a deep stack of activations, items of an Array put and read, and each given to a block; and messages that a proxy
+doesn't understand and sends on, beside Python's __getattr__. How much of Python's speed is wanted is told with each. Times are user seconds of whole processes, the least of three, without those of a process that evaluates nothing.
 """
 import os
 import resource
@@ -22,7 +22,21 @@ CLASS = """Object subclass: #Measured
 fib: n
 	^n < 2 ifTrue: [n] ifFalse: [(self fib: n - 1) + (self fib: n - 2)]!
 below: depth do: aBlock
-	^depth = 0 ifTrue: [aBlock value] ifFalse: [self below: depth - 1 do: aBlock]! !
+	^depth = 0 ifTrue: [aBlock value] ifFalse: [self below: depth - 1 do: aBlock]!
+next: n
+	^n + 1!
+perform: aSymbol with: anArgument <primitive: 83>
+	^self primitiveFailed! !
+Object subclass: #Proxy
+	instanceVariableNames: 'target'
+	classVariableNames: ''
+	poolDictionaries: ''
+	category: 'Measured'!
+!Proxy methodsFor: 'measured'!
+target: anObject
+	target _ anObject!
+doesNotUnderstand: aMessage
+	^target perform: aMessage selector with: (aMessage arguments at: 1)! !
 """
 
 PYTHON = """import sys
@@ -34,6 +48,16 @@ class Measured:
 
     def below(self, depth, block):
         return block() if depth == 0 else self.below(depth - 1, block)
+
+    def next(self, n):
+        return n + 1
+
+class Proxy:
+    def __init__(self, target):
+        self.target = target
+
+    def __getattr__(self, name):
+        return getattr(self.target, name)
 
 def times_repeat(count, block):
     n = 1
@@ -61,6 +85,34 @@ def blocks():
 
 def below(block):
     return Measured().below(900, block)
+
+def array():
+    a = [None] * 10
+    i = 1
+    while i < 100000:
+        a[0] = i
+        i = a[0] + 1
+    return i
+
+def do(items, block):
+    for item in items:
+        block(item)
+
+def items():
+    a = [None] * 1000
+    n = 0
+    def add(x):
+        nonlocal n
+        n = n + 1
+    times_repeat(100, lambda: do(a, add))
+    return n
+
+def proxy():
+    proxy = Proxy(Measured())
+    i = 0
+    while i < 100000:
+        i = proxy.next(i)
+    return i
 """
 
 LOOP = "n _ 0. 300000 timesRepeat: [n _ n + 1]. n"
@@ -73,7 +125,14 @@ SHAPES = {
     "blocks": (f"| b i | b _ [:x | x + 1]. {BLOCKS}", "blocks()", 300_000, 300_000),
     "loop below 900": (f"| n | Measured new below: 900 do: [{LOOP}]", "below(loop)", 300_900, 300_000),
     "blocks below 900": (f"| b i | b _ [:x | x + 1]. Measured new below: 900 do: [{BLOCKS}]", "below(blocks)", 300_900, 300_000),
+    "array": ("| a i | a _ Array new: 10. i _ 1. [i < 100000] whileTrue: [a at: 1 put: i. i _ (a at: 1) + 1]. i", "array()", 200_000, 100_000),
+    "items": ("| a n | a _ Array new: 1000. n _ 0. 100 timesRepeat: [a do: [:x | n _ n + 1]]. n", "items()", 100_000, 100_000),
+    "proxy": ("| p i | p _ Proxy new. p target: Measured new. i _ 0. [i < 100000] whileTrue: [i _ p next: i]. i", "proxy()", 100_000, 100_000),
 }
+
+
+# How much of Python's speed is wanted, where it isn't a third.
+WANTED = {"recursion": 0.67, "blocks": 0.67, "blocks below 900": 0.67, "array": 1.0, "items": 1.0}
 
 
 def user_seconds(command, data):
@@ -94,7 +153,7 @@ def here(place, name, doit, turns, answer):
     work = os.path.join(place, name.replace(" ", "-"))
     os.mkdir(work)
     least, replies = user_seconds([PROGRAM, work, "run"], CLASS)
-    assert replies == ["ok"] * 3, replies
+    assert replies == ["ok"] * 8, replies
     seconds, replies = least_seconds([PROGRAM, work, "run"], f"{doit}!\n" * turns)
     assert replies == [f"=> {answer}"] * turns, replies
     return seconds - least
@@ -115,7 +174,7 @@ def main():
         for name, (doit, call, sends, answer) in SHAPES.items():
             ours, python = here(place, name, doit, turns, answer), there(call, turns, answer)
             print(f"{name}: {turns * sends / ours / 1e6:.2f} million sends a second, python3 {turns * sends / python / 1e6:.2f}, "
-                  f"{python / ours:.2f} of its speed (at least 0.33 is wanted)", flush=True)
+                  f"{python / ours:.2f} of its speed (at least {WANTED.get(name, 0.33):.2f} is wanted)", flush=True)
 
 
 main()
