@@ -3,8 +3,11 @@
 
 usage: bench/evaluating.py [TURNS]
 
-The shapes: a loop over timesRepeat:, a recursion, calls of a block, loop and block calls below a deep stack of activations, items of an Array put and read, and each given to a block; and messages that a proxy
-doesn't understand and sends on, beside Python's __getattr__. How much of Python's speed is wanted is told with each. Times are user seconds of whole processes, the least of three, without those of a process that evaluates nothing.
+The shapes: a loop over timesRepeat:, a recursion, calls of a block, loop and block calls below a deep
+stack of activations, items of an Array put and read, and each given to a block; and messages that a
+proxy doesn't understand and sends on, beside Python's __getattr__. How much of Python's speed is wanted
+is told with each. Times are user seconds of whole processes, the least of three, without those of a
+process that evaluates nothing.
 """
 import os
 import resource
