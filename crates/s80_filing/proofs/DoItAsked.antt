@@ -11,7 +11,7 @@ use Rattle.s80_apply.specs.List.{add}
 use Rattle.s80_doit.specs.DoIt.{Fits}
 use Rattle.s80_model.specs.declared.item.SessionItem.{SessionItem}
 use Rattle.s80_model.specs.declared.item.SessionItem.TheVariants.{Chunk}
-use Rattle.s80_model.specs.Asked.{Ask, refuses, adds, evaluates, condenses, opens, refuses_head, adds_source, refuses_source, closes, tells, files, AsksPlain, IsRefusedText}
+use Rattle.s80_model.specs.Asked.{Ask, refuses, adds, evaluates, condenses, opens, refuses_head, adds_source, refuses_source, closes, tells, files, seeks, AsksPlain, IsRefusedText}
 use Rattle.s80_model.specs.Replies.{AllAsk, Work, list_after_all, list_or, work_after}
 use Rattle.s80_model.proofs.Asking.{no_refusal}
 use Rattle.s80_filing.specs.Filing.{AllTaken, IsTaken, LeadsTo}
@@ -43,6 +43,7 @@ is_evaluated text fits asked (refuses_source refusal) is = absurd is
 is_evaluated text fits asked closes is = absurd is
 is_evaluated text fits asked (tells query) is = absurd is
 is_evaluated text fits asked (files filed moment) is = absurd is
+is_evaluated text fits asked (seeks query lines) is = absurd is
 
 -- and the list has it behind it, whatever it is told
 pub adds_doit : (work : Work) (rest : List SessionItem) (text : List ℕ) (list : List Change) → IsEvaluated text → add work.changes (DoIt text) ≡ Ok (work.changes ++ DoIt text ∷ []) → LeadsTo (grown work (DoIt text)) rest list → LeadsTo work (Chunk (items.Plain text) ∷ rest) list

@@ -9,7 +9,7 @@ use Rattle.s80_doit.specs.Answer.{AnswersSmall}
 use Rattle.s80_model.specs.declared.item.Query.TheVariants.{Condense}
 use Rattle.s80_model.specs.declared.item.SessionItem.{SessionItem}
 use Rattle.s80_model.specs.declared.item.SessionItem.TheVariants.{Chunk, Query}
-use Rattle.s80_model.specs.Asked.{Ask, IsTimed, refuses, adds, evaluates, condenses, opens, refuses_head, adds_source, refuses_source, closes, tells, files}
+use Rattle.s80_model.specs.Asked.{Ask, IsTimed, refuses, adds, evaluates, condenses, opens, refuses_head, adds_source, refuses_source, closes, tells, files, seeks}
 use Rattle.s80_model.specs.Replies.{AllAsk, Work, work_after}
 use Rattle.s80_model.specs.Settings.{Settings}
 use Rattle.s80_model.proofs.lemmas.Timed.{chunks_timed}
@@ -44,6 +44,7 @@ counted_once law work (refuses_source refusal) before now other is are = are ∙
 counted_once law work closes before now other is are = are ∙ sym is
 counted_once law work (tells query) before now other is are = are ∙ sym is
 counted_once law work (files filed moment) before now other is are = are ∙ sym is
+counted_once law work (seeks query lines) before now other is are = are ∙ sym is
 
 pub all_counted_once : OneSmall → (work : Work) (asks : List Ask) (before now other : Tally) → CountsAll work asks before now → CountsAll work asks before other → other ≡ now
 all_counted_once law work [] before now other is are = are ∙ sym is

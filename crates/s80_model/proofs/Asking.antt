@@ -27,13 +27,15 @@ use Rattle.s80_model.specs.declared.item.SessionItem.TheVariants.{Chunk, Unended
 use Rattle.s80_form.specs.declared.form.Form.{Form as FormOfDoIt}
 use Rattle.s80_form.specs.declared.form.Recognised.TheVariants as recognised
 use Rattle.s80_form.specs.Form.{IsCondensing, IsCondensingText, IsEvaluatedText, IsFormText, IsSnapshot, IsSnapshotText}
+use Rattle.s80_form.specs.Name.{IsName, IsSelectorWord}
 use Rattle.s80_form.proofs.lemmas.OneForm.{form_of_text_same, has_same}
 use Rattle.s80_apply.specs.List.{add, state_of}
 use Rattle.s80_doit.specs.Answer.{EvaluatesTo}
 use Rattle.s80_doit.specs.DoIt.{Fits}
-use Rattle.s80_model.specs.Asked.{Ask, refuses, adds, evaluates, condenses, opens, refuses_head, adds_source, refuses_source, closes, tells, files, IsRefusedText, AsksPlain, IsRefusedHead, AsksHead, AsksMethod, IsKeptAs, AsksQuery, IsTimed}
+use Rattle.s80_model.specs.Asked.{Ask, refuses, adds, evaluates, condenses, opens, refuses_head, adds_source, refuses_source, closes, tells, files, seeks, IsRefusedText, AsksPlain, IsRefusedHead, AsksHead, AsksMethod, IsKeptAs, AsksQuery, IsTimed}
 use Rattle.s80_model.specs.Replies.{AllAsk, AsksIn, IsEvaluated, IsSo, Work, work_after}
 use Rattle.s80_model.specs.Settings.{IsNow, Settings}
+use Rattle.s80_model.proofs.Sought.{one_asked_of, one_sought}
 
 -- in the state of a list a text is told one thing
 abbrev pub OneTold : Type 0
@@ -152,6 +154,7 @@ one_plain one work text condenses (refuses_source refusal) h so k also = absurd 
 one_plain one work text condenses closes h so k also = absurd k
 one_plain one work text condenses (tells query) h so k also = absurd k
 one_plain one work text condenses (files filed moment) h so k also = absurd k
+one_plain one work text condenses (seeks query lines) h so k also = absurd k
 one_plain one work text (opens head) other h so k also = absurd h
 one_plain one work text (refuses_head refusal) other h so k also = absurd h
 one_plain one work text (adds_source source) other h so k also = absurd h
@@ -159,6 +162,7 @@ one_plain one work text (refuses_source refusal) other h so k also = absurd h
 one_plain one work text closes other h so k also = absurd h
 one_plain one work text (tells query) other h so k also = absurd h
 one_plain one work text (files filed moment) other h so k also = absurd h
+one_plain one work text (seeks query lines) other h so k also = absurd h
 one_plain one work text (refuses reason) (opens head) h so k also = absurd k
 one_plain one work text (refuses reason) (refuses_head refusal) h so k also = absurd k
 one_plain one work text (refuses reason) (adds_source source) h so k also = absurd k
@@ -166,6 +170,7 @@ one_plain one work text (refuses reason) (refuses_source refusal) h so k also = 
 one_plain one work text (refuses reason) closes h so k also = absurd k
 one_plain one work text (refuses reason) (tells query) h so k also = absurd k
 one_plain one work text (refuses reason) (files filed moment) h so k also = absurd k
+one_plain one work text (refuses reason) (seeks query lines) h so k also = absurd k
 one_plain one work text (adds change) (opens head) h so k also = absurd k
 one_plain one work text (adds change) (refuses_head refusal) h so k also = absurd k
 one_plain one work text (adds change) (adds_source source) h so k also = absurd k
@@ -173,6 +178,7 @@ one_plain one work text (adds change) (refuses_source refusal) h so k also = abs
 one_plain one work text (adds change) closes h so k also = absurd k
 one_plain one work text (adds change) (tells query) h so k also = absurd k
 one_plain one work text (adds change) (files filed moment) h so k also = absurd k
+one_plain one work text (adds change) (seeks query lines) h so k also = absurd k
 one_plain one work text (evaluates own told stopped) (opens head) h so k also = absurd k
 one_plain one work text (evaluates own told stopped) (refuses_head refusal) h so k also = absurd k
 one_plain one work text (evaluates own told stopped) (adds_source source) h so k also = absurd k
@@ -180,6 +186,7 @@ one_plain one work text (evaluates own told stopped) (refuses_source refusal) h 
 one_plain one work text (evaluates own told stopped) closes h so k also = absurd k
 one_plain one work text (evaluates own told stopped) (tells query) h so k also = absurd k
 one_plain one work text (evaluates own told stopped) (files filed moment) h so k also = absurd k
+one_plain one work text (evaluates own told stopped) (seeks query lines) h so k also = absurd k
 
 -- ---- heads
 
@@ -226,6 +233,7 @@ one_opening text (opens head) (refuses_source other) h k = absurd k
 one_opening text (opens head) closes h k = absurd k
 one_opening text (opens head) (tells query) h k = absurd k
 one_opening text (opens head) (files filed moment) h k = absurd k
+one_opening text (opens head) (seeks query lines) h k = absurd k
 one_opening text (refuses_head refusal) (refuses other) h k = absurd k
 one_opening text (refuses_head refusal) (adds change) h k = absurd k
 one_opening text (refuses_head refusal) (evaluates own told stopped) h k = absurd k
@@ -235,6 +243,7 @@ one_opening text (refuses_head refusal) (refuses_source other) h k = absurd k
 one_opening text (refuses_head refusal) closes h k = absurd k
 one_opening text (refuses_head refusal) (tells query) h k = absurd k
 one_opening text (refuses_head refusal) (files filed moment) h k = absurd k
+one_opening text (refuses_head refusal) (seeks query lines) h k = absurd k
 one_opening text (refuses refusal) other h k = absurd h
 one_opening text (adds change) other h k = absurd h
 one_opening text (evaluates own told stopped) other h k = absurd h
@@ -244,6 +253,7 @@ one_opening text (refuses_source refusal) other h k = absurd h
 one_opening text closes other h k = absurd h
 one_opening text (tells query) other h k = absurd h
 one_opening text (files filed moment) other h k = absurd h
+one_opening text (seeks query lines) other h k = absurd h
 
 -- ---- methods
 
@@ -260,6 +270,7 @@ method_asks text (refuses_source refusal) h = absurd h
 method_asks text closes h = absurd h
 method_asks text (tells query) h = absurd h
 method_asks text (files filed moment) h = absurd h
+method_asks text (seeks query lines) h = absurd h
 
 one_source : (text : List ℕ) (one other : Ask) → AsksMethod text one → AsksMethod text other → one ≡ other
 one_source text one other h k =
@@ -290,6 +301,12 @@ one_query one work (queries.Source spec selector) ask other timed h so k also = 
 one_query one work (queries.Versions spec selector) ask other timed h so k also = k ∙ sym h
 one_query one work queries.Changes ask other timed h so k also = k ∙ sym h
 one_query one work (queries.FileOut filed) ask other timed h so k also = one_file one work filed ask other timed h so k also
+one_query one work (queries.Senders selector) ask other timed h so k also = one_asked_of IsSelectorWord selector work (queries.Senders selector) ask other h so k also
+one_query one work (queries.Implementors selector) ask other timed h so k also = one_asked_of IsSelectorWord selector work (queries.Implementors selector) ask other h so k also
+one_query one work (queries.References name) ask other timed h so k also = one_asked_of IsName name work (queries.References name) ask other h so k also
+one_query one work queries.Undeclared ask other timed h so k also = one_sought work queries.Undeclared ask other h so k also
+one_query one work queries.Unimplemented ask other timed h so k also = one_sought work queries.Unimplemented ask other h so k also
+one_query one work queries.Unsent ask other timed h so k also = one_sought work queries.Unsent ask other h so k also
 one_query one work queries.Snapshot ask other timed h so k also = k ∙ sym h
 one_query one work queries.Condense ask other timed h so k also = k ∙ sym h
 
@@ -318,6 +335,7 @@ settings_stay work (refuses_source refusal) = refl
 settings_stay work closes = refl
 settings_stay work (tells query) = refl
 settings_stay work (files filed moment) = refl
+settings_stay work (seeks query lines) = refl
 
 -- so do items one after another
 pub all_ask_once : OneTold → OneMoment → (work : Work) (items : List SessionItem) (asks others : List Ask) → All (IsTimed work.settings) items → AllAsk work items asks → AllAsk work items others → others ≡ asks

@@ -5,3 +5,4 @@ mod Naming
 pub mod Telling
 pub mod Categories
 pub mod Listed
+pub mod Sought

@@ -23,7 +23,7 @@ use Rattle.s80_dict.specs.Table.{MethodsValue, dict_at, methods_at}
 use Rattle.s80_apply.specs.State.{MethodRow, State}
 use Rattle.s80_apply.specs.Entries.{AreEntriesOf, Entry, state_row}
 use Rattle.s80_apply.specs.System.{HasNumber, IsSystemOf, SystemState}
-use Rattle.s80_model.specs.Texts.{browsed, class_text, category_lines, definition_of, is_own, methods_text, own_classes, own_methods, own_methods_in, own_methods_of, recovered_text, string_line}
+use Rattle.s80_model.specs.Texts.{browsed, class_text, category_lines, definition_of, is_own, methods_text, own_classes, own_methods, own_methods_in, own_methods_of, names_text, recovered_text, string_line}
 
 take_of_length : {A : Type 0} (xs : List A) → take (length xs) xs ≡ xs
 take_of_length [] = refl
@@ -133,21 +133,18 @@ number_within system number name methods methods_is has =
 
 -- ---- the lines
 
-abbrev pub lines : List Name → List ℕ
-lines names = flat_map (λ name. name ++ 10 ∷ []) names
-
 line_more : (names : List Name) (i : ℕ) (name : Name) → slice_get names i ≡ Some name
-    → (lines (take i names) ++ name) ++ 10 ∷ [] ≡ lines (take (i + 1) names)
+    → (names_text (take i names) ++ name) ++ 10 ∷ [] ≡ names_text (take (i + 1) names)
 line_more names i name e =
-    append_assoc (lines (take i names)) name (10 ∷ [])
-    ∙ ap (λ l. lines (take i names) ++ l) (sym (append-nil (name ++ 10 ∷ [])))
+    append_assoc (names_text (take i names)) name (10 ∷ [])
+    ∙ ap (λ l. names_text (take i names) ++ l) (sym (append-nil (name ++ 10 ∷ [])))
     ∙ sym (flat_map-append (λ n. n ++ 10 ∷ []) (take i names) (name ∷ []))
-    ∙ ap lines (sym (take_more names i [] (slice_get_within names i name e) ∙ ap (λ n. take i names ++ n ∷ []) (get_or_from_slice_get names i name [] e)))
+    ∙ ap names_text (sym (take_more names i [] (slice_get_within names i name e) ∙ ap (λ n. take i names ++ n ∷ []) (get_or_from_slice_get names i name [] e)))
 
-pub next_line : (names : List Name) (i : ℕ) (name text bytes t u : List ℕ) → text ≡ lines (take i names) → slice_get names i ≡ Some name → bytes ≡ name
-    → t ≡ text ++ bytes → u ≡ t ++ 10 ∷ [] → u ≡ lines (take (i + 1) names)
+pub next_line : (names : List Name) (i : ℕ) (name text bytes t u : List ℕ) → text ≡ names_text (take i names) → slice_get names i ≡ Some name → bytes ≡ name
+    → t ≡ text ++ bytes → u ≡ t ++ 10 ∷ [] → u ≡ names_text (take (i + 1) names)
 next_line names i name text bytes t u text_is at bytes_is t_is u_is =
-    u_is ∙ ap (λ l. l ++ 10 ∷ []) (t_is ∙ ap (λ l. l ++ bytes) text_is ∙ ap (λ l. lines (take i names) ++ l) bytes_is) ∙ line_more names i name at
+    u_is ∙ ap (λ l. l ++ 10 ∷ []) (t_is ∙ ap (λ l. l ++ bytes) text_is ∙ ap (λ l. names_text (take i names) ++ l) bytes_is) ∙ line_more names i name at
 
 -- ---- the browsed
 

@@ -10,6 +10,7 @@ use Rattle.s80_change.specs.declared.change.Change.{Change}
 use Rattle.s80_change.specs.declared.change.Change.TheVariants.{Form, Method, DoIt}
 use Rattle.s80_change.specs.Source.{SourceParts}
 use Rattle.s80_form.specs.Form.{IsCondensingText, IsEvaluatedText, IsFormText, IsSnapshotText}
+use Rattle.s80_form.specs.Name.{IsName, IsSelectorWord}
 use Rattle.s80_form.specs.declared.refusal.FitWord.TheVariants as fits
 use Rattle.s80_form.specs.declared.refusal.Refusal.{Refusal}
 use Rattle.s80_form.specs.declared.refusal.Refusal.TheVariants as refusals
@@ -46,6 +47,8 @@ pub data Ask : Type 0 where
   tells : SessionQuery → Ask
   -- a file of changes is told, with this moment in its first line
   files : Filed → List ℕ → Ask
+  -- methods or names are sought, and these lines tell what is found
+  seeks : SessionQuery → List ℕ → Ask
 
 -- ---- plain texts
 
@@ -98,7 +101,11 @@ ask_of_too_long roles.Plain n = refuses (refusals.TooLarge fits.Chunk n)
 ask_of_too_long roles.Head n = refuses_head (refusals.TooLarge fits.Chunk n)
 ask_of_too_long roles.Method n = refuses_source (refusals.TooLarge fits.Chunk n)
 
--- what a query asks: a snapshot adds its note, a file has a moment, one condenses, and the others are told something
+-- with such a word this is sought, and with another it is refused
+abbrev pub AsksOf : (List ℕ → Type 0) → List ℕ → SessionQuery → Ask → Type 0
+AsksOf Suits word query ask = (Suits word × ((lines : List ℕ) × (ask ≡ seeks query lines))) ⊎ ((Suits word → ⊥) × (ask ≡ refuses (refusals.BadName word)))
+
+-- what a query asks: a snapshot adds its note, a file has a moment, one condenses, some seek methods or names, and the others are told something
 abbrev pub AsksQuery : SessionQuery → Ask → Type 0
 AsksQuery queries.Recover ask = ask ≡ tells queries.Recover
 AsksQuery queries.Classes ask = ask ≡ tells queries.Classes
@@ -107,6 +114,12 @@ AsksQuery (queries.Source spec selector) ask = ask ≡ tells (queries.Source spe
 AsksQuery (queries.Versions spec selector) ask = ask ≡ tells (queries.Versions spec selector)
 AsksQuery queries.Changes ask = ask ≡ tells queries.Changes
 AsksQuery (queries.FileOut filed) ask = (moment : List ℕ) × (ask ≡ files filed moment)
+AsksQuery (queries.Senders selector) ask = AsksOf IsSelectorWord selector (queries.Senders selector) ask
+AsksQuery (queries.Implementors selector) ask = AsksOf IsSelectorWord selector (queries.Implementors selector) ask
+AsksQuery (queries.References name) ask = AsksOf IsName name (queries.References name) ask
+AsksQuery queries.Undeclared ask = (lines : List ℕ) × (ask ≡ seeks queries.Undeclared lines)
+AsksQuery queries.Unimplemented ask = (lines : List ℕ) × (ask ≡ seeks queries.Unimplemented lines)
+AsksQuery queries.Unsent ask = (lines : List ℕ) × (ask ≡ seeks queries.Unsent lines)
 AsksQuery queries.Snapshot ask = ask ≡ adds (DoIt snapshot_note)
 AsksQuery queries.Condense ask = ask ≡ condenses
 

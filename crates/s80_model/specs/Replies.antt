@@ -18,10 +18,11 @@ use Rattle.s80_model.specs.declared.section.Section.{Section}
 use Rattle.s80_model.specs.declared.section.Section.TheVariants as sections
 use Rattle.s80_model.specs.Section.{section_or}
 use Rattle.s80_model.specs.Settings.{IsNow, Settings}
+use Rattle.s80_model.specs.Sought.{IsFound}
 use Rattle.s80_model.specs.Told.{file_reply, told}
 use Rattle.s80_model.specs.declared.item.SessionItem.{SessionItem}
 use Rattle.s80_doit.specs.Answer.{EvaluatesTo}
-use Rattle.s80_model.specs.Asked.{Ask, Asks, refuses, adds, evaluates, condenses, opens, refuses_head, adds_source, refuses_source, closes, tells, files}
+use Rattle.s80_model.specs.Asked.{Ask, Asks, refuses, adds, evaluates, condenses, opens, refuses_head, adds_source, refuses_source, closes, tells, files, seeks}
 
 -- the list of changes, the section in which the next item stands, and the settings
 pub record Work : Type 0 where
@@ -112,6 +113,7 @@ reply_to work (refuses_source refusal) = reply_in_section work.section refusal
 reply_to work closes = Silent
 reply_to work (tells query) = told work.changes query
 reply_to work (files filed moment) = file_reply work.changes moment filed
+reply_to work (seeks query lines) = Told lines
 
 -- the work that goes on afterwards
 abbrev pub work_after : Work → Ask → Work
@@ -126,11 +128,13 @@ work_after work (refuses_source refusal) = work
 work_after work closes = record work { section = sections.Top }
 work_after work (tells query) = work
 work_after work (files filed moment) = work
+work_after work (seeks query lines) = work
 
--- what is asked is so in this work: a doIt is told what it comes to, and a file has the moment of the clock
+-- what is asked is so in this work: a doIt is told what it comes to, a file has the moment of the clock, and what is sought is found
 abbrev pub IsSo : Work → Ask → Type 0
 IsSo work (evaluates text told stopped) = IsEvaluated (add work.changes (changes.DoIt text)) text work.settings told stopped
 IsSo work (files filed moment) = IsNow work.settings.moment moment
+IsSo work (seeks query lines) = IsFound (state_of work.changes) query lines
 IsSo work _ = Unit {0}
 
 -- what an item asks in this work, and what items ask, one by one

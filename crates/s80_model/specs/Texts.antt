@@ -46,9 +46,13 @@ recovered_text count state =
     (codes "recovered " ++ decimal count) ++ ((codes " changes, " ++ decimal (own_classes state.classes))
     ++ ((codes " classes, " ++ decimal (own_methods state)) ++ (codes " methods" ++ 10 ∷ [])))
 
--- the names of all classes in byte order, each in its line
+-- names, each in its line
+abbrev pub names_text : List Name → List ℕ
+names_text names = flat_map (λ name. name ++ 10 ∷ []) names
+
+-- the names of all classes in byte order
 abbrev pub classes_text : Classes → List ℕ
-classes_text classes = flat_map (λ name. name ++ 10 ∷ []) (map.keys classes)
+classes_text classes = names_text (map.keys classes)
 
 -- a class as its definition; a class without a superclass shows nil
 abbrev pub definition_of : Name → ClassRow → Definition

@@ -17,7 +17,7 @@ use Rattle.s80_model.specs.Texts.{recovered_text, classes_text, browsed, changes
 use Rattle.s80_model.specs.declared.item.Filed.{Filed}
 use Rattle.s80_model.specs.declared.item.Filed.TheVariants.{All, Class as OneClass, Set}
 use Rattle.s80_model.specs.declared.item.Query.{Query}
-use Rattle.s80_model.specs.declared.item.Query.TheVariants.{Recover, Classes as AllClasses, Browse, Source, Versions, Changes, FileOut, Snapshot, Condense}
+use Rattle.s80_model.specs.declared.item.Query.TheVariants.{Recover, Classes as AllClasses, Browse, Source, Versions, Changes, FileOut, Senders, Implementors, References, Undeclared, Unimplemented, Unsent, Snapshot, Condense}
 use Rattle.s80_model.specs.declared.reply.Reply.{Reply}
 use Rattle.s80_model.specs.declared.reply.Reply.TheVariants.{Refused, Silent, Told}
 
@@ -94,7 +94,7 @@ file_reply changes moment Set = file_told moment (list_map (λ p. p.1) (set_of c
 
 -- ---- queries
 
--- what a query is told of a list; a snapshot, a file and condensing ask otherwise
+-- what a query is told of a list; a file, what is sought, a snapshot and condensing ask otherwise
 abbrev pub told : List Change → Query → Reply
 told changes Recover = Told (recovered_text (length changes) (state_of changes))
 told changes AllClasses = Told (classes_text (state_of changes).classes)
@@ -103,5 +103,11 @@ told changes (Source spec selector) = source_reply (state_of changes) spec selec
 told changes (Versions spec selector) = versions_reply changes spec selector (side_named spec)
 told changes Changes = Told (changes_text (list_map (λ p. p.1) (set_of changes)))
 told changes (FileOut filed) = Silent
+told changes (Senders selector) = Silent
+told changes (Implementors selector) = Silent
+told changes (References name) = Silent
+told changes Undeclared = Silent
+told changes Unimplemented = Silent
+told changes Unsent = Silent
 told changes Snapshot = Silent
 told changes Condense = Silent

@@ -78,7 +78,7 @@ fn add_class_line(text: &mut Text, word: &[u8], class_name: &Text) -> Result<(),
 }
 
 /// Adds a word and a method by its class, its side and its selector.
-fn add_method_line(
+pub(crate) fn add_method_line(
     text: &mut Text,
     word: &[u8],
     class_name: &Text,

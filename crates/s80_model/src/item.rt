@@ -30,6 +30,18 @@ pub enum Query {
     Changes,
     /// A file of changes, with the moment in its first line.
     FileOut(Filed),
+    /// The methods that send this selector.
+    Senders(Text),
+    /// The methods of this selector.
+    Implementors(Text),
+    /// The methods that read or assign this outer name.
+    References(Text),
+    /// The outer names to which methods refer, and which nothing has.
+    Undeclared,
+    /// The selectors that methods send, and of which there is no method.
+    Unimplemented,
+    /// The selectors of methods that no method sends.
+    Unsent,
     /// Not a question: a snapshot is asked for, and its note is kept.
     Snapshot,
     /// Nor is this: the condensed list takes the place of the list. It makes the same classes and methods.

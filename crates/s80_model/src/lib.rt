@@ -8,6 +8,7 @@ mod laws;
 mod reply;
 mod section;
 mod side;
+mod sought;
 mod told;
 
 pub use browse::browse_text;
@@ -17,4 +18,5 @@ pub use laws::one_ask;
 pub use reply::{Answer, Reply};
 pub use section::{Section, head_answer, method_of, too_long_answer};
 pub use side::side_named;
+pub use sought::{names_text, places_text};
 pub use told::{classes_text, recovered_text};

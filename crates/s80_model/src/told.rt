@@ -8,6 +8,7 @@ ghost use Rattle.s80_apply.specs.Entries.{AreEntriesOf, state_row};
 ghost use Rattle.s80_apply.specs.System.{IsSystemOf};
 ghost use Rattle.s80_model.specs.Texts.{classes_text, own_classes, is_own, own_methods, own_methods_in, recovered_text};
 
+use crate::sought::names_text;
 use s80_apply::{System, is_kernel_method};
 use s80_base::{OutOfMemory, Side, Text};
 use s80_class::ClassTable;
@@ -107,10 +108,5 @@ pub fn classes_text(alloc: Global, classes: &ClassTable) -> Result<Text, OutOfMe
     ensures { IfOk result (λ text. text ≡ classes_text classes.now.classes) }
 {
     let names = classes.names_sorted(alloc)?;
-    let mut text = Text::empty(alloc);
-    for i in 0..names.count() {
-        text.append(names.at(i).bytes())?;
-        text.append(b"\n")?;
-    }
-    Ok(text)
+    names_text(alloc, &names)
 }

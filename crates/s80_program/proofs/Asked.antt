@@ -6,7 +6,7 @@ use Rattle.s80_line.specs.declared.line.Line.{Line}
 use Rattle.s80_line.specs.Line.{IsLine, LineParts}
 use Rattle.s80_line.specs.Shown.{shown}
 use Rattle.s80_model.specs.declared.item.Filed.TheVariants.{All, Class, Set}
-use Rattle.s80_model.specs.declared.item.Query.TheVariants.{Recover, Classes, Browse, Source, Versions, Changes, Condense, FileOut, Snapshot}
+use Rattle.s80_model.specs.declared.item.Query.TheVariants.{Recover, Classes, Browse, Source, Versions, Changes, Condense, FileOut, Senders, Implementors, References, Undeclared, Unimplemented, Unsent, Snapshot}
 use Rattle.s80_program.specs.Command.{Command, Options, Run, Do, Tell, Make, command_word, arguments_of}
 use Rattle.s80_program.specs.Words.{AreOf, Asks, options_of}
 
@@ -19,11 +19,17 @@ command_from word [] =
     else (if bytes_eq word (codes "changes") then Some (Tell Changes)
     else (if bytes_eq word (codes "file-out") then Some (Tell (FileOut All))
     else (if bytes_eq word (codes "file-out-set") then Some (Tell (FileOut Set))
-    else (if bytes_eq word (codes "condense") then Some (Tell Condense) else Some (Tell Snapshot)))))))
+    else (if bytes_eq word (codes "undeclared") then Some (Tell Undeclared)
+    else (if bytes_eq word (codes "unimplemented") then Some (Tell Unimplemented)
+    else (if bytes_eq word (codes "unsent") then Some (Tell Unsent)
+    else (if bytes_eq word (codes "condense") then Some (Tell Condense) else Some (Tell Snapshot))))))))))
 command_from word (name ∷ []) =
     if bytes_eq word (codes "do") then Some (Do name)
     else (if bytes_eq word (codes "file-out-class") then Some (Tell (FileOut (Class name)))
-    else (if bytes_eq word (codes "make") then Some (Make name) else Some (Tell (Browse name))))
+    else (if bytes_eq word (codes "senders") then Some (Tell (Senders name))
+    else (if bytes_eq word (codes "implementors") then Some (Tell (Implementors name))
+    else (if bytes_eq word (codes "references") then Some (Tell (References name))
+    else (if bytes_eq word (codes "make") then Some (Make name) else Some (Tell (Browse name)))))))
 command_from word (spec ∷ selector ∷ rest) = if bytes_eq word (codes "source") then Some (Tell (Source spec selector)) else Some (Tell (Versions spec selector))
 
 from_words : (command : Command) → command_from (command_word command) (arguments_of command) ≡ Some command
@@ -38,6 +44,12 @@ from_words (Tell Changes) = refl
 from_words (Tell (FileOut All)) = refl
 from_words (Tell (FileOut (Class name))) = refl
 from_words (Tell (FileOut Set)) = refl
+from_words (Tell (Senders selector)) = refl
+from_words (Tell (Implementors selector)) = refl
+from_words (Tell (References name)) = refl
+from_words (Tell Undeclared) = refl
+from_words (Tell Unimplemented) = refl
+from_words (Tell Unsent) = refl
 from_words (Tell Snapshot) = refl
 from_words (Tell Condense) = refl
 from_words (Make count) = refl

@@ -8,7 +8,7 @@ use Rattle.s80_line.specs.Line.{is_number, number_of}
 use Rattle.s80_model.specs.Asked.{IsTimed}
 use Rattle.s80_model.specs.declared.item.Filed.TheVariants.{All, Class, Set}
 use Rattle.s80_model.specs.declared.item.Query.{Query as SessionQuery}
-use Rattle.s80_model.specs.declared.item.Query.TheVariants.{Recover, Classes, Browse, Source, Versions, Changes, Condense, FileOut, Snapshot}
+use Rattle.s80_model.specs.declared.item.Query.TheVariants.{Recover, Classes, Browse, Source, Versions, Changes, Condense, FileOut, Senders, Implementors, References, Undeclared, Unimplemented, Unsent, Snapshot}
 use Rattle.s80_model.specs.declared.item.SessionItem.{SessionItem}
 use Rattle.s80_model.specs.declared.item.SessionItem.TheVariants.{Chunk, Query}
 use Rattle.s80_model.specs.Settings.{Settings}
@@ -34,6 +34,12 @@ command_word (Tell Changes) = codes "changes"
 command_word (Tell (FileOut All)) = codes "file-out"
 command_word (Tell (FileOut (Class name))) = codes "file-out-class"
 command_word (Tell (FileOut Set)) = codes "file-out-set"
+command_word (Tell (Senders selector)) = codes "senders"
+command_word (Tell (Implementors selector)) = codes "implementors"
+command_word (Tell (References name)) = codes "references"
+command_word (Tell Undeclared) = codes "undeclared"
+command_word (Tell Unimplemented) = codes "unimplemented"
+command_word (Tell Unsent) = codes "unsent"
 command_word (Tell Snapshot) = codes "snapshot"
 command_word (Tell Condense) = codes "condense"
 command_word (Make count) = codes "make"
@@ -50,6 +56,12 @@ arguments_of (Tell Changes) = []
 arguments_of (Tell (FileOut All)) = []
 arguments_of (Tell (FileOut (Class name))) = name ∷ []
 arguments_of (Tell (FileOut Set)) = []
+arguments_of (Tell (Senders selector)) = selector ∷ []
+arguments_of (Tell (Implementors selector)) = selector ∷ []
+arguments_of (Tell (References name)) = name ∷ []
+arguments_of (Tell Undeclared) = []
+arguments_of (Tell Unimplemented) = []
+arguments_of (Tell Unsent) = []
 arguments_of (Tell Snapshot) = []
 arguments_of (Tell Condense) = []
 arguments_of (Make count) = count ∷ []

@@ -230,6 +230,12 @@ fn job_of(alloc: Global, task: Task<'_>) -> Result<Job, OutOfMemory>
         Task::FileOut => Query::FileOut(Filed::All),
         Task::FileOutClass(name) => Query::FileOut(Filed::Class(name.copy(alloc)?)),
         Task::FileOutSet => Query::FileOut(Filed::Set),
+        Task::Senders(selector) => Query::Senders(selector.copy(alloc)?),
+        Task::Implementors(selector) => Query::Implementors(selector.copy(alloc)?),
+        Task::References(name) => Query::References(name.copy(alloc)?),
+        Task::Undeclared => Query::Undeclared,
+        Task::Unimplemented => Query::Unimplemented,
+        Task::Unsent => Query::Unsent,
         Task::Snapshot => Query::Snapshot,
         Task::Condense => Query::Condense,
     };

@@ -33,6 +33,18 @@ pub(crate) enum Task<'w> {
     FileOutClass(&'w Text),
     /// Files out the change set.
     FileOutSet,
+    /// Names the methods that send this selector.
+    Senders(&'w Text),
+    /// Names the methods of this selector.
+    Implementors(&'w Text),
+    /// Names the methods that refer to this outer name.
+    References(&'w Text),
+    /// Lists the outer names that nothing has.
+    Undeclared,
+    /// Lists the selectors that are sent and have no method.
+    Unimplemented,
+    /// Lists the selectors of methods that are never sent.
+    Unsent,
     /// Keeps the note of a snapshot.
     Snapshot,
     /// Has the condensed list take the place of the list.
@@ -65,6 +77,15 @@ fn task_alone(word: &Text) -> Option<Task<'static>>
     if bytes == b"file-out-set".as_slice() {
         return Some(Task::FileOutSet);
     }
+    if bytes == b"undeclared".as_slice() {
+        return Some(Task::Undeclared);
+    }
+    if bytes == b"unimplemented".as_slice() {
+        return Some(Task::Unimplemented);
+    }
+    if bytes == b"unsent".as_slice() {
+        return Some(Task::Unsent);
+    }
     if bytes == b"snapshot".as_slice() {
         return Some(Task::Snapshot);
     }
@@ -84,6 +105,15 @@ fn task_on<'w>(word: &Text, name: &'w Text) -> Option<Task<'w>>
     }
     if word.bytes() == b"file-out-class".as_slice() {
         return Some(Task::FileOutClass(name));
+    }
+    if word.bytes() == b"senders".as_slice() {
+        return Some(Task::Senders(name));
+    }
+    if word.bytes() == b"implementors".as_slice() {
+        return Some(Task::Implementors(name));
+    }
+    if word.bytes() == b"references".as_slice() {
+        return Some(Task::References(name));
     }
     if word.bytes() == b"do".as_slice() && !behind_separators(name).is_empty() {
         return Some(Task::Do(name));

@@ -67,6 +67,12 @@ done_on {T} {U} item a m b value other same h =
     by_item (Query (queries.FileOut contents.All)) h = record { later = h.later; reason = h.reason }
     by_item (Query (queries.FileOut (contents.Class name))) h = record { later = h.later; reason = h.reason }
     by_item (Query (queries.FileOut contents.Set)) h = record { later = h.later; reason = h.reason }
+    by_item (Query (queries.Senders selector)) h = record { later = h.later; reason = h.reason }
+    by_item (Query (queries.Implementors selector)) h = record { later = h.later; reason = h.reason }
+    by_item (Query (queries.References name)) h = record { later = h.later; reason = h.reason }
+    by_item (Query queries.Undeclared) h = record { later = h.later; reason = h.reason }
+    by_item (Query queries.Unimplemented) h = record { later = h.later; reason = h.reason }
+    by_item (Query queries.Unsent) h = record { later = h.later; reason = h.reason }
     by_item (Query queries.Snapshot) h = record { later = h.later; reason = h.reason }
     by_item (Query queries.Condense) h = record { later = h.later; reason = h.reason }
 
@@ -102,6 +108,12 @@ broke_on T U item a m b end same h =
     by_item (Query (queries.FileOut contents.All)) h = record { later = h.later; reason = h.reason }
     by_item (Query (queries.FileOut (contents.Class name))) h = record { later = h.later; reason = h.reason }
     by_item (Query (queries.FileOut contents.Set)) h = source_broke T U m b end h
+    by_item (Query (queries.Senders selector)) h = record { later = h.later; reason = h.reason }
+    by_item (Query (queries.Implementors selector)) h = record { later = h.later; reason = h.reason }
+    by_item (Query (queries.References name)) h = record { later = h.later; reason = h.reason }
+    by_item (Query queries.Undeclared) h = record { later = h.later; reason = h.reason }
+    by_item (Query queries.Unimplemented) h = record { later = h.later; reason = h.reason }
+    by_item (Query queries.Unsent) h = record { later = h.later; reason = h.reason }
     by_item (Query queries.Snapshot) h = record { later = h.later; reason = h.reason }
     by_item (Query queries.Condense) h = source_broke T U m b end h
 
@@ -164,6 +176,12 @@ counts_memory T (Query queries.Changes) a b h = h.reason
 counts_memory T (Query (queries.FileOut contents.All)) a b h = h.reason
 counts_memory T (Query (queries.FileOut (contents.Class name))) a b h = h.reason
 counts_memory T (Query (queries.FileOut contents.Set)) a b h = h.reason
+counts_memory T (Query (queries.Senders selector)) a b h = h.reason
+counts_memory T (Query (queries.Implementors selector)) a b h = h.reason
+counts_memory T (Query (queries.References name)) a b h = h.reason
+counts_memory T (Query queries.Undeclared) a b h = h.reason
+counts_memory T (Query queries.Unimplemented) a b h = h.reason
+counts_memory T (Query queries.Unsent) a b h = h.reason
 counts_memory T (Query queries.Snapshot) a b h = h.reason
 counts_memory T (Query queries.Condense) a b h = h.reason
 

@@ -1,5 +1,5 @@
 -- The section behind what an item asks is brief.
-use Rattle.std.proofs.Common.{◌≡◌, ℕ, Option, Some, None}
+use Rattle.std.proofs.Common.{◌≡◌, inl, inr, ℕ, Option, Some, None}
 use Rattle.s80_chunk.specs.declared.item.Item.TheVariants as items
 use Rattle.s80_chunk.specs.declared.item.Role.{Role}
 use Rattle.s80_chunk.specs.declared.item.Role.TheVariants as roles
@@ -10,7 +10,7 @@ use Rattle.s80_model.specs.declared.item.Query.{Query as SessionQuery}
 use Rattle.s80_model.specs.declared.item.Query.TheVariants as queries
 use Rattle.s80_model.specs.declared.item.SessionItem.{SessionItem}
 use Rattle.s80_model.specs.declared.item.SessionItem.TheVariants.{Chunk, Unended, Query}
-use Rattle.s80_model.specs.Asked.{Ask, Asks, refuses, adds, evaluates, condenses, opens, refuses_head, adds_source, refuses_source, closes, tells, files, ask_of_too_long, AsksQuery}
+use Rattle.s80_model.specs.Asked.{Ask, Asks, refuses, adds, evaluates, condenses, opens, refuses_head, adds_source, refuses_source, closes, tells, files, seeks, ask_of_too_long, AsksQuery}
 use Rattle.s80_model.specs.Replies.{Work, refusal_of_head, section_of, work_after}
 use Rattle.s80_model.specs.Section.{IsBriefSection}
 
@@ -27,6 +27,15 @@ no_question (queries.Source spec selector) head e = cc
 no_question (queries.Versions spec selector) head e = cc
 no_question queries.Changes head e = cc
 no_question (queries.FileOut filed) head (moment, e) = cc
+no_question (queries.Senders selector) head (inl (suits, (lines, e))) = cc
+no_question (queries.Senders selector) head (inr (fails, e)) = cc
+no_question (queries.Implementors selector) head (inl (suits, (lines, e))) = cc
+no_question (queries.Implementors selector) head (inr (fails, e)) = cc
+no_question (queries.References name) head (inl (suits, (lines, e))) = cc
+no_question (queries.References name) head (inr (fails, e)) = cc
+no_question queries.Undeclared head (lines, e) = cc
+no_question queries.Unimplemented head (lines, e) = cc
+no_question queries.Unsent head (lines, e) = cc
 no_question queries.Snapshot head e = cc
 no_question queries.Condense head e = cc
 
@@ -56,3 +65,4 @@ brief_after work item (adds_source source) asks brief = brief
 brief_after work item (refuses_source refusal) asks brief = brief
 brief_after work item (tells query) asks brief = brief
 brief_after work item (files filed moment) asks brief = brief
+brief_after work item (seeks query lines) asks brief = brief

@@ -54,6 +54,12 @@ module _ (laws : FileLaws) (work : Work) (built : IsBuilt work.changes) (list : 
   files_in (Query (queries.Browse name)) ask asks = tt
   files_in (Query (queries.Versions spec selector)) ask asks = tt
   files_in (Query queries.Changes) ask asks = tt
+  files_in (Query (queries.Senders selector)) ask asks = tt
+  files_in (Query (queries.Implementors selector)) ask asks = tt
+  files_in (Query (queries.References name)) ask asks = tt
+  files_in (Query queries.Undeclared) ask asks = tt
+  files_in (Query queries.Unimplemented) ask asks = tt
+  files_in (Query queries.Unsent) ask asks = tt
   files_in (Query queries.Snapshot) ask asks = tt
   files_in (Query queries.Condense) ask asks = tt
   files_in (Chunk item) ask asks = tt

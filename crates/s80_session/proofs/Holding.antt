@@ -23,7 +23,7 @@ use Rattle.s80_model.specs.declared.reply.Reply.TheVariants.{Silent, Accepted, R
 use Rattle.s80_model.specs.declared.section.Section.{Section}
 use Rattle.s80_model.specs.declared.section.Section.TheVariants as sections
 use Rattle.s80_machine.specs.Came.{RanValue}
-use Rattle.s80_model.specs.Asked.{Ask, refuses, adds, evaluates, condenses, opens, refuses_head, adds_source, refuses_source, closes, tells, files, ask_of_too_long}
+use Rattle.s80_model.specs.Asked.{Ask, refuses, adds, evaluates, condenses, opens, refuses_head, adds_source, refuses_source, closes, tells, files, seeks, ask_of_too_long}
 use Rattle.s80_model.specs.Replies.{IsAnswer, Work, AsksIn, condensed, list_or, list_after_source, method_in, reply_to, reply_in_section, reply_to_adding, reply_to_evaluating, reply_to_source, reply_text, is_trouble, work_after}
 use Rattle.s80_model.specs.Section.{section_or}
 use Rattle.s80_session.specs.declared.end.SessionEnd.{SessionEnd}
@@ -133,6 +133,7 @@ refused_stays work (refuses_source other) refusal e = refl
 refused_stays work closes refusal e = refl
 refused_stays work (tells query) refusal e = refl
 refused_stays work (files filed moment) refusal e = refl
+refused_stays work (seeks query lines) refusal e = refl
 
 -- so does what is told
 told_stays : (work : Work) (ask : Ask) (text : List ℕ) → reply_to work ask ≡ Told text → staying work ask ≡ work
@@ -147,6 +148,7 @@ told_stays work (refuses_source other) text e = refl
 told_stays work closes text e = refl
 told_stays work (tells query) text e = refl
 told_stays work (files filed moment) text e = refl
+told_stays work (seeks query lines) text e = refl
 
 -- a reply for which there is room, and which isn't held, is a refusal, or what is told
 unheld_stays : (work : Work) (ask : Ask) (reply : Reply) (room : ℕ) → reply ≡ reply_to work ask → HasRoom reply room → LacksRoom reply room → staying work ask ≡ work
@@ -217,6 +219,12 @@ counts_then (Query queries.Changes) a m b value r behind h = (behind h.reason).1
 counts_then (Query (queries.FileOut contents.All)) a m b value r behind h = (behind h.reason).0
 counts_then (Query (queries.FileOut (contents.Class name))) a m b value r behind h = (behind h.reason).0
 counts_then (Query (queries.FileOut contents.Set)) a m b value r behind h = (behind h.reason).1
+counts_then (Query (queries.Senders selector)) a m b value r behind h = (behind h.reason).0
+counts_then (Query (queries.Implementors selector)) a m b value r behind h = (behind h.reason).0
+counts_then (Query (queries.References name)) a m b value r behind h = (behind h.reason).0
+counts_then (Query queries.Undeclared) a m b value r behind h = (behind h.reason).0
+counts_then (Query queries.Unimplemented) a m b value r behind h = (behind h.reason).0
+counts_then (Query queries.Unsent) a m b value r behind h = (behind h.reason).0
 counts_then (Query queries.Snapshot) a m b value r behind h = (behind h.reason).0
 counts_then (Query queries.Condense) a m b value r behind h = (behind h.reason).1
 
@@ -247,6 +255,12 @@ any_counts (Query queries.Changes) a b r h = source_counts a b r h
 any_counts (Query (queries.FileOut contents.All)) a b r h = h
 any_counts (Query (queries.FileOut (contents.Class name))) a b r h = h
 any_counts (Query (queries.FileOut contents.Set)) a b r h = source_counts a b r h
+any_counts (Query (queries.Senders selector)) a b r h = h
+any_counts (Query (queries.Implementors selector)) a b r h = h
+any_counts (Query (queries.References name)) a b r h = h
+any_counts (Query queries.Undeclared) a b r h = h
+any_counts (Query queries.Unimplemented) a b r h = h
+any_counts (Query queries.Unsent) a b r h = h
 any_counts (Query queries.Snapshot) a b r h = h
 any_counts (Query queries.Condense) a b r h = source_counts a b r h
 

@@ -37,7 +37,7 @@ use Rattle.s80_model.specs.declared.reply.Answer.{Answer}
 use Rattle.s80_model.specs.declared.reply.Reply.{Reply}
 use Rattle.s80_model.specs.declared.section.Section.{Section}
 use Rattle.s80_model.specs.declared.section.Section.TheVariants as sections
-use Rattle.s80_model.specs.Asked.{Ask, refuses, adds, evaluates, condenses, opens, refuses_head, adds_source, refuses_source, closes, tells, files, ask_of_too_long, Asks}
+use Rattle.s80_model.specs.Asked.{Ask, refuses, adds, evaluates, condenses, opens, refuses_head, adds_source, refuses_source, closes, tells, files, seeks, ask_of_too_long, Asks}
 use Rattle.s80_model.specs.Replies.{AllAsk, AsksIn, IsAnswer, Work, any_trouble, condensed, is_trouble, kept, list_after_all, method_in, refusal_of_head, reply_in_section, reply_to, reply_to_adding, reply_to_evaluating, reply_to_head, reply_to_source, work_after, work_after_all}
 use Rattle.s80_model.specs.Section.{section_or}
 use Rattle.s80_model.specs.Settings.{Settings}
@@ -70,6 +70,7 @@ AnswersAlike = (system : SystemState) (state : State) (text : List ℕ) (budget 
 abbrev IsUntold : Ask → Type 0
 IsUntold (tells query) = ⊥
 IsUntold (files filed moment) = ⊥
+IsUntold (seeks query lines) = ⊥
 IsUntold (refuses refusal) = Unit {0}
 IsUntold (adds change) = Unit {0}
 IsUntold (evaluates text told stopped) = Unit {0}
@@ -99,9 +100,17 @@ files_not (items.Method text) filed moment h = h
 files_not items.SectionEnd filed moment h = subst IsUntold (sym h) tt
 files_not (items.TooLong role n) filed moment h = subst IsUntold (sym h) (long_untold role n)
 
+seeks_not : (item : Item) (query : SessionQuery) (lines : List ℕ) → Asks (Chunk item) (seeks query lines) → ⊥
+seeks_not (items.Plain text) query lines h = h
+seeks_not (items.Head text) query lines h = h
+seeks_not (items.Method text) query lines h = h
+seeks_not items.SectionEnd query lines h = subst IsUntold (sym h) tt
+seeks_not (items.TooLong role n) query lines h = subst IsUntold (sym h) (long_untold role n)
+
 chunk_untold : (item : Item) (ask : Ask) → Asks (Chunk item) ask → IsUntold ask
 chunk_untold item (tells query) h = tells_not item query h
 chunk_untold item (files filed moment) h = files_not item filed moment h
+chunk_untold item (seeks query lines) h = seeks_not item query lines h
 chunk_untold item (refuses refusal) h = tt
 chunk_untold item (adds change) h = tt
 chunk_untold item (evaluates text told stopped) h = tt
@@ -153,6 +162,7 @@ by_ask alike work (refuses_source refusal) past run before now untold behind cou
 by_ask alike work closes past run before now untold behind counted = counted
 by_ask alike work (tells query) past run before now untold behind counted = absurd untold
 by_ask alike work (files filed moment) past run before now untold behind counted = absurd untold
+by_ask alike work (seeks query lines) past run before now untold behind counted = absurd untold
 
 -- what a chunk asks counts by its reply, and by the run that came last
 chunk_counted : AnswersAlike → (work : Work) (item : Item) (ask : Ask) (reply : Reply) (past run : Option RanValue) (before now : Tally) → Asks (Chunk item) ask → reply ≡ reply_to work ask → RunBehind work ask past run → now ≡ with_reply reply (small_in run) before → Counts work ask before now

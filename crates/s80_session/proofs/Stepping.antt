@@ -8,6 +8,7 @@ use Rattle.s80_chunk.specs.declared.item.Item.TheVariants as items
 use Rattle.s80_change.specs.declared.change.Change.{Change}
 use Rattle.s80_change.specs.Source.{SourceParts}
 use Rattle.s80_form.specs.declared.refusal.Refusal.{Refusal}
+use Rattle.s80_form.specs.Name.{IsName, IsSelectorWord}
 use Rattle.s80_disk.specs.Image.{Image}
 use Rattle.s80_disk.specs.Shown.{Shown}
 use Rattle.s80_keeper.specs.declared.start.StartFault.{StartFault}
@@ -27,7 +28,7 @@ use Rattle.s80_model.specs.declared.reply.Reply.TheVariants.{Silent, Refused}
 use Rattle.s80_model.specs.declared.section.Section.{Section}
 use Rattle.s80_model.specs.declared.section.Section.TheVariants as sections
 use Rattle.s80_machine.specs.Came.{RanValue}
-use Rattle.s80_model.specs.Asked.{Ask, refuses, adds, evaluates, condenses, opens, refuses_head, adds_source, refuses_source, closes, tells, files, ask_of_too_long, Asks, AsksPlain, AsksHead, AsksMethod, AsksQuery}
+use Rattle.s80_model.specs.Asked.{Ask, refuses, adds, evaluates, condenses, opens, refuses_head, adds_source, refuses_source, closes, tells, files, seeks, ask_of_too_long, Asks, AsksPlain, AsksHead, AsksMethod, AsksOf, AsksQuery}
 use Rattle.s80_model.specs.Replies.{IsAnswer, Work, AsksIn, IsSo, list_after_source, method_in, reply_to, reply_to_adding, reply_to_source, work_after}
 use Rattle.s80_model.specs.Settings.{IsNow, Settings}
 use Rattle.s80_model.specs.Section.{section_or, IsBriefSection}
@@ -37,7 +38,7 @@ use Rattle.s80_session.specs.declared.end.SessionEnd.TheVariants as ends
 use Rattle.s80_session.specs.declared.session.Session.{Session}
 use Rattle.s80_session.specs.Ends.{end_of_start, reply_to_keeping}
 use Rattle.s80_session.specs.LastRun.{RunBehind}
-use Rattle.s80_session.specs.Replies.{TellsFile}
+use Rattle.s80_session.specs.Replies.{TellsFile, TellsSought}
 use Rattle.s80_session.specs.Session.{Was, last_run_of}
 use Rattle.s80_session.specs.Working.{Ground, IsAmid, IsAt, GoesOn, IsLost, IsPast, Kept, QueryWorked, Replied, Answers, Flushed, Unreplied, Unworked, Starts, WorkedAlone, adding, at_rest, flushed, staying}
 
@@ -116,6 +117,7 @@ plain_stays work text (refuses_source refusal) h = absurd h
 plain_stays work text closes h = absurd h
 plain_stays work text (tells query) h = absurd h
 plain_stays work text (files filed moment) h = absurd h
+plain_stays work text (seeks query lines) h = absurd h
 
 method_stays : (work : Work) (text : List ℕ) (ask : Ask) → AsksMethod text ask → (work_after work ask).section ≡ work.section
 method_stays work text (adds_source source) h = refl
@@ -129,6 +131,7 @@ method_stays work text (refuses_source refusal) h = absurd h
 method_stays work text closes h = absurd h
 method_stays work text (tells query) h = absurd h
 method_stays work text (files filed moment) h = absurd h
+method_stays work text (seeks query lines) h = absurd h
 
 -- the section stays
 staying_at : (may_leave : Image → Type 0) (now : Shown) (session : Session) (work : Work) (basis : Ground) (ask : Ask) → (work_after work ask).section ≡ work.section → IsAmid may_leave now session (work_after work ask) basis → IsAmid may_leave now session (staying work ask) basis
@@ -151,6 +154,10 @@ pub worked_method : (may_leave : Image → Type 0) (now : Shown) (session : Sess
 worked_method may_leave now session was work basis text reply answer is h =
     stays_there may_leave now session was work basis (Chunk (items.Method text)) h.0 answer h.1 (method_stays work text h.0 h.1.0) (ap (λ (a : Answer). a.reply) is ∙ h.2) (ap (λ (a : Answer). section_or a.section work.section) is) h.3 h.4
 
+of_stays : (work : Work) (Suits : List ℕ → Type 0) (word : List ℕ) (query : SessionQuery) (ask : Ask) → AsksOf Suits word query ask → (work_after work ask).section ≡ work.section
+of_stays work Suits word query ask (inl (suits, (lines, is))) = ap (λ (a : Ask). (work_after work a).section) is
+of_stays work Suits word query ask (inr (fails, is)) = ap (λ (a : Ask). (work_after work a).section) is
+
 query_stays : (work : Work) (query : SessionQuery) (ask : Ask) → AsksQuery query ask → (work_after work ask).section ≡ work.section
 query_stays work queries.Recover ask is = ap (λ (a : Ask). (work_after work a).section) is
 query_stays work queries.Classes ask is = ap (λ (a : Ask). (work_after work a).section) is
@@ -159,6 +166,12 @@ query_stays work (queries.Source spec selector) ask is = ap (λ (a : Ask). (work
 query_stays work (queries.Versions spec selector) ask is = ap (λ (a : Ask). (work_after work a).section) is
 query_stays work queries.Changes ask is = ap (λ (a : Ask). (work_after work a).section) is
 query_stays work (queries.FileOut filed) ask is = ap (λ (a : Ask). (work_after work a).section) is.1
+query_stays work (queries.Senders selector) ask is = of_stays work IsSelectorWord selector (queries.Senders selector) ask is
+query_stays work (queries.Implementors selector) ask is = of_stays work IsSelectorWord selector (queries.Implementors selector) ask is
+query_stays work (queries.References name) ask is = of_stays work IsName name (queries.References name) ask is
+query_stays work queries.Undeclared ask is = ap (λ (a : Ask). (work_after work a).section) is.1
+query_stays work queries.Unimplemented ask is = ap (λ (a : Ask). (work_after work a).section) is.1
+query_stays work queries.Unsent ask is = ap (λ (a : Ask). (work_after work a).section) is.1
 query_stays work queries.Snapshot ask is = ap (λ (a : Ask). (work_after work a).section) is
 query_stays work queries.Condense ask is = ap (λ (a : Ask). (work_after work a).section) is
 
@@ -205,6 +218,7 @@ head_lists work text (refuses_source refusal) h = absurd h
 head_lists work text closes h = absurd h
 head_lists work text (tells query) h = absurd h
 head_lists work text (files filed moment) h = absurd h
+head_lists work text (seeks query lines) h = absurd h
 
 head_so : (work : Work) (text : List ℕ) (ask : Ask) → AsksHead text ask → IsSo work ask
 head_so work text (opens head) h = tt
@@ -218,6 +232,7 @@ head_so work text (refuses_source refusal) h = absurd h
 head_so work text closes h = absurd h
 head_so work text (tells query) h = absurd h
 head_so work text (files filed moment) h = absurd h
+head_so work text (seeks query lines) h = absurd h
 
 -- and runs nothing
 head_runs : (work : Work) (text : List ℕ) (ask : Ask) (before now : Option RanValue) → AsksHead text ask → now ≡ before → RunBehind work ask before now
@@ -261,6 +276,12 @@ pub replied_told : (may_leave : Image → Type 0) (now : Shown) (session : Sessi
 replied_told may_leave now session was work put query asked reply same is asks told_is h =
     let P : SessionQuery → Type 0 = λ q. QueryWorked (Ok reply) may_leave now session was work put (Query q) in
     subst P (sym is) (tells asked, (asks, tt), told_is, same, h)
+
+-- what is sought
+pub replied_sought : (may_leave : Image → Type 0) (now : Shown) (session : Session) (was : Was) (work : Work) (put : List ℕ) (query asked : SessionQuery) (reply : Reply) → last_run_of session ≡ was.last_run → query ≡ asked → TellsSought work asked reply → IsAt may_leave now session work put → QueryWorked (Ok reply) may_leave now session was work put (Query query)
+replied_sought may_leave now session was work put query asked reply same is sought h =
+    let P : SessionQuery → Type 0 = λ q. QueryWorked (Ok reply) may_leave now session was work put (Query q) in
+    subst P (sym is) (⊎_elim (λ (lines, asks, so, reply_is). (seeks asked lines, (asks, so), reply_is, same, h)) (λ (refusal, asks, reply_is). (refuses refusal, (asks, tt), reply_is, same, h)) sought)
 
 -- the second is the one that is told
 pub told_second : (o now : Shown) (seconds : ℕ) → now ≡ o → IfSome o.seconds (λ told. seconds ≡ told) → IfSome now.seconds (λ told. seconds ≡ told)

@@ -19,6 +19,12 @@ IsQuestion (queries.Source spec selector) = Unit {0}
 IsQuestion (queries.Versions spec selector) = Unit {0}
 IsQuestion queries.Changes = Unit {0}
 IsQuestion (queries.FileOut filed) = Unit {0}
+IsQuestion (queries.Senders selector) = Unit {0}
+IsQuestion (queries.Implementors selector) = Unit {0}
+IsQuestion (queries.References name) = Unit {0}
+IsQuestion queries.Undeclared = Unit {0}
+IsQuestion queries.Unimplemented = Unit {0}
+IsQuestion queries.Unsent = Unit {0}
 IsQuestion queries.Snapshot = ⊥
 IsQuestion queries.Condense = ⊥
 

@@ -12,6 +12,7 @@ mod queries;
 mod replies;
 mod reply;
 mod session;
+mod sought;
 mod told;
 
 pub use end::SessionEnd;

@@ -18,6 +18,10 @@ use crate::end::SessionEnd;
 use crate::outside::{read_set, read_source, read_versions};
 use crate::reply::refusal_at_fault;
 use crate::session::Session;
+use crate::sought::{
+    tell_implementors, tell_references, tell_senders, tell_undeclared, tell_unimplemented,
+    tell_unsent,
+};
 use crate::told::{has_method, tell_browsed, tell_classes, tell_recovered, tell_versions};
 use s80_base::Text;
 use s80_disk::Outside;
@@ -78,6 +82,12 @@ impl Session {
             }
             Query::Changes => self.tell_changes(alloc, outside),
             Query::FileOut(filed) => self.file_out(alloc, filed, outside),
+            Query::Senders(selector) => Ok(tell_senders(alloc, system, selector)?),
+            Query::Implementors(selector) => Ok(tell_implementors(alloc, system, selector)?),
+            Query::References(name) => Ok(tell_references(alloc, system, name)?),
+            Query::Undeclared => Ok(tell_undeclared(alloc, system)?),
+            Query::Unimplemented => Ok(tell_unimplemented(alloc, system)?),
+            Query::Unsent => Ok(tell_unsent(alloc, system)?),
             Query::Snapshot => self.keep_note(alloc, outside),
             Query::Condense => self.condense(alloc, outside),
         }

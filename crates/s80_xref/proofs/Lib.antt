@@ -1,3 +1,4 @@
+pub mod lemmas
 pub mod Gathering
 pub mod Leading
 pub mod Linking

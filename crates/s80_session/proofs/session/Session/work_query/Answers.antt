@@ -4,7 +4,7 @@ use Rattle.s80_disk.specs.Moments.{LeavesOnly}
 use Rattle.s80_disk.proofs.lemmas.Showing.{told_beside}
 use Rattle.s80_model.specs.Asked.{adds, condenses, snapshot_note, Asks}
 use Rattle.s80_model.specs.declared.item.Query.{Query as SessionQuery}
-use Rattle.s80_model.specs.declared.item.Query.TheVariants.{Recover, Classes, Browse, Condense, Snapshot}
+use Rattle.s80_model.specs.declared.item.Query.TheVariants.{Recover, Classes, Browse, Senders, Implementors, References, Undeclared, Unimplemented, Unsent, Condense, Snapshot}
 use Rattle.s80_model.specs.declared.item.SessionItem.TheVariants.{Query}
 use Rattle.s80_apply.specs.List.{state_of}
 use Rattle.s80_apply.specs.System.{SystemState, IsSystemOf}
@@ -13,7 +13,7 @@ use Rattle.s80_session.specs.Session.{keeper_of, was_of}
 use Rattle.s80_session.specs.Working.{QueryWorked, WorkLeaves, at_rest}
 use Rattle.s80_session.proofs.lemmas.Elsewhere.{elsewhere_as_left}
 use Rattle.s80_session.proofs.lemmas.Grounds.{nothing_happens, work_still}
-use Rattle.s80_session.proofs.Stepping.{queried_alone, replied_told}
+use Rattle.s80_session.proofs.Stepping.{queried_alone, replied_sought, replied_told}
 use Rattle.s80_session.proofs.session.Session.work_query.Goals as goal
 
 pub returns-in_err-tell_recovered-in-Recover-clause-any_moment : goal.returns-in_err-tell_recovered-in-Recover-clause-any_moment
@@ -196,3 +196,107 @@ returns-in-Condense-clause-others g c = λ other unwritten. c.condense.ensures.o
 
 pub returns-in-Condense-clause-elsewhere : goal.returns-in-Condense-clause-elsewhere
 returns-in-Condense-clause-elsewhere g c = c.condense.ensures.elsewhere (Query c.args.query) (asked c.args.query c.in-Condense.is)
+
+-- ---- what is sought
+
+pub returns-in_err-tell_senders-in-Senders-clause-any_moment : goal.returns-in_err-tell_senders-in-Senders-clause-any_moment
+returns-in_err-tell_senders-in-Senders-clause-any_moment g c = λ work put at.
+    work_still g.O.Disk.moment g.O.Disk.left_since c.args.outside.now c.args.outside.now work (at_rest work put) (Query c.args.query) (nothing_happens g.O.Disk.moment g.O.Disk.left_since _ (g.O.Outside.shown c.args.outside.now) _ c.args.outside.now work (at_rest work put) (λ told image left. let x = g.met.O.Disk.only_now c.args.outside.now told image left in (x.0, x.1 ∙ told_beside g.met.O.Outside.beside_is g.met.O.Outside.shown_is c.args.outside.now)) at)
+
+pub returns-in_ok-tell_senders-in-Senders-clause-replied : goal.returns-in_ok-tell_senders-in-Senders-clause-replied
+returns-in_ok-tell_senders-in-Senders-clause-replied g c = λ work put at.
+    let P : SystemState → Type 0 = λ s. IsSystemOf s (state_of work.changes) in
+    let system = subst P (sym c.system-system.ensures) at.keeps.system in
+    replied_sought (g.O.Disk.may_leave c.args.outside.now) (g.O.Outside.shown c.args.outside.now) _ (was_of c.args.self.now) work put c.args.query (Senders c.in-Senders.selector) _ refl c.in-Senders.is (c.in_ok-tell_senders-in-Senders.ensures.answer work system) at
+
+pub returns-in_ok-tell_senders-in-Senders-clause-any_moment : goal.returns-in_ok-tell_senders-in-Senders-clause-any_moment
+returns-in_ok-tell_senders-in-Senders-clause-any_moment g c = λ work put at.
+    work_still g.O.Disk.moment g.O.Disk.left_since c.args.outside.now c.args.outside.now work (at_rest work put) (Query c.args.query) (nothing_happens g.O.Disk.moment g.O.Disk.left_since _ (g.O.Outside.shown c.args.outside.now) _ c.args.outside.now work (at_rest work put) (λ told image left. let x = g.met.O.Disk.only_now c.args.outside.now told image left in (x.0, x.1 ∙ told_beside g.met.O.Outside.beside_is g.met.O.Outside.shown_is c.args.outside.now)) at)
+
+pub returns-in_ok-tell_senders-in-Senders-clause-room : goal.returns-in_ok-tell_senders-in-Senders-clause-room
+returns-in_ok-tell_senders-in-Senders-clause-room g c = λ enough. c.in_ok-tell_senders-in-Senders.ensures.room _
+
+pub returns-in_err-tell_implementors-in-Implementors-clause-any_moment : goal.returns-in_err-tell_implementors-in-Implementors-clause-any_moment
+returns-in_err-tell_implementors-in-Implementors-clause-any_moment g c = λ work put at.
+    work_still g.O.Disk.moment g.O.Disk.left_since c.args.outside.now c.args.outside.now work (at_rest work put) (Query c.args.query) (nothing_happens g.O.Disk.moment g.O.Disk.left_since _ (g.O.Outside.shown c.args.outside.now) _ c.args.outside.now work (at_rest work put) (λ told image left. let x = g.met.O.Disk.only_now c.args.outside.now told image left in (x.0, x.1 ∙ told_beside g.met.O.Outside.beside_is g.met.O.Outside.shown_is c.args.outside.now)) at)
+
+pub returns-in_ok-tell_implementors-in-Implementors-clause-replied : goal.returns-in_ok-tell_implementors-in-Implementors-clause-replied
+returns-in_ok-tell_implementors-in-Implementors-clause-replied g c = λ work put at.
+    let P : SystemState → Type 0 = λ s. IsSystemOf s (state_of work.changes) in
+    let system = subst P (sym c.system-system.ensures) at.keeps.system in
+    replied_sought (g.O.Disk.may_leave c.args.outside.now) (g.O.Outside.shown c.args.outside.now) _ (was_of c.args.self.now) work put c.args.query (Implementors c.in-Implementors.selector) _ refl c.in-Implementors.is (c.in_ok-tell_implementors-in-Implementors.ensures.answer work system) at
+
+pub returns-in_ok-tell_implementors-in-Implementors-clause-any_moment : goal.returns-in_ok-tell_implementors-in-Implementors-clause-any_moment
+returns-in_ok-tell_implementors-in-Implementors-clause-any_moment g c = λ work put at.
+    work_still g.O.Disk.moment g.O.Disk.left_since c.args.outside.now c.args.outside.now work (at_rest work put) (Query c.args.query) (nothing_happens g.O.Disk.moment g.O.Disk.left_since _ (g.O.Outside.shown c.args.outside.now) _ c.args.outside.now work (at_rest work put) (λ told image left. let x = g.met.O.Disk.only_now c.args.outside.now told image left in (x.0, x.1 ∙ told_beside g.met.O.Outside.beside_is g.met.O.Outside.shown_is c.args.outside.now)) at)
+
+pub returns-in_ok-tell_implementors-in-Implementors-clause-room : goal.returns-in_ok-tell_implementors-in-Implementors-clause-room
+returns-in_ok-tell_implementors-in-Implementors-clause-room g c = λ enough. c.in_ok-tell_implementors-in-Implementors.ensures.room _
+
+pub returns-in_err-tell_references-in-References-clause-any_moment : goal.returns-in_err-tell_references-in-References-clause-any_moment
+returns-in_err-tell_references-in-References-clause-any_moment g c = λ work put at.
+    work_still g.O.Disk.moment g.O.Disk.left_since c.args.outside.now c.args.outside.now work (at_rest work put) (Query c.args.query) (nothing_happens g.O.Disk.moment g.O.Disk.left_since _ (g.O.Outside.shown c.args.outside.now) _ c.args.outside.now work (at_rest work put) (λ told image left. let x = g.met.O.Disk.only_now c.args.outside.now told image left in (x.0, x.1 ∙ told_beside g.met.O.Outside.beside_is g.met.O.Outside.shown_is c.args.outside.now)) at)
+
+pub returns-in_ok-tell_references-in-References-clause-replied : goal.returns-in_ok-tell_references-in-References-clause-replied
+returns-in_ok-tell_references-in-References-clause-replied g c = λ work put at.
+    let P : SystemState → Type 0 = λ s. IsSystemOf s (state_of work.changes) in
+    let system = subst P (sym c.system-system.ensures) at.keeps.system in
+    replied_sought (g.O.Disk.may_leave c.args.outside.now) (g.O.Outside.shown c.args.outside.now) _ (was_of c.args.self.now) work put c.args.query (References c.in-References.name) _ refl c.in-References.is (c.in_ok-tell_references-in-References.ensures.answer work system) at
+
+pub returns-in_ok-tell_references-in-References-clause-any_moment : goal.returns-in_ok-tell_references-in-References-clause-any_moment
+returns-in_ok-tell_references-in-References-clause-any_moment g c = λ work put at.
+    work_still g.O.Disk.moment g.O.Disk.left_since c.args.outside.now c.args.outside.now work (at_rest work put) (Query c.args.query) (nothing_happens g.O.Disk.moment g.O.Disk.left_since _ (g.O.Outside.shown c.args.outside.now) _ c.args.outside.now work (at_rest work put) (λ told image left. let x = g.met.O.Disk.only_now c.args.outside.now told image left in (x.0, x.1 ∙ told_beside g.met.O.Outside.beside_is g.met.O.Outside.shown_is c.args.outside.now)) at)
+
+pub returns-in_ok-tell_references-in-References-clause-room : goal.returns-in_ok-tell_references-in-References-clause-room
+returns-in_ok-tell_references-in-References-clause-room g c = λ enough. c.in_ok-tell_references-in-References.ensures.room _
+
+pub returns-in_err-tell_undeclared-in-Undeclared-clause-any_moment : goal.returns-in_err-tell_undeclared-in-Undeclared-clause-any_moment
+returns-in_err-tell_undeclared-in-Undeclared-clause-any_moment g c = λ work put at.
+    work_still g.O.Disk.moment g.O.Disk.left_since c.args.outside.now c.args.outside.now work (at_rest work put) (Query c.args.query) (nothing_happens g.O.Disk.moment g.O.Disk.left_since _ (g.O.Outside.shown c.args.outside.now) _ c.args.outside.now work (at_rest work put) (λ told image left. let x = g.met.O.Disk.only_now c.args.outside.now told image left in (x.0, x.1 ∙ told_beside g.met.O.Outside.beside_is g.met.O.Outside.shown_is c.args.outside.now)) at)
+
+pub returns-in_ok-tell_undeclared-in-Undeclared-clause-replied : goal.returns-in_ok-tell_undeclared-in-Undeclared-clause-replied
+returns-in_ok-tell_undeclared-in-Undeclared-clause-replied g c = λ work put at.
+    let P : SystemState → Type 0 = λ s. IsSystemOf s (state_of work.changes) in
+    let system = subst P (sym c.system-system.ensures) at.keeps.system in
+    replied_sought (g.O.Disk.may_leave c.args.outside.now) (g.O.Outside.shown c.args.outside.now) _ (was_of c.args.self.now) work put c.args.query Undeclared _ refl c.in-Undeclared.is (c.in_ok-tell_undeclared-in-Undeclared.ensures.answer work system) at
+
+pub returns-in_ok-tell_undeclared-in-Undeclared-clause-any_moment : goal.returns-in_ok-tell_undeclared-in-Undeclared-clause-any_moment
+returns-in_ok-tell_undeclared-in-Undeclared-clause-any_moment g c = λ work put at.
+    work_still g.O.Disk.moment g.O.Disk.left_since c.args.outside.now c.args.outside.now work (at_rest work put) (Query c.args.query) (nothing_happens g.O.Disk.moment g.O.Disk.left_since _ (g.O.Outside.shown c.args.outside.now) _ c.args.outside.now work (at_rest work put) (λ told image left. let x = g.met.O.Disk.only_now c.args.outside.now told image left in (x.0, x.1 ∙ told_beside g.met.O.Outside.beside_is g.met.O.Outside.shown_is c.args.outside.now)) at)
+
+pub returns-in_ok-tell_undeclared-in-Undeclared-clause-room : goal.returns-in_ok-tell_undeclared-in-Undeclared-clause-room
+returns-in_ok-tell_undeclared-in-Undeclared-clause-room g c = λ enough. c.in_ok-tell_undeclared-in-Undeclared.ensures.room _
+
+pub returns-in_err-tell_unimplemented-in-Unimplemented-clause-any_moment : goal.returns-in_err-tell_unimplemented-in-Unimplemented-clause-any_moment
+returns-in_err-tell_unimplemented-in-Unimplemented-clause-any_moment g c = λ work put at.
+    work_still g.O.Disk.moment g.O.Disk.left_since c.args.outside.now c.args.outside.now work (at_rest work put) (Query c.args.query) (nothing_happens g.O.Disk.moment g.O.Disk.left_since _ (g.O.Outside.shown c.args.outside.now) _ c.args.outside.now work (at_rest work put) (λ told image left. let x = g.met.O.Disk.only_now c.args.outside.now told image left in (x.0, x.1 ∙ told_beside g.met.O.Outside.beside_is g.met.O.Outside.shown_is c.args.outside.now)) at)
+
+pub returns-in_ok-tell_unimplemented-in-Unimplemented-clause-replied : goal.returns-in_ok-tell_unimplemented-in-Unimplemented-clause-replied
+returns-in_ok-tell_unimplemented-in-Unimplemented-clause-replied g c = λ work put at.
+    let P : SystemState → Type 0 = λ s. IsSystemOf s (state_of work.changes) in
+    let system = subst P (sym c.system-system.ensures) at.keeps.system in
+    replied_sought (g.O.Disk.may_leave c.args.outside.now) (g.O.Outside.shown c.args.outside.now) _ (was_of c.args.self.now) work put c.args.query Unimplemented _ refl c.in-Unimplemented.is (c.in_ok-tell_unimplemented-in-Unimplemented.ensures.answer work system) at
+
+pub returns-in_ok-tell_unimplemented-in-Unimplemented-clause-any_moment : goal.returns-in_ok-tell_unimplemented-in-Unimplemented-clause-any_moment
+returns-in_ok-tell_unimplemented-in-Unimplemented-clause-any_moment g c = λ work put at.
+    work_still g.O.Disk.moment g.O.Disk.left_since c.args.outside.now c.args.outside.now work (at_rest work put) (Query c.args.query) (nothing_happens g.O.Disk.moment g.O.Disk.left_since _ (g.O.Outside.shown c.args.outside.now) _ c.args.outside.now work (at_rest work put) (λ told image left. let x = g.met.O.Disk.only_now c.args.outside.now told image left in (x.0, x.1 ∙ told_beside g.met.O.Outside.beside_is g.met.O.Outside.shown_is c.args.outside.now)) at)
+
+pub returns-in_ok-tell_unimplemented-in-Unimplemented-clause-room : goal.returns-in_ok-tell_unimplemented-in-Unimplemented-clause-room
+returns-in_ok-tell_unimplemented-in-Unimplemented-clause-room g c = λ enough. c.in_ok-tell_unimplemented-in-Unimplemented.ensures.room _
+
+pub returns-in_err-tell_unsent-in-Unsent-clause-any_moment : goal.returns-in_err-tell_unsent-in-Unsent-clause-any_moment
+returns-in_err-tell_unsent-in-Unsent-clause-any_moment g c = λ work put at.
+    work_still g.O.Disk.moment g.O.Disk.left_since c.args.outside.now c.args.outside.now work (at_rest work put) (Query c.args.query) (nothing_happens g.O.Disk.moment g.O.Disk.left_since _ (g.O.Outside.shown c.args.outside.now) _ c.args.outside.now work (at_rest work put) (λ told image left. let x = g.met.O.Disk.only_now c.args.outside.now told image left in (x.0, x.1 ∙ told_beside g.met.O.Outside.beside_is g.met.O.Outside.shown_is c.args.outside.now)) at)
+
+pub returns-in_ok-tell_unsent-in-Unsent-clause-replied : goal.returns-in_ok-tell_unsent-in-Unsent-clause-replied
+returns-in_ok-tell_unsent-in-Unsent-clause-replied g c = λ work put at.
+    let P : SystemState → Type 0 = λ s. IsSystemOf s (state_of work.changes) in
+    let system = subst P (sym c.system-system.ensures) at.keeps.system in
+    replied_sought (g.O.Disk.may_leave c.args.outside.now) (g.O.Outside.shown c.args.outside.now) _ (was_of c.args.self.now) work put c.args.query Unsent _ refl c.in-Unsent.is (c.in_ok-tell_unsent-in-Unsent.ensures.answer work system) at
+
+pub returns-in_ok-tell_unsent-in-Unsent-clause-any_moment : goal.returns-in_ok-tell_unsent-in-Unsent-clause-any_moment
+returns-in_ok-tell_unsent-in-Unsent-clause-any_moment g c = λ work put at.
+    work_still g.O.Disk.moment g.O.Disk.left_since c.args.outside.now c.args.outside.now work (at_rest work put) (Query c.args.query) (nothing_happens g.O.Disk.moment g.O.Disk.left_since _ (g.O.Outside.shown c.args.outside.now) _ c.args.outside.now work (at_rest work put) (λ told image left. let x = g.met.O.Disk.only_now c.args.outside.now told image left in (x.0, x.1 ∙ told_beside g.met.O.Outside.beside_is g.met.O.Outside.shown_is c.args.outside.now)) at)
+
+pub returns-in_ok-tell_unsent-in-Unsent-clause-room : goal.returns-in_ok-tell_unsent-in-Unsent-clause-room
+returns-in_ok-tell_unsent-in-Unsent-clause-room g c = λ enough. c.in_ok-tell_unsent-in-Unsent.ensures.room _
