@@ -281,7 +281,7 @@ replied_told may_leave now session was work put query asked reply same is asks t
 pub replied_sought : (may_leave : Image → Type 0) (now : Shown) (session : Session) (was : Was) (work : Work) (put : List ℕ) (query asked : SessionQuery) (reply : Reply) → last_run_of session ≡ was.last_run → query ≡ asked → TellsSought work asked reply → IsAt may_leave now session work put → QueryWorked (Ok reply) may_leave now session was work put (Query query)
 replied_sought may_leave now session was work put query asked reply same is sought h =
     let P : SessionQuery → Type 0 = λ q. QueryWorked (Ok reply) may_leave now session was work put (Query q) in
-    subst P (sym is) (⊎_elim (λ (lines, asks, so, reply_is). (seeks asked lines, (asks, so), reply_is, same, h)) (λ (refusal, asks, reply_is). (refuses refusal, (asks, tt), reply_is, same, h)) sought)
+    subst P (sym is) (⊎_elim (λ found. (seeks asked found.0, (found.1, found.2), found.3, same, h)) (λ refused. (refuses refused.0, (refused.1, tt), refused.2, same, h)) sought)
 
 -- the second is the one that is told
 pub told_second : (o now : Shown) (seconds : ℕ) → now ≡ o → IfSome o.seconds (λ told. seconds ≡ told) → IfSome now.seconds (λ told. seconds ≡ told)
