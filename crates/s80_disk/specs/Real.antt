@@ -7,7 +7,7 @@ use Rattle.s80_disk.specs.declared.real.RealDisk.{RealDisk}
 module _ {R A B : Type 0} where
   -- how many of its calls failed
   abbrev pub faults_of_real : RealDisk R A B → ℕ
-  faults_of_real disk = disk.faults
+  faults_of_real disk = disk.faults.count
 
   abbrev pub runtime_of : RealDisk R A B → R
   runtime_of disk = disk.rt

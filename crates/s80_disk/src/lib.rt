@@ -5,6 +5,7 @@
 mod bytes;
 mod disk;
 mod durable;
+mod faults;
 mod five;
 mod memory;
 mod memory_outside;
@@ -16,6 +17,7 @@ mod streams;
 
 pub use disk::{Disk, FileId};
 pub use durable::write_and_sync;
+pub use faults::Failure;
 pub use memory::MemDisk;
 pub use memory_outside::MemOutside;
 pub use outside::{Outside, put_output, take_input, time_now};

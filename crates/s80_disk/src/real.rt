@@ -2,13 +2,12 @@
 ghost use Rattle.std.specs.Prelude.{◌≡◌, ◌≤◌, ◌<◌, ℕ, false, None, [], length, take, IfOk, OnOk};
 ghost use Rattle.std.specs.Io.KnownBytes.{Consumes, IsAtEnd};
 ghost use Rattle.std.specs.Io.Seek.{MovesTo};
-ghost use Rattle.std.specs.Result.{result_ok};
-ghost use Rattle.s80_base.specs.Causes.{HasCause, Names};
 ghost use Rattle.s80_disk.specs.Real.{HasRead, HasWritten};
 ghost use Rattle.s80_disk.specs.Untold.{untold};
 
+use crate::faults::{Failure, Faults};
 use crate::{Disk, FileId, read_some};
-use s80_base::{Call, Failed, Text, fault};
+use s80_base::{Call, Failed, Text};
 use std::fs::{File, Files, OpenFile, OpenOptions, TryLockError};
 use std::io::{ErrorKind, Read, Seek, SeekFrom, Write};
 use std::rt::Clock;
@@ -35,17 +34,25 @@ impl HasLock for File {
     }
 }
 
-/// The five files of a folder, which stay open and locked from `attach` on.
+/// A file that is open.
+#[derive(Drop)]
+struct Opened<F: Drop> {
+    file: F,
+    /// Why it isn't open for writing.
+    refused: Option<io::Error>,
+}
+
+/// The five files of a folder, which stay open and locked from `attach` on. Those that mayn't be written are open for reading.
 #[derive(Drop)]
 pub struct RealDisk<R: Files + AllocGlobal + Clock + Drop>
 where
     R::File: HasLock,
 {
     rt: R,
-    files: Vec<R::File>,
+    files: Vec<Opened<R::File>>,
     /// The folder, opened so often that no file of it gets the number of a standard stream that is closed.
     folders: Vec<R::File>,
-    faults: u64,
+    faults: Faults,
 }
 
 impl<R: Files + AllocGlobal + Clock + Drop> RealDisk<R>
@@ -65,8 +72,16 @@ where
             rt,
             files,
             folders,
-            faults: 0,
+            faults: Faults::new(),
         }
+    }
+
+    /// What failed first, if a call did.
+    pub fn failure(&self) -> Option<Failure>
+        ensures none { faults_of_real self.now ≡ 0 → result ≡ None }
+        ensures kept { result ≡ None → faults_of_real self.now ≡ 0 }
+    {
+        self.faults.first()
     }
 
     /// The runtime that reaches the files.
@@ -77,14 +92,38 @@ where
     }
 }
 
-/// Opens a file, and makes an absent one, empty.
-fn open_one<R: Files + AllocGlobal>(rt: &R, folder: &str, name: &str) -> io::Result<R::File> {
+/// Whether the system forbids to write.
+fn forbids_writing(kind: ErrorKind) -> bool {
+    matches!(
+        kind,
+        ErrorKind::PermissionDenied | ErrorKind::ReadOnlyFilesystem
+    )
+}
+
+/// Opens a file, and makes an absent one, empty. One that mayn't be written is opened for reading.
+fn open_one<R: Files + AllocGlobal>(
+    rt: &R,
+    folder: &str,
+    name: &str,
+) -> io::Result<Opened<R::File>> {
     let path = format!(in rt.alloc(); "{folder}/{name}")?;
-    OpenOptions::new()
+    let mut how = OpenOptions::new();
+    match how
         .read(true)
         .write(true)
         .create(true)
         .open(rt, path.as_str())
+    {
+        Ok(file) => Ok(Opened {
+            file,
+            refused: None,
+        }),
+        Err(error) if forbids_writing(error.kind()) => Ok(Opened {
+            file: OpenOptions::new().read(true).open(rt, path.as_str())?,
+            refused: Some(error),
+        }),
+        Err(error) => Err(error),
+    }
 }
 
 /// Opens the folder for reading, once for each standard stream.
@@ -96,12 +135,24 @@ fn open_folders<R: Files + AllocGlobal>(rt: &R, folder: &str) -> io::Result<Vec<
     Ok(folders)
 }
 
-/// Opens the files in the order of `FileId`.
-fn open_files<R: Files + AllocGlobal>(rt: &R, folder: &str) -> io::Result<Vec<R::File>> {
+/// Opens the files in the order of `FileId`, and notes which one is at work.
+fn open_files<R: Files + AllocGlobal>(
+    rt: &R,
+    folder: &str,
+    file: &mut Option<FileId>,
+) -> io::Result<Vec<Opened<R::File>>> {
     let mut files = Vec::with_capacity(rt.alloc(), 5)?;
-    for name in ["mark", "log0", "log1", "image0", "image1"] {
+    for (id, name) in [
+        (FileId::Mark, "mark"),
+        (FileId::Log0, "log0"),
+        (FileId::Log1, "log1"),
+        (FileId::Image0, "image0"),
+        (FileId::Image1, "image1"),
+    ] {
+        *file = Some(id);
         files.push(open_one(rt, folder, name)?)?;
     }
+    *file = None;
     Ok(files)
 }
 
@@ -119,15 +170,30 @@ fn lock<R: Clock, F: HasLock>(rt: &R, file: &F) -> io::Result<()> {
         }
         thread::sleep(rt, Duration::from_millis(PAUSE_MILLISECONDS));
     }
-    Err(io::Error::from(ErrorKind::WouldBlock))
+    Err(io::Error::new(ErrorKind::WouldBlock, "another st80 works in it"))
+}
+
+/// Whether the file system knows no sync, and can't be written, so that it holds nothing that isn't on its disk: as a sync of a file that isn't
+/// open for writing failed, and why it isn't.
+fn needs_no_sync(error: io::Error, refusal: io::Error) -> bool {
+    error.kind() == ErrorKind::InvalidInput && refusal.kind() == ErrorKind::ReadOnlyFilesystem
+}
+
+/// Syncs a file, or the folder of such files.
+fn sync<F: OpenFile>(file: &F, refused: Option<io::Error>) -> io::Result<()> {
+    match (file.sync_all(), refused) {
+        (Err(error), Some(refusal)) if needs_no_sync(error, refusal) => Ok(()),
+        (outcome, _) => outcome,
+    }
 }
 
 /// Opens the folder and its files, takes the lock of the first one, and syncs the folder, so that the names of those that it made outlive
-/// a power cut.
+/// a power cut. Notes which file is at work.
 fn open_all<R: Files + AllocGlobal + Clock>(
     rt: &R,
     folder: &[u8],
-) -> io::Result<(Vec<R::File>, Vec<R::File>)>
+    file: &mut Option<FileId>,
+) -> io::Result<(Vec<R::File>, Vec<Opened<R::File>>)>
 where
     R::File: HasLock,
 {
@@ -136,12 +202,10 @@ where
         Err(_) => return Err(io::Error::from(ErrorKind::InvalidInput)),
     };
     let folders = open_folders(rt, folder)?;
-    let files = open_files(rt, folder)?;
-    if let Some(mark) = files.first() {
-        lock(rt, mark)?;
-    }
-    if let Some(opened) = folders.first() {
-        opened.sync_all()?;
+    let files = open_files(rt, folder, file)?;
+    if let (Some(mark), Some(opened)) = (files.first(), folders.first()) {
+        lock(rt, &mark.file)?;
+        sync(opened, mark.refused)?;
     }
     Ok((folders, files))
 }
@@ -187,9 +251,31 @@ fn write_whole<F: Write + Seek>(file: &mut F, at: u64, piece: &[u8]) -> io::Resu
     file.write_all(piece)
 }
 
-fn cut_longer<F: OpenFile>(file: &F, to: u64) -> io::Result<()> {
-    if to < file.metadata()?.len() {
-        file.set_len(to)?;
+/// Fails where the file isn't open for writing.
+fn check_writable(refused: Option<io::Error>) -> io::Result<()> {
+    match refused {
+        None => Ok(()),
+        Some(error) => Err(error),
+    }
+}
+
+/// Writes a piece to a file that is open for writing.
+fn write_opened<F: Write + Seek + Drop>(
+    opened: &mut Opened<F>,
+    at: u64,
+    piece: &[u8],
+) -> io::Result<()>
+    ensures { OnOk result (HasWritten F.stream_position F.contents opened.old.file opened.new.file at piece.now) }
+{
+    check_writable(opened.refused)?;
+    write_whole(&mut opened.file, at, piece)
+}
+
+/// Cuts a file that is longer, if it is open for writing.
+fn cut_longer<F: OpenFile + Drop>(opened: &Opened<F>, to: u64) -> io::Result<()> {
+    if to < length_of(&opened.file)? {
+        check_writable(opened.refused)?;
+        opened.file.set_len(to)?;
     }
     Ok(())
 }
@@ -199,19 +285,7 @@ fn length_of<F: OpenFile>(file: &F) -> io::Result<u64> {
 }
 
 fn not_attached() -> io::Error {
-    io::Error::from(ErrorKind::NotFound)
-}
-
-/// Counts an error as a fault of the call.
-fn noted<T>(faults: &mut u64, call: Call, outcome: io::Result<T>) -> Result<T, Failed>
-    ensures value { result_ok result ≡ result_ok outcome }
-    ensures cause { HasCause faults.old faults.new result }
-    ensures named { Names call result }
-{
-    match outcome {
-        Ok(value) => Ok(value),
-        Err(_) => Err(fault(faults, call)),
-    }
+    io::Error::new(ErrorKind::NotFound, "no folder is attached")
 }
 
 impl<R: Files + AllocGlobal + Clock + Drop> Disk for RealDisk<R>
@@ -244,8 +318,9 @@ where
         // What is attached already is closed first: its lock would be in the way.
         self.files.clear();
         self.folders.clear();
-        let opened = open_all(&self.rt, folder.bytes());
-        let (folders, files) = noted(&mut self.faults, Call::Attach, opened)?;
+        let mut file = None;
+        let opened = open_all(&self.rt, folder.bytes(), &mut file);
+        let (folders, files) = self.faults.noted(Call::Attach, file, opened)?;
         self.folders = folders;
         self.files = files;
         Ok(())
@@ -253,26 +328,26 @@ where
 
     fn length(&mut self, file: FileId) -> Result<u64, Failed> {
         let outcome = match self.files.get(file as usize) {
-            Some(opened) => length_of(opened),
+            Some(opened) => length_of(&opened.file),
             None => Err(not_attached()),
         };
-        noted(&mut self.faults, Call::Length, outcome)
+        self.faults.noted(Call::Length, Some(file), outcome)
     }
 
     fn read_at(&mut self, file: FileId, at: u64, buf: &mut [u8]) -> Result<usize, Failed> {
         let outcome = match self.files.get_mut(file as usize) {
-            Some(opened) => read_all(opened, at, buf),
+            Some(opened) => read_all(&mut opened.file, at, buf),
             None => Err(not_attached()),
         };
-        noted(&mut self.faults, Call::Read, outcome)
+        self.faults.noted(Call::Read, Some(file), outcome)
     }
 
     fn write_at(&mut self, file: FileId, at: u64, piece: &[u8]) -> Result<(), Failed> {
         let outcome = match self.files.get_mut(file as usize) {
-            Some(opened) => write_whole(opened, at, piece),
+            Some(opened) => write_opened(opened, at, piece),
             None => Err(not_attached()),
         };
-        noted(&mut self.faults, Call::Write, outcome)
+        self.faults.noted(Call::Write, Some(file), outcome)
     }
 
     fn cut(&mut self, file: FileId, to: u64) -> Result<(), Failed> {
@@ -280,14 +355,14 @@ where
             Some(opened) => cut_longer(opened, to),
             None => Err(not_attached()),
         };
-        noted(&mut self.faults, Call::Cut, outcome)
+        self.faults.noted(Call::Cut, Some(file), outcome)
     }
 
     fn sync(&mut self, file: FileId) -> Result<(), Failed> {
         let outcome = match self.files.get(file as usize) {
-            Some(opened) => opened.sync_all(),
+            Some(opened) => sync(&opened.file, opened.refused),
             None => Err(not_attached()),
         };
-        noted(&mut self.faults, Call::Sync, outcome)
+        self.faults.noted(Call::Sync, Some(file), outcome)
     }
 }
