@@ -1,71 +1,43 @@
 // What failed of the folder, in words.
-use s80_base::Text;
-use s80_disk::FileId;
-use std::fs::{Files, metadata};
+use s80_base::Call;
+use s80_disk::{Failure, FileId};
 use std::io::ErrorKind;
 
-/// What failed first of the folder, and how.
-#[derive(Clone, Copy)]
-pub struct Fault {
-    /// None where the folder itself wasn't opened.
-    file: Option<FileId>,
-    how: &'static str,
-}
-
-impl Fault {
-    /// The folder wasn't opened: why, as far as a second look at it tells.
-    pub(crate) fn of_folder<R: Files>(files: &R, folder: &Text) -> Fault {
-        Fault {
-            file: None,
-            how: why_unopened(files, folder),
-        }
-    }
-
-    /// A call on one of its files failed so.
-    pub(crate) fn of_file(file: FileId, how: &'static str) -> Fault {
-        Fault {
-            file: Some(file),
-            how,
-        }
-    }
-
-    /// What failed.
-    pub fn subject(&self) -> &'static str {
-        match self.file {
-            None => "the folder",
-            Some(FileId::Mark) => "mark",
-            Some(FileId::Log0) => "log0",
-            Some(FileId::Log1) => "log1",
-            Some(FileId::Image0) => "image0",
-            Some(FileId::Image1) => "image1",
-        }
-    }
-
-    /// How it failed, behind the subject.
-    pub fn predicate(&self) -> &'static str {
-        self.how
+/// What failed.
+pub(crate) fn subject(failure: &Failure) -> &'static str {
+    match failure.file {
+        None => "the folder",
+        Some(_) if is_no_folder(failure) => "the folder",
+        Some(FileId::Mark) => "mark",
+        Some(FileId::Log0) => "log0",
+        Some(FileId::Log1) => "log1",
+        Some(FileId::Image0) => "image0",
+        Some(FileId::Image1) => "image1",
     }
 }
 
-const UNOPENED: &str = "can't be opened: another st80 works in it, or its files mayn't be written";
-
-/// Why a folder can't be opened.
-fn why_unopened<R: Files>(files: &R, folder: &Text) -> &'static str {
-    let Ok(path) = str::from_utf8(folder.bytes()) else {
-        return UNOPENED;
-    };
-    match metadata(files, path) {
-        Ok(found) if !found.is_dir() => "isn't one: a file stands there",
-        Ok(_) => UNOPENED,
-        Err(error) => why_unseen(error.kind()),
+/// How it failed, in front of why.
+pub(crate) fn predicate(failure: &Failure) -> &'static str {
+    match failure.call {
+        Call::Attach => unopened(failure),
+        Call::Length | Call::Read | Call::Take => "can't be read",
+        Call::Write | Call::Put => "can't be written",
+        Call::Cut => "can't be cut",
+        Call::Sync => "can't be put on the disk",
     }
 }
 
-fn why_unseen(kind: ErrorKind) -> &'static str {
-    match kind {
-        ErrorKind::NotFound => "isn't there: mkdir makes it",
-        ErrorKind::NotADirectory => "isn't there: a file stands on the way to it",
-        ErrorKind::PermissionDenied => "can't be reached: that isn't permitted",
-        _ => UNOPENED,
+/// A file stands in the folder's place: it was opened as the folder, but has no files in it.
+fn is_no_folder(failure: &Failure) -> bool {
+    failure.call == Call::Attach && failure.error.kind() == ErrorKind::NotADirectory
+}
+
+fn unopened(failure: &Failure) -> &'static str {
+    match (failure.error.kind(), failure.file) {
+        (ErrorKind::NotFound, None) => "isn't there, mkdir makes it",
+        (ErrorKind::NotFound, Some(_)) => "isn't there and can't be made",
+        (ErrorKind::NotADirectory, None) => "isn't there, a file stands on the way to it",
+        (ErrorKind::NotADirectory, Some(_)) => "isn't one, a file stands there",
+        _ => "can't be opened",
     }
 }

@@ -12,10 +12,11 @@ ghost use Rattle.std.specs.Prelude.{◌≡◌};
 ghost use Rattle.std.specs.Process.{exit_status};
 ghost use Rattle.s80_program.specs.Ending.{number_of};
 
-pub use fault::Fault;
+use fault::{predicate, subject};
 pub use places::Telling;
 pub use progress::Seen;
 pub use real::RealOutside;
+pub use s80_disk::Failure;
 pub use s80_program::{Status, st80};
 use std::env;
 use std::io::IsTerminal;
@@ -46,8 +47,8 @@ fn seen(rt: &HostRuntime) -> Option<Seen> {
     })
 }
 
-/// Runs on the standard streams and the machine's files. Says what failed of the folder, too.
-fn run(rt: HostRuntime, telling: Telling) -> (Status, Option<Fault>) {
+/// Runs on the standard streams and the machine's files. Says what failed first of the folder, too.
+fn run(rt: HostRuntime, telling: Telling) -> (Status, Option<Failure>) {
     let seen = seen(&rt);
     match words_of(rt.alloc(), env::args(&rt)) {
         Ok(words) => {
@@ -55,22 +56,22 @@ fn run(rt: HostRuntime, telling: Telling) -> (Status, Option<Fault>) {
             let mut outside = RealOutside::make(rt, telling, seen);
             let status = st80(alloc, &words, &mut outside);
             outside.clear_progress();
-            (status, outside.fault())
+            (status, outside.failure())
         }
         Err(status) => (status, None),
     }
 }
 
 /// Tells more of a status to whoever sees standard error or asks for it.
-fn explain(rt: &HostRuntime, status: Status, fault: Option<Fault>) {
+fn explain(rt: &HostRuntime, status: Status, failure: Option<Failure>) {
     if status == Status::Usage {
         let _ = eprintln!(rt;
             "st80: COMMAND is run, do TEXT, recover, classes, browse N, source SPEC S, versions SPEC S, changes, file-out, file-out-class N, file-out-set, condense, snapshot or make N; man st80 tells more"
         );
     }
-    if let (Status::DiskFault, Some(fault)) = (status, fault) {
-        let (subject, predicate) = (fault.subject(), fault.predicate());
-        let _ = eprintln!(rt; "st80: {subject} {predicate}");
+    if let (Status::DiskFault, Some(failure)) = (status, failure) {
+        let (subject, predicate, why) = (subject(&failure), predicate(&failure), failure.error);
+        let _ = eprintln!(rt; "st80: {subject} {predicate}: {why}");
     }
 }
 
@@ -82,12 +83,12 @@ fn code_of(status: Status) -> ExitCode
 
 fn main(rt: HostRuntime) -> ExitCode {
     let telling = telling(&rt);
-    let (status, fault) = run(rt, telling);
+    let (status, failure) = run(rt, telling);
     if let Some(line) = status.message() {
         let _ = eprintln!(rt; "{line}");
     }
     if telling != Telling::Nothing {
-        explain(&rt, status, fault);
+        explain(&rt, status, failure);
     }
     code_of(status)
 }

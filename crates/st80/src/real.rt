@@ -5,12 +5,11 @@ ghost use Rattle.s80_disk.specs.declared.disk.FileId.{FileId};
 ghost use Rattle.s80_disk.specs.Real.{faults_of_real};
 ghost use Rattle.s80_disk.specs.Untold.{untold, files_untold, no_moment_untold};
 
-use crate::fault::Fault;
 use crate::places::Telling;
 use crate::progress::Seen;
 use crate::sight::Sight;
 use s80_base::{Call, Clock, Failed, Sink, Source, Text, fault};
-use s80_disk::{Disk, FileId, Outside, RealDisk, write_some};
+use s80_disk::{Disk, Failure, FileId, Outside, RealDisk, write_some};
 use std::fs::{File, Files};
 use std::io;
 use std::rt::Clock as SystemClock;
@@ -47,8 +46,8 @@ impl<R: Files<File = File> + AllocGlobal + Input + Print + Eprint + SystemClock 
     }
 
     /// What failed first of the folder, if something did.
-    pub fn fault(&self) -> Option<Fault> {
-        self.sight.fault()
+    pub fn failure(&self) -> Option<Failure> {
+        self.disk.failure()
     }
 
     /// Takes away what a terminal was told of the run.
@@ -153,27 +152,18 @@ impl<R: Files<File = File> + AllocGlobal + Input + Print + Eprint + SystemClock 
     ghost only_now = { λ _ _ _ left. absurd left };
 
     fn attach(&mut self, folder: &Text) -> Result<(), Failed> {
-        let outcome = self.disk.attach(folder);
-        if outcome.is_err() {
-            self.sight.note_folder(self.disk.runtime(), folder);
-        }
-        outcome
+        self.disk.attach(folder)
     }
 
     fn length(&mut self, file: FileId) -> Result<u64, Failed> {
-        let outcome = self.disk.length(file);
-        if outcome.is_err() {
-            self.sight.note_file(file, "can't be read");
-        }
-        outcome
+        self.disk.length(file)
     }
 
     fn read_at(&mut self, file: FileId, at: u64, buf: &mut [u8]) -> Result<usize, Failed> {
         self.sight.tell_progress(self.disk.runtime());
         let outcome = self.disk.read_at(file, at, buf);
-        match &outcome {
-            Ok(count) => self.sight.count_read(*count),
-            Err(_) => self.sight.note_file(file, "can't be read"),
+        if let Ok(count) = outcome {
+            self.sight.count_read(count);
         }
         outcome
     }
@@ -181,29 +171,15 @@ impl<R: Files<File = File> + AllocGlobal + Input + Print + Eprint + SystemClock 
     fn write_at(&mut self, file: FileId, at: u64, piece: &[u8]) -> Result<(), Failed> {
         self.sight.tell_progress(self.disk.runtime());
         self.sight.count_written(piece.len());
-        let outcome = self.disk.write_at(file, at, piece);
-        if outcome.is_err() {
-            self.sight
-                .note_file(file, "can't be written: perhaps the disk is full");
-        }
-        outcome
+        self.disk.write_at(file, at, piece)
     }
 
     fn cut(&mut self, file: FileId, to: u64) -> Result<(), Failed> {
-        let outcome = self.disk.cut(file, to);
-        if outcome.is_err() {
-            self.sight.note_file(file, "can't be cut");
-        }
-        outcome
+        self.disk.cut(file, to)
     }
 
     fn sync(&mut self, file: FileId) -> Result<(), Failed> {
-        let outcome = self.disk.sync(file);
-        if outcome.is_err() {
-            self.sight
-                .note_file(file, "can't be put on the disk: perhaps it is full");
-        }
-        outcome
+        self.disk.sync(file)
     }
 }
 

@@ -2,25 +2,20 @@
 ghost use Rattle.std.specs.Io.{ReadsAtMost};
 ghost use Rattle.std.specs.Io.KnownBytes.{ReadConsumes};
 
-use crate::fault::Fault;
 use crate::places::{Places, Telling};
 use crate::progress::{Progress, Seen};
-use s80_base::Text;
-use s80_disk::{FileId, read_some};
+use s80_disk::read_some;
 use std::alloc::Global;
-use std::fs::Files;
 use std::io::{self, Read};
 use std::rt::Clock as SystemClock;
 
-/// Places, prompts, how far a run is, and what failed.
+/// Places, prompts, and how far a run is.
 #[derive(Drop)]
 pub(crate) struct Sight {
     /// Where items stand, if places are to be told. Then the input is given byte by byte.
     places: Option<Places>,
     /// How far the run is, if a terminal is to be told.
     progress: Option<Progress>,
-    /// What failed first of the folder.
-    fault: Option<Fault>,
 }
 
 impl Sight {
@@ -39,28 +34,7 @@ impl Sight {
             Telling::Places => Some(Places::make(alloc, false)),
             Telling::Prompts => Some(Places::make(alloc, true)),
         };
-        Sight {
-            places,
-            progress,
-            fault: None,
-        }
-    }
-
-    /// What failed first of the folder, if something did.
-    pub(crate) fn fault(&self) -> Option<Fault> {
-        self.fault
-    }
-
-    /// The folder wasn't opened.
-    pub(crate) fn note_folder<R: Files>(&mut self, files: &R, folder: &Text) {
-        self.fault = Some(Fault::of_folder(files, folder));
-    }
-
-    /// A call on this file failed.
-    pub(crate) fn note_file(&mut self, file: FileId, how: &'static str) {
-        if self.fault.is_none() {
-            self.fault = Some(Fault::of_file(file, how));
-        }
+        Sight { places, progress }
     }
 
     /// So many bytes of the folder's files were read.
