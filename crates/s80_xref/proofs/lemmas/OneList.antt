@@ -30,14 +30,9 @@ behind x xs up = λ i one next at after. up (suc i) one next at after
 
 first_below : (x : Text) (xs : List Text) (y : Text) → AreAscending (x ∷ xs) → Contains xs y → IsBelow x y
 first_below x [] y up has = absurd (in_none y has)
-first_below x (z ∷ zs) y up has = by_case (one_of z zs y has)
-  where
-    next : IsBelow x z
-    next = up zero x z refl refl
-
-    by_case : (z ≡ y) ⊎ Contains zs y → IsBelow x y
-    by_case (inl same) = subst (IsBelow x) same next
-    by_case (inr rest) = nat_list_cmp_total.trans x z y next (first_below z zs y (behind x (z ∷ zs) up) rest)
+first_below x (z ∷ zs) y up has =
+    let next : IsBelow x z = up zero x z refl refl in
+    ⊎_elim (λ same. subst (IsBelow x) same next) (λ rest. nat_list_cmp_total.trans x z y next (first_below z zs y (behind x (z ∷ zs) up) rest)) (one_of z zs y has)
 
 -- the first name of each is one of the other, and the first of the other is none of the rest
 one_first : (x : Text) (xs : List Text) (y : Text) (ys : List Text) → AreAscending (x ∷ xs) → AreAscending (y ∷ ys) → Contains (y ∷ ys) x → Contains (x ∷ xs) y → x ≡ y
@@ -63,22 +58,13 @@ one_ascending : (xs ys : List Text) → AreAscending xs → AreAscending ys → 
 one_ascending [] [] up rising among also = refl
 one_ascending [] (y ∷ ys) up rising among also = absurd (in_none y (also y (here y ys)))
 one_ascending (x ∷ xs) [] up rising among also = absurd (in_none x (among x (here x xs)))
-one_ascending (x ∷ xs) (y ∷ ys) up rising among also = ap (λ l. x ∷ l) rest ∙ ap (λ z. z ∷ ys) same
-  where
-    same : x ≡ y
-    same = one_first x xs y ys up rising (among x (here x xs)) (also y (here y ys))
-
-    from_x : AreAscending (x ∷ ys)
-    from_x = subst (λ z. AreAscending (z ∷ ys)) (sym same) rising
-
-    within : AreAmong (x ∷ xs) (x ∷ ys)
-    within = subst (λ z. AreAmong (x ∷ xs) (z ∷ ys)) (sym same) among
-
-    around : AreAmong (x ∷ ys) (x ∷ xs)
-    around = subst (λ z. AreAmong (z ∷ ys) (x ∷ xs)) (sym same) also
-
-    rest : xs ≡ ys
-    rest = one_ascending xs ys (behind x xs up) (behind x ys from_x) (rest_among x xs ys up within) (rest_among x ys xs from_x around)
+one_ascending (x ∷ xs) (y ∷ ys) up rising among also =
+    let same : x ≡ y = one_first x xs y ys up rising (among x (here x xs)) (also y (here y ys)) in
+    let from_x : AreAscending (x ∷ ys) = subst (λ z. AreAscending (z ∷ ys)) (sym same) rising in
+    let within : AreAmong (x ∷ xs) (x ∷ ys) = subst (λ z. AreAmong (x ∷ xs) (z ∷ ys)) (sym same) among in
+    let around : AreAmong (x ∷ ys) (x ∷ xs) = subst (λ z. AreAmong (z ∷ ys) (x ∷ xs)) (sym same) also in
+    let rest = one_ascending xs ys (behind x xs up) (behind x ys from_x) (rest_among x xs ys up within) (rest_among x ys xs from_x around) in
+    ap (λ l. x ∷ l) rest ∙ ap (λ z. z ∷ ys) same
 
 pub one_naming : (P : Text → Type 0) (one other : List Text) → AreNames P one → AreNames P other → other ≡ one
 one_naming P one other h k = one_ascending other one k.0 h.0 (λ name has. (h.1 name).1 ((k.1 name).0 has)) (λ name has. (k.1 name).1 ((h.1 name).0 has))
