@@ -35,7 +35,7 @@ use Rattle.s80_doit.specs.DoIt.{Fits}
 use Rattle.s80_model.specs.Asked.{Ask, refuses, adds, evaluates, condenses, opens, refuses_head, adds_source, refuses_source, closes, tells, files, seeks, IsRefusedText, AsksPlain, IsRefusedHead, AsksHead, AsksMethod, IsKeptAs, AsksQuery, IsTimed}
 use Rattle.s80_model.specs.Replies.{AllAsk, AsksIn, IsEvaluated, IsSo, Work, work_after}
 use Rattle.s80_model.specs.Settings.{IsNow, Settings}
-use Rattle.s80_model.proofs.Sought.{one_asked_of, one_sought}
+use Rattle.s80_model.proofs.Seeking.{one_asked_of, one_sought}
 
 -- in the state of a list a text is told one thing
 abbrev pub OneTold : Type 0

@@ -5,4 +5,4 @@ mod Naming
 pub mod Telling
 pub mod Categories
 pub mod Listed
-pub mod Sought
+pub mod Seeking

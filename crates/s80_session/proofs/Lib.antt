@@ -26,4 +26,4 @@ pub mod Telling
 pub mod UnderWay
 pub mod Unmarked
 pub mod Works
-pub mod Sought
+pub mod Seeking

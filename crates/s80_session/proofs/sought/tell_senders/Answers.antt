@@ -1,7 +1,7 @@
 use Rattle.std.proofs.Common.{inl, inr, refl}
 use Rattle.s80_apply.specs.List.{state_of}
 use Rattle.s80_form.specs.declared.refusal.Refusal.TheVariants.{BadName}
-use Rattle.s80_session.proofs.Sought.{is_selector, no_selector}
+use Rattle.s80_session.proofs.Seeking.{is_selector, no_selector}
 use Rattle.s80_session.proofs.sought.tell_senders.Goals as goal
 
 pub returns-then-is_none-clause-answer : goal.returns-then-is_none-clause-answer

@@ -28,10 +28,11 @@ line_more places i at there =
     ∙ flat_map-append (λ p. line p ++ 10 ∷ []) (take i places) (at ∷ [])
     ∙ ap (λ l. places_text (take i places) ++ l) (append-nil (line at ++ 10 ∷ []))
 
-pub next_place : (places : List MethodPlace) (i : ℕ) (at : MethodPlace) (text t u : List ℕ) → text ≡ places_text (take i places) → slice_get places i ≡ Some at
-    → t ≡ text ++ line at → u ≡ t ++ 10 ∷ [] → u ≡ places_text (take (i + 1) places)
-next_place places i at text t u text_is there t_is u_is =
-    u_is ∙ ap (λ l. l ++ 10 ∷ []) (t_is ∙ ap (λ l. l ++ line at) text_is) ∙ append_assoc (places_text (take i places)) (line at) (10 ∷ [])
+pub next_place : (places : List MethodPlace) (i : ℕ) (at : MethodPlace) (text bytes t u : List ℕ) → text ≡ places_text (take i places) → slice_get places i ≡ Some at → bytes ≡ at.selector
+    → t ≡ text ++ method_line [] at.class_name at.side bytes → u ≡ t ++ 10 ∷ [] → u ≡ places_text (take (i + 1) places)
+next_place places i at text bytes t u text_is there bytes_is t_is u_is =
+    let t_so : t ≡ text ++ line at = t_is ∙ ap (λ b. text ++ method_line [] at.class_name at.side b) bytes_is in
+    u_is ∙ ap (λ l. l ++ 10 ∷ []) (t_so ∙ ap (λ l. l ++ line at) text_is) ∙ append_assoc (places_text (take i places)) (line at) (10 ∷ [])
     ∙ sym (line_more places i at there)
 
 -- ---- what is sought is asked once
