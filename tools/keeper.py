@@ -9,6 +9,7 @@ import struct
 from typing import NamedTuple
 
 import language
+import links
 from language import SEPARATORS, Fault, is_name, parse_doit, parse_method
 
 LONGEST = 65_535
@@ -398,6 +399,14 @@ def removes(removal, change):
     return removal.word == "remove" and removal.place() == change.place()
 
 
+def lines_of(methods):
+    return b"".join(b"%s %s\n" % (spec(method.name, method.side), method.selector) for method in methods)
+
+
+def names_told(names):
+    return b"".join(name + b"\n" for name in names)
+
+
 def versions(changes, name, side, selector):
     """The category and source of each version of a method, the oldest first."""
     return [change.put for change in changes if change.word == "method" and change.place() == (name, side, selector)]
@@ -583,7 +592,8 @@ class Keeper:
         """The reply to a query, and whether it is refused."""
         tell = {"recover": self.recovered, "classes": self.classes, "browse": self.browsed, "source": self.source,
                 "versions": self.versions, "changes": self.changes, "file-out": self.file, "file-out-class": self.file_of_class,
-                "file-out-set": self.file_of_set}
+                "file-out-set": self.file_of_set, "senders": self.senders, "implementors": self.implementors,
+                "references": self.references, "undeclared": self.undeclared, "unimplemented": self.unimplemented, "unsent": self.unsent}
         reply = tell[command](work, *words)
         return (b"refused " + reply[1] + b"\n", True) if isinstance(reply, tuple) else (reply, False)
 
@@ -594,7 +604,7 @@ class Keeper:
         return b"recovered %d changes, %d classes, %d methods\n" % (work.count, classes, methods)
 
     def classes(self, work):
-        return b"".join(name + b"\n" for name in sorted(work.state.classes))
+        return names_told(sorted(work.state.classes))
 
     def browsed(self, work, name):
         if not is_name(name):
@@ -625,6 +635,27 @@ class Keeper:
 
     def file_of_set(self, work):
         return file_of(change_set(work.changes))
+
+    def senders(self, work, selector):
+        return self.sought(work, links.senders, selector, links.is_selector)
+
+    def implementors(self, work, selector):
+        return self.sought(work, links.implementors, selector, links.is_selector)
+
+    def references(self, work, name):
+        return self.sought(work, links.references, name, is_name)
+
+    def sought(self, work, seek, word, is_lawful):
+        return lines_of(seek(work.state, word)) if is_lawful(word) else (None, b"9 bad name " + word)
+
+    def undeclared(self, work):
+        return names_told(links.undeclared(work.state))
+
+    def unimplemented(self, work):
+        return names_told(links.unimplemented(work.state))
+
+    def unsent(self, work):
+        return names_told(links.unsent(work.state))
 
     def source(self, work, named, selector):
         return self.of_method(work, named, selector, lambda row, versions: row and row[1] + b"\n")

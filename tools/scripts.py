@@ -45,6 +45,12 @@ KNOWN_BODY = re.compile(rb".*\^\s*([0-9]+)\s*", re.S)
 BUMP = b"bump %s _ %s isNil ifTrue: [1] ifFalse: [%s + 1]. ^%s"
 BUMP_BODY, BUMPS = re.compile(rb"bump (\w+) _ .*", re.S), re.compile(rb"(\w+) bump\. (\w+) bump")
 BUMPED = [b"a", b"b", b"c", b"D", b"E"]
+# What stands in blocks that are never run: words that may be variables, classes or outer names, and messages that may be inlined.
+WORDS = [b"a", b"b", b"c", b"A", b"B", b"C", b"D", b"Dd", b"Nobody", b"Outer", b"Smalltalk", b"Transcript", b"self", b"super", b"nil"]
+TARGETS = [b"a", b"b", b"B", b"D", b"Outer", b"Nobody"]
+SENT = [b"one", b"two", b"take:", b"from:to:", b"%", b"bump", b"zork", b"+", b"==", b"value", b"perform:", b"do:with:"]
+CONTROLS = [b"ifTrue:", b"ifFalse:", b"ifTrue:ifFalse:", b"ifFalse:ifTrue:", b"and:", b"or:", b"whileTrue:", b"whileFalse:"]
+ODD_NAMES = [b"3x", b"self", b"thisContext", b"a:b", b"one:two", b"two words", b"", b":", b"+-", b"===", b"Foo class", b"one ", b"\xc3\xa4"]
 NEARLY = re.compile(rb"(?:\(|\^|x _ |\| x \| )?(\w+) (class )?"
                     rb"(comment:|instanceVariableNames:|removeSelector:|organization|removeClassNamed:|removeFromSystem|noChanges|snapshot|condenseChanges).*", re.S)
 
@@ -275,7 +281,38 @@ def method_source(chance, selector):
     parts = iter([b": x", b": y"])
     pattern = b"% x" if selector == b"%" else re.sub(rb":", lambda _: next(parts) + b" ", selector).strip()
     note = chance.choice([b"", b'"it\'s a note!"', b'"a ""note"""'])
-    return chance.choice([b" ", b"\n\t", b"\r\t"]).join(part for part in (pattern, note, b"^%d" % chance.randrange(1000)) if part)
+    asides = [aside(chance)] if chance.randrange(2) else []
+    return chance.choice([b" ", b"\n\t", b"\r\t"]).join(part for part in (pattern, note, *asides, b"^%d" % chance.randrange(1000)) if part)
+
+
+def operand(chance, depth):
+    kind = chance.randrange(8)
+    if depth == 0 or kind < 3:
+        return chance.choice(WORDS + [b"3", b"#one", b"#(two #take:)", b"'zork'"])
+    if kind < 5:
+        return b"[%s]" % b". ".join(expression(chance, depth - 1) for _ in range(chance.randint(0, 2)))
+    return b"[:%s | %s]" % (chance.choice([b"a", b"Outer"]), expression(chance, depth - 1)) if kind == 5 else b"(%s)" % expression(chance, depth - 1)
+
+
+def sending(chance, depth):
+    """A message, with what it is sent."""
+    selector = chance.choice(SENT + CONTROLS)
+    arms = [b"[%s]" % expression(chance, depth - 1) if selector in CONTROLS and depth > 0 and chance.randrange(6) else operand(chance, depth) for _ in range(2)]
+    if selector.endswith(b":"):
+        return b" ".join(b"%s: %s" % part for part in zip(selector.split(b":")[:-1], arms))
+    return selector if selector.isalpha() else selector + b" " + arms[0]
+
+
+def expression(chance, depth):
+    targets = b"".join(word + b" _ " for word in chance.sample(TARGETS, chance.choice([0, 0, 0, 1, 2])))
+    messages = [sending(chance, depth) for _ in range(chance.choice([0, 1, 1, 1, 2]))]
+    # A message behind one with keywords stands in a cascade.
+    return targets + operand(chance, depth) + b"".join(b" " + message for message in messages[:1]) + b"".join(b"; " + message for message in messages[1:])
+
+
+def aside(chance):
+    """A statement that does nothing, and that messages and names stand in."""
+    return b"[%s]." % expression(chance, chance.randint(1, 2))
 
 
 def section(chance):
@@ -312,13 +349,25 @@ def chunks(chance, count):
 
 def query(chance):
     name = chance.choice(NAMES * 2 + [b"Object", b"Integer", b"Nobody", b"self", b"3", b"two words"])
-    kind = chance.randrange(8)
+    kind = chance.randrange(12)
+    if kind >= 8:
+        return seeking(chance)
     if kind < 4:
         return Command((["recover", "classes", "changes", "changes"][kind],))
     if kind == 4:
         return Command(("browse", name))
     word = "source" if kind == 5 else "versions"
     return Command((word, name + chance.choice([b"", b"", b" class"]), chance.choice(SELECTORS * 2 + [b"isNil", b"new"])))
+
+
+def seeking(chance):
+    """A query of methods by what they send, are or refer to, or of the names to which nothing answers."""
+    kind = chance.randrange(8)
+    if kind < 3:
+        return Command((["undeclared", "unimplemented", "unsent"][kind],))
+    if kind < 6:
+        return Command((chance.choice(["senders", "senders", "implementors"]), chance.choice((SENT + CONTROLS) * 2 + [b"isNil", b"value:"] + ODD_NAMES)))
+    return Command(("references", chance.choice(WORDS * 2 + [b"Object", b"String"] + ODD_NAMES)))
 
 
 def file_in(chance):

@@ -9,6 +9,7 @@ import tempfile
 from pathlib import Path
 from typing import NamedTuple
 
+import links
 from keeper import Damage, Item, Keeper, items_of, kernel_of, made_items, made_line, marked_part, spec, without_moment
 from language import SEPARATORS
 
@@ -167,8 +168,11 @@ def standing(program, keeper, folder, works):
 
 def queries(work, kernel):
     """A query of all classes and one of the change set, and a file of each; one of each class that isn't as the kernel's, and its file; one of
-    each method in whose place the kernel has another, and one of the versions of each that was put more than once or isn't there."""
-    yield from (Command((word,)) for word in ("classes", "changes", "file-out", "file-out-set"))
+    each method in whose place the kernel has another, and one of the versions of each that was put more than once or isn't there; one of the
+    senders, implementors and references of what such methods send, are and refer to, and one of the names to which nothing answers."""
+    yield from (Command((word,)) for word in ("classes", "changes", "file-out", "file-out-set", "undeclared", "unimplemented", "unsent"))
+    for command, words in zip(("senders", "implementors", "references"), words_to_seek(work, kernel)):
+        yield from (Command((command, word)) for word in words if not is_option(word))
     for name, row in sorted(work.state.classes.items()):
         if row != kernel.classes.get(name):
             yield from (Command((word, name)) for word in ("browse", "file-out-class"))
@@ -177,6 +181,14 @@ def queries(work, kernel):
         for selector, row in sorted(methods.items()):
             if row != kernel.side(name, side).get(selector) and not is_option(selector):
                 yield Command(("source", spec(name, side), selector))
+
+
+def words_to_seek(work, kernel):
+    """What methods that aren't the kernel's send and have as selectors, and the outer names to which they refer."""
+    methods = [method for method in links.methods_of(work.state)
+               if work.state.side(method.name, method.side)[method.selector] != kernel.side(method.name, method.side).get(method.selector)]
+    return (sorted({selector for method in methods for selector in method.sent}), sorted({method.selector for method in methods}),
+            sorted({name for method in methods for name in method.outer}))
 
 
 def versions_to_ask(work):
