@@ -163,6 +163,12 @@ impl Trial {
             | "file-out"
             | "file-out-class"
             | "file-out-set"
+            | "senders"
+            | "implementors"
+            | "references"
+            | "undeclared"
+            | "unimplemented"
+            | "unsent"
             | "snapshot"
             | "condense"
             | "recover" => {
