@@ -7,7 +7,7 @@
 _st80() {
   COMPREPLY=()
   local IFS=$' \t\n'
-  local commands="run do recover classes browse source versions changes file-out file-out-class file-out-set condense snapshot make"
+  local commands="run do recover classes browse source versions changes file-out file-out-class file-out-set senders implementors references undeclared unimplemented unsent condense snapshot make"
   local options="--budget --keep"
   local raw word quote letter current i program folder names wanted="" is_awaited="" is_plain=""
   local -a words=() plain=() offered=()
@@ -65,8 +65,8 @@ _st80() {
   case ${#plain[@]}:${plain[1]-} in
     0:*) wanted=folder ;;
     1:*) wanted=command ;;
-    2:browse | 2:file-out-class | 2:source | 2:versions) wanted=class ;;
-    2:do | 3:source | 3:versions) wanted=text ;;
+    2:browse | 2:file-out-class | 2:source | 2:versions | 2:references) wanted=class ;;
+    2:do | 2:senders | 2:implementors | 3:source | 3:versions) wanted=text ;;
     *) return 0 ;;
   esac
 

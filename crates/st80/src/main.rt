@@ -66,7 +66,7 @@ fn run(rt: HostRuntime, telling: Telling) -> (Status, Option<Failure>) {
 fn explain(rt: &HostRuntime, status: Status, failure: Option<Failure>) {
     if status == Status::Usage {
         let _ = eprintln!(rt;
-            "st80: COMMAND is run, do TEXT, recover, classes, browse N, source SPEC S, versions SPEC S, changes, file-out, file-out-class N, file-out-set, condense, snapshot or make N; man st80 tells more"
+            "st80: COMMAND is run, do TEXT, recover, classes, browse N, source SPEC S, versions SPEC S, changes, file-out, file-out-class N, file-out-set, senders S, implementors S, references N, undeclared, unimplemented, unsent, condense, snapshot or make N; man st80 tells more"
         );
     }
     if let (Status::DiskFault, Some(failure)) = (status, failure) {
