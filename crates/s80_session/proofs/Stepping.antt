@@ -247,6 +247,7 @@ head_runs work text (refuses_source refusal) before now h same = absurd h
 head_runs work text closes before now h same = absurd h
 head_runs work text (tells query) before now h same = absurd h
 head_runs work text (files filed moment) before now h same = absurd h
+head_runs work text (seeks query lines) before now h same = absurd h
 
 pub worked_head : (may_leave : Image → Type 0) (now : Shown) (session : Session) (was : Was) (work : Work) (basis : Ground) (text : List ℕ) (answer : Answer) → last_run_of session ≡ was.last_run → (ask : Ask) × AsksHead text ask × IsAnswer work ask answer → IsAmid may_leave now session work basis → Answers (Ok answer) may_leave now session was work basis (Chunk (items.Head text))
 worked_head may_leave now session was work basis text answer same is h =
