@@ -6,11 +6,10 @@ use Rattle.std.proofs.lemmas.List.Concat.{flat_map-append}
 use Rattle.std.proofs.lemmas.Option.{slice_get_within, get_or_from_slice_get}
 use Rattle.s80_apply.specs.State.{State}
 use Rattle.s80_apply.specs.List.{state_of}
-use Rattle.s80_form.specs.declared.refusal.Refusal.TheVariants.{BadName}
 use Rattle.s80_xref.specs.declared.places.MethodPlace.{MethodPlace}
-use Rattle.s80_xref.specs.Places.{AreNames, AreThose, IsOfSelector, IsUndeclared, IsUnimplemented, IsUnsent, RefersTo, Sends, all_places}
+use Rattle.s80_xref.specs.Places.{IsOfSelector, IsUndeclared, IsUnimplemented, IsUnsent, RefersTo, Sends, all_places}
 use Rattle.s80_xref.proofs.lemmas.OneList.{one_found, one_naming}
-use Rattle.s80_model.specs.Asked.{Ask, AsksOf, AsksQuery, refuses, seeks}
+use Rattle.s80_model.specs.Asked.{Ask, AsksOf, seeks}
 use Rattle.s80_model.specs.Replies.{IsSo, Work}
 use Rattle.s80_model.specs.Sought.{AreNameLines, ArePlaces, IsFound, places_text}
 use Rattle.s80_model.specs.Texts.{method_line, names_text}

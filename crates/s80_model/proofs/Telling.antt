@@ -1,7 +1,7 @@
 -- What is told, a name at a time.
 use Rattle.std.proofs.Common.{◌≡◌, ℕ, ◌+◌, ◌^◌, ◌≤◌, ◌<◌, List, [], ◌∷◌, ◌++◌, Bool, true, false, not, take, length, Option, Some, None, option_map, ap, sym, refl, subst, ◌∙◌, arith, codes, append_assoc}
 use Rattle.std.specs.Prelude.{map as list_map, cond, decimal, unwrap_or, SomeIff}
-use Rattle.std.specs.List.{slice_get, flat_map, filter}
+use Rattle.std.specs.List.{slice_get, filter}
 use Rattle.std.specs.FinMap as map
 use Rattle.std.specs.Ordering.{nat_cmp}
 use Rattle.std.specs.Cmp.Lexicographic.{slice_cmp}

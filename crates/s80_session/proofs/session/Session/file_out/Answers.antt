@@ -1,13 +1,13 @@
-use Rattle.std.proofs.Common.{◌≡◌, ℕ, List, Ok, Err, length, refl, sym, subst, ◌∙◌}
+use Rattle.std.proofs.Common.{◌≡◌, ℕ, List, Ok, Err, length, refl, sym, subst}
 use Rattle.std.proofs.lemmas.Result.{err_from_is_err_and}
 use Rattle.std.specs.Prelude.{IfSome}
 use Rattle.s80_apply.specs.List.{state_of}
 use Rattle.s80_apply.specs.System.{IsSystemOf, SystemState}
 use Rattle.s80_disk.specs.Moments.{LeavesOnly}
-use Rattle.s80_disk.specs.Shown.{Faults, Shown}
+use Rattle.s80_disk.specs.Shown.{Faults}
 use Rattle.s80_disk.proofs.lemmas.Run.{joined}
 use Rattle.s80_model.specs.declared.item.Filed.{Filed}
-use Rattle.s80_model.specs.declared.item.Filed.TheVariants.{All, Class, Set}
+use Rattle.s80_model.specs.declared.item.Filed.TheVariants.{All, Class}
 use Rattle.s80_model.specs.declared.item.Query.TheVariants.{FileOut}
 use Rattle.s80_model.specs.declared.item.SessionItem.TheVariants.{Query}
 use Rattle.s80_model.specs.declared.reply.Reply.{Reply}
