@@ -31,6 +31,9 @@ fn answer_of(word: &str) -> Result<Answer> {
         "again" => Answer::Fails(ErrorKind::Interrupted),
         "held" => Answer::Fails(ErrorKind::WouldBlock),
         "fails" => Answer::Fails(ErrorKind::Other),
+        "denied" => Answer::Fails(ErrorKind::PermissionDenied),
+        "sealed" => Answer::Fails(ErrorKind::ReadOnlyFilesystem),
+        "unknown" => Answer::Fails(ErrorKind::InvalidInput),
         _ => Answer::AtMost(word.parse().with_context(|| word)?),
     })
 }
