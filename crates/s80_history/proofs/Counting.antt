@@ -45,14 +45,14 @@ gap_is xs i r s there first =
     here = omega arith
 
 -- it is in the set, or left out
-place_kept : (xs : List Member) (i : ℕ) (r s : Member) → slice_get xs i ≡ Some r → slice_get xs r.group ≡ Some s → s.last ≤ i → Some r.noted.at ≡ place (get_or (gaps xs) i None)
-place_kept xs i r s there first kept = sym (ap place (gap_is xs i r s there first ∙ ap (λ b. if b then Some r.noted else None) test))
+member_kept : (xs : List Member) (i : ℕ) (r s : Member) → slice_get xs i ≡ Some r → slice_get xs r.group ≡ Some s → s.last ≤ i → Some r.noted ≡ get_or (gaps xs) i None
+member_kept xs i r s there first kept = sym (gap_is xs i r s there first ∙ ap (λ b. if b then Some r.noted else None) test)
   where
     test : nat_le s.last i ≡ true
     test = grind (arith, nat_tests)
 
-place_left : (xs : List Member) (i : ℕ) (r s : Member) → slice_get xs i ≡ Some r → slice_get xs r.group ≡ Some s → i < s.last → None ≡ place (get_or (gaps xs) i None)
-place_left xs i r s there first left = sym (ap place (gap_is xs i r s there first ∙ ap (λ b. if b then Some r.noted else None) test))
+member_left : (xs : List Member) (i : ℕ) (r s : Member) → slice_get xs i ≡ Some r → slice_get xs r.group ≡ Some s → i < s.last → None ≡ get_or (gaps xs) i None
+member_left xs i r s there first left = sym (gap_is xs i r s there first ∙ ap (λ b. if b then Some r.noted else None) test)
   where
     test : nat_le s.last i ≡ false
     test = grind (arith, nat_tests)
@@ -64,11 +64,11 @@ module _ (xs : List Member) (i : ℕ) (r s : Member) (within : i < length xs) (a
   its_first : slice_get xs r.group ≡ Some s
   its_first = slice_get_read xs (length xs) r.group s refl (subst (λ (q : Member). q.group < length xs) (sym read) (All-get_or (IsWithin (length xs)) xs i r within all).group) first
 
-  pub kept_read : (get_or xs r.group s).last ≤ i → Some r.noted.at ≡ place (get_or (gaps xs) i None)
-  kept_read kept = place_kept xs i r s there its_first (subst (λ (q : Member). q.last ≤ i) (sym first) kept)
+  pub kept_read : (get_or xs r.group s).last ≤ i → Some r.noted ≡ get_or (gaps xs) i None
+  kept_read kept = member_kept xs i r s there its_first (subst (λ (q : Member). q.last ≤ i) (sym first) kept)
 
-  pub left_read : i < (get_or xs r.group s).last → None ≡ place (get_or (gaps xs) i None)
-  left_read left = place_left xs i r s there its_first (subst (λ (q : Member). i < q.last) (sym first) left)
+  pub left_read : i < (get_or xs r.group s).last → None ≡ get_or (gaps xs) i None
+  left_read left = member_left xs i r s there its_first (subst (λ (q : Member). i < q.last) (sym first) left)
 
 -- ---- one more
 
@@ -109,6 +109,12 @@ module _ (xs : Gaps) (i : ℕ) (within : i < length xs) where
       go : (x : Option Noted) → length (filled (take i xs)) + from_bool (is_some (place x)) ≡ length (filled (take i xs) ++ filled (x ∷ []))
       go None = sym (length-append (filled (take i xs)) [])
       go (Some m) = sym (length-append (filled (take i xs)) (m ∷ []))
+
+  pub members_one : (m : Noted) → Some m ≡ get_or xs i None → filled (take (i + 1) xs) ≡ filled (take i xs) ++ m ∷ []
+  members_one m some = filled_more ∙ ap (λ x. filled (take i xs) ++ filled (x ∷ [])) (sym some)
+
+  pub members_none : None ≡ get_or xs i None → filled (take (i + 1) xs) ≡ filled (take i xs)
+  members_none none = filled_more ∙ ap (λ x. filled (take i xs) ++ filled (x ∷ [])) (sym none) ∙ append-nil (filled (take i xs))
 
   pub places_one : (p : ℕ) → Some p ≡ place (get_or xs i None) → places_in (take (i + 1) xs) ≡ places_in (take i xs) ++ p ∷ []
   places_one p some =

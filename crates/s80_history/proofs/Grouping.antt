@@ -8,9 +8,9 @@ use Rattle.std.proofs.lemmas.List.Elements.{All-cons, All-head, All-push, All-ta
 use Rattle.std.proofs.lemmas.Option.{none-some, same_Some, slice_get_within}
 use Rattle.s80_history.specs.declared.members.Member.{Member}
 use Rattle.s80_history.specs.declared.noted.Noted.{Noted}
-use Rattle.s80_history.specs.Members.{IsWithin, added, gap, gaps, gaps_from, last_of, member, with_last}
+use Rattle.s80_history.specs.Members.{IsWithin, added_as, gap, gaps, gaps_from, last_of, member, with_last}
 use Rattle.s80_history.specs.Sound.{HasFirst, groups_of, without}
-use Rattle.s80_history.specs.Topics.{Topic, is_new, is_on}
+use Rattle.s80_history.specs.Topics.{Topic, is_on}
 
 -- ---- members by their numbers
 
@@ -109,7 +109,7 @@ within_with count (r ∷ xs) (suc g) v h all =
 
 -- ---- one member more
 
-module _ (xs : List Member) (m : Noted) (g : ℕ) (all : All (IsWithin (length xs)) xs) (le : g ≤ length xs) where
+module _ (leaves_out : Bool) (xs : List Member) (m : Noted) (g : ℕ) (all : All (IsWithin (length xs)) xs) (le : g ≤ length xs) where
   abbrev more : List Member
   more = xs ++ member m g (length xs) ∷ []
 
@@ -182,29 +182,29 @@ module _ (xs : List Member) (m : Noted) (g : ℕ) (all : All (IsWithin (length x
       own : last_of renewed g ≤ 0 + length xs
       own = omega (arith, is)
 
-  pub gaps_added : gaps (added xs m g) ≡ (if is_new m then without (Some g) (groups_of xs) (gaps xs) else gaps xs) ++ Some m ∷ []
-  gaps_added = go (is_new m)
+  pub gaps_added : gaps (added_as leaves_out xs m g) ≡ (if leaves_out then without (Some g) (groups_of xs) (gaps xs) else gaps xs) ++ Some m ∷ []
+  gaps_added = go leaves_out
     where
       go : (b : Bool) → gaps (if b then renewed else more) ≡ (if b then without (Some g) (groups_of xs) (gaps xs) else gaps xs) ++ Some m ∷ []
       go true = gaps_new
       go false = gaps_old
 
-  pub groups_added : groups_of (added xs m g) ≡ groups_of xs ++ g ∷ []
-  groups_added = go (is_new m)
+  pub groups_added : groups_of (added_as leaves_out xs m g) ≡ groups_of xs ++ g ∷ []
+  groups_added = go leaves_out
     where
       go : (b : Bool) → groups_of (if b then renewed else more) ≡ groups_of xs ++ g ∷ []
       go true = groups_with more g (length xs) ∙ map-append (λ (r : Member). r.group) xs (member m g (length xs) ∷ [])
       go false = map-append (λ (r : Member). r.group) xs (member m g (length xs) ∷ [])
 
-  pub length_added : length (added xs m g) ≡ length xs + 1
-  length_added = go (is_new m)
+  pub length_added : length (added_as leaves_out xs m g) ≡ length xs + 1
+  length_added = go leaves_out
     where
       go : (b : Bool) → length (if b then renewed else more) ≡ length xs + 1
       go true = length_with more g (length xs) ∙ length_more
       go false = length_more
 
-  pub within_added : All (IsWithin (length xs + 1)) (added xs m g)
-  within_added = go (is_new m)
+  pub within_added : All (IsWithin (length xs + 1)) (added_as leaves_out xs m g)
+  within_added = go leaves_out
     where
       old : All (IsWithin (length xs + 1)) xs
       old = All-weaker (IsWithin (length xs)) (IsWithin (length xs + 1)) (λ r h. record { group = omega (arith, h.group); last = omega (arith, h.last) }) xs all
@@ -217,20 +217,20 @@ module _ (xs : List Member) (m : Noted) (g : ℕ) (all : All (IsWithin (length x
       go false = with_one
 
   -- members keep what they are
-  noted_added : (i : ℕ) (r : Member) → slice_get more i ≡ Some r → (s : Member) × (slice_get (added xs m g) i ≡ Some s) × (s.noted ≡ r.noted)
-  noted_added i r e = go (is_new m)
+  noted_added : (i : ℕ) (r : Member) → slice_get more i ≡ Some r → (s : Member) × (slice_get (added_as leaves_out xs m g) i ≡ Some s) × (s.noted ≡ r.noted)
+  noted_added i r e = go leaves_out
     where
       go : (b : Bool) → (s : Member) × (slice_get (if b then renewed else more) i ≡ Some s) × (s.noted ≡ r.noted)
       go true = noted_with more g (length xs) i r e
       go false = (r, e, refl)
 
-  pub first_kept : (u : Topic) (i : ℕ) → HasFirst xs u i → HasFirst (added xs m g) u i
+  pub first_kept : (u : Topic) (i : ℕ) → HasFirst xs u i → HasFirst (added_as leaves_out xs m g) u i
   first_kept u i first =
       let within = slice_get_within xs i first.first first.there in
       let s = noted_added i first.first (slice_get_left xs (member m g (length xs) ∷ []) i within ∙ first.there) in
       record { first = s.0; there = s.1; has = ap (is_on u) s.2 ∙ first.has }
 
-  pub first_added : (u : Topic) → is_on u m ≡ true → HasFirst (added xs m g) u (length xs)
+  pub first_added : (u : Topic) → is_on u m ≡ true → HasFirst (added_as leaves_out xs m g) u (length xs)
   first_added u has =
       let s = noted_added (length xs) (member m g (length xs)) (slice_get_last xs (member m g (length xs))) in
       record { first = s.0; there = s.1; has = ap (is_on u) s.2 ∙ has }

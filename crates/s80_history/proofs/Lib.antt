@@ -5,6 +5,7 @@ mod Grouping
 mod Naming
 mod Noting
 mod OneMore
+mod Restoring
 mod Same
 mod Showing
 mod Staying

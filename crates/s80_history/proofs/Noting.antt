@@ -1,5 +1,5 @@
 -- What one member more leaves of classes and methods.
-use Rattle.std.proofs.Common.{◌≡◌, ◌∙◌, ap, sym, refl, ℕ, max, cond, ◌&&◌, if◌then◌else◌, List, [], Option, Some, None, is_some, option_and_then, IsSome, Bool, true, false, subst, true≢false}
+use Rattle.std.proofs.Common.{◌≡◌, ◌∙◌, ap, sym, refl, ℕ, max, cond, ◌&&◌, if◌then◌else◌, List, [], ◌∷◌, ◌++◌, Option, Some, None, is_some, option_and_then, IsSome, Bool, true, false, subst, true≢false}
 use Rattle.std.specs.Option.{option_map_or}
 use Rattle.std.specs.Str.{bytes_eq}
 use Rattle.s80_base.specs.declared.names.Side.{Side}
@@ -11,8 +11,8 @@ use Rattle.s80_history.specs.declared.trace.MethodTrace.{MethodTrace}
 use Rattle.s80_history.specs.declared.trace.ClassTrace.{ClassTrace}
 use Rattle.s80_history.specs.Lists.{MethodName, is_same}
 use Rattle.s80_history.specs.Topics.{Topic, CommentOf, MethodOf, class_of, is_on_by, name_of, removes_class_by, removes_method_by, topic_by}
-use Rattle.s80_history.specs.Traces.{Classes, HasPlace, HasPlaceBy, HasPlaceIn, HasRoom, IsNotedAmong, IsNotedIn, IsNotedOf, IsNotedUnder, Methods, comment_after, first_joined, group_after, group_in, group_seen, group_under, group_with, held, joined, method_in, method_number, methods_on, removed_after, removed_in, versions_by, versions_in, versions_seen, versions_with}
-use Rattle.s80_history.proofs.Naming.{IsNamed, named_written, seen_after, written}
+use Rattle.s80_history.specs.Traces.{Classes, HasPlace, HasPlaceBy, HasPlaceIn, HasRoom, IsMoreAmong, IsMoreIn, IsMoreUnder, IsNotedAmong, IsNotedIn, IsNotedOf, IsNotedUnder, Methods, comment_after, first_joined, group_after, group_in, group_seen, group_under, group_with, held, joined, method_in, method_number, methods_on, removed_after, removed_in, versions_by, versions_in, versions_more, versions_seen, versions_with}
+use Rattle.s80_history.proofs.Naming.{IsNamed, named_written, seen_after, seen_same, written}
 use Rattle.s80_history.proofs.Same.{never_both, text_same}
 
 -- ---- a method
@@ -274,3 +274,51 @@ module _ (noted : Noted) (begun number : ℕ) (es : Classes) (none : held es not
               let own = ap (λ o. versions_seen (option_and_then (λ (c : ClassTrace). held (methods_on c name.side) name.selector) o)) (gone name.class_name is) in
               own ∙ absent.1 name ∙ sym (ap (versions_with noted name) own)
           go false is = sym (ap (λ b. if b then versions_by noted.kind noted.at (versions_in es name) else versions_in es name) (of_other name noted is))
+
+-- ---- one version more, and no member
+
+pub among_more : (selector : List ℕ) (at : ℕ) (es new : Methods) (own : List ℕ) (x y : MethodTrace) → own ≡ selector → Some x ≡ held es own → new ≡ written own es y → y.group ≡ x.group
+    → y.versions.items ≡ x.versions.items ++ at ∷ [] → IsMoreAmong selector at es new
+among_more selector at es new own x y key there is group versions =
+    let here : held es selector ≡ Some x = sym (there ∙ ap (held es) key) in
+    let now : IsNamed es selector y new = named_written es new selector own x y key there is in
+    record {
+      groups = seen_same group_seen es new selector (Some x) y here now group;
+      versions = seen_after versions_seen es new selector (λ vs. vs ++ at ∷ []) x y here now versions;
+    }
+
+module _ (name : MethodName) (at : ℕ) (es new : Classes) (x y : ClassTrace) (there : held es name.class_name ≡ Some x) (now : IsNamed es name.class_name y new)
+    (changed : IsMoreUnder name.side name.selector at x y) where
+  group_more : (u : Topic) → group_under y u ≡ group_under x u
+  group_more (CommentOf class) = changed.comment
+  group_more (MethodOf other) = changed.groups other.side other.selector
+
+  abbrev seen_of : MethodName → Option ClassTrace → List ℕ
+  seen_of other o = versions_seen (option_and_then (λ c. held (methods_on c other.side) other.selector) o)
+
+  versions_now : (other : MethodName) → versions_in new other ≡ versions_more (is_same other name) at (versions_in es other)
+  versions_now other = go (bytes_eq other.class_name name.class_name) refl
+    where
+      after_other : (b : Bool) → bytes_eq other.class_name name.class_name ≡ b → held new other.class_name ≡ cond b (Some y) (held es other.class_name)
+      after_other b is = now other.class_name ∙ ap (λ b. cond b (Some y) (held es other.class_name)) is
+
+      go : (b : Bool) → bytes_eq other.class_name name.class_name ≡ b → versions_in new other ≡ versions_more (is_same other name) at (versions_in es other)
+      go true is =
+          ap (seen_of other) (after_other true is)
+          ∙ changed.versions other.side other.selector
+          ∙ ap (λ b. versions_more (b && same_side other.side name.side && bytes_eq other.selector name.selector) at (versions_on x other.side other.selector)) (sym is)
+          ∙ sym (ap (λ o. versions_more (is_same other name) at (seen_of other o)) (ap (held es) (text_same other.class_name name.class_name is) ∙ there))
+      go false is =
+          ap (seen_of other) (after_other false is)
+          ∙ sym (ap (λ b. versions_more (b && same_side other.side name.side && bytes_eq other.selector name.selector) at (versions_in es other)) is)
+
+  pub class_more : IsMoreIn name at es new
+  class_more = record {
+    groups = λ u. seen_same (option_and_then (λ (c : ClassTrace). group_under c u)) es new name.class_name (Some x) y there now (group_more u) (class_of u);
+    removed = seen_same (λ o. option_map_or (λ (c : ClassTrace). c.removed) o 0) es new name.class_name (Some x) y there now changed.removed;
+    versions = versions_now;
+  }
+
+-- where a method has room its class is there
+pub room_in : (name : MethodName) (es : Classes) (x : ClassTrace) → held es name.class_name ≡ Some x → HasRoom (method_in es name) → HasRoom (held (methods_on x name.side) name.selector)
+room_in name es x there room = subst (λ o. HasRoom (option_and_then (λ (c : ClassTrace). held (methods_on c name.side) name.selector) o)) there room

@@ -10,34 +10,42 @@ use Rattle.s80_history.specs.declared.noted.Noted.{Noted}
 use Rattle.s80_history.specs.declared.noted.NotedKind.{NotedKind}
 use Rattle.s80_history.specs.declared.noted.NotedKind.TheVariants as kinds
 use Rattle.s80_history.specs.declared.trace.ClassTrace.{ClassTrace}
-use Rattle.s80_history.specs.Members.{IsWithin, added}
+use Rattle.s80_history.specs.Members.{IsWithin, added_as}
 use Rattle.s80_history.specs.Sound.{IsRoomFor, IsSound, IsTied, group_here, number_here}
-use Rattle.s80_history.specs.Topics.{Topic, class_of, ends_by, is_on, is_on_by, removes_class_by, removes_method_by, topic_of}
-use Rattle.s80_history.specs.Traces.{AreAlikeIn, Classes, HasPlaceBy, HasPlaceIn, IsNotedIn, first_joined, group_in, group_under, group_with, held, joined, removed_in}
+use Rattle.s80_history.specs.Topics.{Topic, class_of, ends_by, is_new, is_on, is_on_by, removes_class_by, removes_method_by, topic_of}
+use Rattle.s80_history.specs.Traces.{AreAlikeIn, Classes, HasPlaceBy, HasPlaceIn, IsJoinedIn, IsNotedIn, first_joined, group_in, group_under, group_with, held, joined, removed_in}
 use Rattle.s80_history.proofs.Grouping.{length_added, within_added}
 use Rattle.s80_history.proofs.Tying.{group_within, number_of, slot_after, tied_added}
 
 -- ---- nothing but room
 
-module _ (old new : Vec Member Global) (begun : ℕ) (classes now : Classes) (next : Option Noted) (same : new.items ≡ old.items) (alike : AreAlikeIn classes now) (sound : IsSound old begun classes next) where
+module _ (old new : Vec Member Global) (begun : ℕ) (classes now : Classes) (next : Option Noted) (same : new.items ≡ old.items) (groups : (u : Topic) → group_in now u ≡ group_in classes u)
+    (removed : (class : List ℕ) → removed_in now class ≡ removed_in classes class) (sound : IsSound old begun classes next) where
   here_same : (u : Topic) → group_here begun classes u ≡ group_here begun now u
-  here_same u = sym (λ i. number_here begun (max begun (alike.removed (class_of u) i)) (alike.groups u i))
+  here_same u = sym (λ i. number_here begun (max begun (removed (class_of u) i)) (groups u i))
 
   fits_still : begun + length new.items < 2 ^ 64
   fits_still = subst (λ xs. begun + length xs < 2 ^ 64) (sym same) sound.fits
 
-  pub room_made : (ready : Option Noted) → ((noted : Noted) → ready ≡ Some noted → IsRoomFor new begun now noted) → IsSound new begun now ready
-  room_made ready room = record {
+  pub sound_still : (ready : Option Noted) → ((noted : Noted) → ready ≡ Some noted → IsRoomFor new begun now noted) → IsSound new begun now ready
+  sound_still ready room = record {
     fits = fits_still;
     within = subst (λ xs. All (IsWithin (length xs)) xs) (sym same) sound.within;
-    removed = λ class. subst (λ xs. removed_in now class ≤ begun + length xs) (sym same) (subst (λ n. n ≤ begun + length old.items) (sym (alike.removed class)) (sound.removed class));
-    groups = λ u g is. subst (λ xs. g < begun + length xs) (sym same) (sound.groups u g (sym (alike.groups u) ∙ is));
+    removed = λ class. subst (λ xs. removed_in now class ≤ begun + length xs) (sym same) (subst (λ n. n ≤ begun + length old.items) (sym (removed class)) (sound.removed class));
+    groups = λ u g is. subst (λ xs. g < begun + length xs) (sym same) (sound.groups u g (sym (groups u) ∙ is));
     tied = λ u. subst (λ xs. IsTied xs u (group_here begun now u)) (sym same) (subst (IsTied old.items u) (here_same u) (sound.tied u));
     ready = room;
   }
 
+  pub sound_unready : IsSound new begun now None
+  sound_unready = sound_still None (λ noted is. absurd (none-some noted is))
+
+module _ (old new : Vec Member Global) (begun : ℕ) (classes now : Classes) (next : Option Noted) (same : new.items ≡ old.items) (alike : AreAlikeIn classes now) (sound : IsSound old begun classes next) where
+  pub room_made : (ready : Option Noted) → ((noted : Noted) → ready ≡ Some noted → IsRoomFor new begun now noted) → IsSound new begun now ready
+  room_made ready room = sound_still old new begun classes now next same alike.groups alike.removed sound ready room
+
   pub none_made : IsSound new begun now None
-  none_made = room_made None (λ noted is. absurd (none-some noted is))
+  none_made = sound_unready old new begun classes now next same alike.groups alike.removed sound
 
 pub alike_itself : (classes : Classes) → AreAlikeIn classes classes
 alike_itself classes = record { groups = λ u. refl; removed = λ class. refl; versions = λ name. refl }
@@ -140,8 +148,11 @@ placed_by kinds.RemoveClass classes noted at place = place
 pub placed_anywhere : (classes : Classes) (noted : Noted) (at : ℕ) → HasPlaceIn classes noted → HasPlaceIn classes (record noted { at = at })
 placed_anywhere classes noted at place = placed_by noted.kind classes noted at place
 
+pub joins_of : (noted : Noted) (begun n : ℕ) (old new : Classes) (result : ℕ) → IsNotedIn noted begun n old new result → IsJoinedIn noted begun n old new result
+joins_of noted begun n old new result is = record { groups = is.groups; removed = is.removed; joins = is.joins }
+
 module _ (members : Vec Member Global) (begun : ℕ) (classes : Classes) (next : Option Noted) (noted : Noted) (now : Classes) (number first : ℕ) (sound : IsSound members begun classes next)
-    (numbered : number ≡ begun + length members.items) (changed : IsNotedIn noted begun number classes now first) where
+    (numbered : number ≡ begun + length members.items) (changed : IsJoinedIn noted begun number classes now first) where
   abbrev count : ℕ
   count = length members.items
 
@@ -212,27 +223,27 @@ module _ (members : Vec Member Global) (begun : ℕ) (classes : Classes) (next :
       by_topic false other = by_removal (removes_method_by noted.kind u noted) other
 
   -- with the member behind the others all is sound
-  module _ (new : Vec Member Global) (own : ℕ) (group : own ≡ first - begun) (is : new.items ≡ added members.items noted own) (fits : begun + count + 1 < 2 ^ 64) where
+  module _ (new : Vec Member Global) (own : ℕ) (leaves_out : Bool) (right : leaves_out ≡ true → is_new noted ≡ true) (group : own ≡ first - begun) (is : new.items ≡ added_as leaves_out members.items noted own) (fits : begun + count + 1 < 2 ^ 64) where
     abbrev after : List Member
-    after = added members.items noted (number_of noted count slot)
+    after = added_as leaves_out members.items noted (number_of noted count slot)
 
     pub items_after : new.items ≡ after
-    items_after = is ∙ ap (added members.items noted) (group ∙ group_is)
+    items_after = is ∙ ap (added_as leaves_out members.items noted) (group ∙ group_is)
 
     count_after : length new.items ≡ count + 1
     count_after =
-        ap length items_after ∙ length_added members.items noted (number_of noted count slot) sound.within (group_within members.items noted slot sound.within sound.tied)
+        ap length items_after ∙ length_added leaves_out members.items noted (number_of noted count slot) sound.within (group_within members.items noted slot sound.within sound.tied)
 
     pub sound_after : IsSound new begun now None
     sound_after = record {
       fits = omega (arith, fits, count_after);
       within = subst (λ n. All (IsWithin n) new.items) (sym count_after)
           (All-same (IsWithin (count + 1)) new.items after items_after
-          (within_added members.items noted (number_of noted count slot) sound.within (group_within members.items noted slot sound.within sound.tied)));
+          (within_added leaves_out members.items noted (number_of noted count slot) sound.within (group_within members.items noted slot sound.within sound.tied)));
       removed = λ class. subst (λ n. removed_in now class ≤ begun + n) (sym count_after) (removed_now class);
       groups = λ u g there. subst (λ n. g < begun + n) (sym count_after) (groups_now u g there);
       tied = λ u. subst (λ xs. IsTied xs u (group_here begun now u)) (sym items_after)
-          (subst (IsTied after u) (sym (slots_now u)) (tied_added members.items noted slot sound.within sound.tied u));
+          (subst (IsTied after u) (sym (slots_now u)) (tied_added members.items noted slot sound.within sound.tied leaves_out right u));
       ready = λ m none. absurd (none-some m none);
     }
 

@@ -1,5 +1,5 @@
 -- What is kept of a list beside its classes and methods, step by step: its change set, and the places of the versions of each method.
-use Rattle.std.specs.Prelude.{◌≡◌, ℕ, List, [], map as list_map, reverse, option_map, Option, Some, None}
+use Rattle.std.specs.Prelude.{◌≡◌, ℕ, List, [], ◌∷◌, if◌then◌else◌, map as list_map, reverse, option_map, Option, Some, None}
 use Rattle.std.specs.Option.{option_map_or}
 use Rattle.std.specs.Map.{lookup}
 use Rattle.std.specs.Str.{bytes_eq}
@@ -11,7 +11,7 @@ use Rattle.s80_change.specs.declared.change.Change.TheVariants.{Form, Method, Do
 use Rattle.s80_history.specs.declared.noted.Noted.{Noted}
 use Rattle.s80_history.specs.declared.noted.NotedKind.{NotedKind}
 use Rattle.s80_history.specs.declared.noted.NotedKind.TheVariants as kinds
-use Rattle.s80_history.specs.Lists.{MethodName, named, set_of, versions_of}
+use Rattle.s80_history.specs.Lists.{MethodName, is_same, named, set_of, versions_of}
 
 -- ---- what is noted of a change
 
@@ -63,6 +63,10 @@ none_noted = record { members = []; versions = []; ready = None }
 -- the places of the versions of a method, the newest first
 abbrev pub version_places : HistoryState → MethodName → List ℕ
 version_places h name = reverse (option_map_or (λ versions. places_under (places_on versions name.side) name.selector) (lookup (bytes_eq name.class_name) h.versions) [])
+
+-- the places of the versions of any method, where one has a version more, which is its newest
+abbrev pub with_newest : MethodName → ℕ → MethodName → List ℕ → List ℕ
+with_newest own at name places = if is_same name own then at ∷ places else places
 
 -- the places of the members
 abbrev pub set_places : HistoryState → List ℕ

@@ -1,5 +1,5 @@
 -- The members of a change set in groups.
-use Rattle.std.specs.Prelude.{ℕ, zero, suc, ◌<◌, nat_le, List, [], ◌∷◌, ◌++◌, length, slice_get, Option, Some, None, filter_map, if◌then◌else◌}
+use Rattle.std.specs.Prelude.{ℕ, Bool, zero, suc, ◌<◌, nat_le, List, [], ◌∷◌, ◌++◌, length, slice_get, Option, Some, None, filter_map, if◌then◌else◌}
 use Rattle.std.specs.Option.{option_map_or}
 use Rattle.s80_history.specs.declared.members.Member.{Member}
 use Rattle.s80_history.specs.declared.noted.Noted.{Noted}
@@ -40,10 +40,14 @@ with_last [] group last = []
 with_last (r ∷ members) zero last = record { noted = r.noted; group = r.group; last = last } ∷ members
 with_last (r ∷ members) (suc group) last = r ∷ with_last members group last
 
-abbrev pub added : List Member → Noted → ℕ → List Member
-added members noted group =
+-- whether or not it leaves out those of its group
+abbrev pub added_as : Bool → List Member → Noted → ℕ → List Member
+added_as leaves_out members noted group =
     let more = members ++ member noted group (length members) ∷ [] in
-    if is_new noted then with_last more group (length members) else more
+    if leaves_out then with_last more group (length members) else more
+
+abbrev pub added : List Member → Noted → ℕ → List Member
+added members noted group = added_as (is_new noted) members noted group
 
 -- ---- numbers of members
 

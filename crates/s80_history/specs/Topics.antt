@@ -38,6 +38,11 @@ is_new_by kinds.Comment = true
 is_new_by kinds.Method = true
 is_new_by _ = false
 
+-- as which a member that is restored joins those of its topic: a method's put as a classification, which leaves no version
+abbrev pub joining : NotedKind → NotedKind
+joining kinds.Method = kinds.Classify
+joining kind = kind
+
 -- whether it removes the method
 abbrev pub removes_method_by : NotedKind → Topic → Noted → Bool
 removes_method_by kinds.RemoveMethod (MethodOf name) m = is_same name (name_of m)

@@ -1,5 +1,5 @@
 -- What a list left of classes and methods, by their names.
-use Rattle.std.specs.Prelude.{◌≡◌, ℕ, ◌<◌, max, nat_le, cond, ◌&&◌, List, [], ◌∷◌, ◌++◌, map as list_map, Option, Some, None, option_and_then, is_some, IsSome, ⊤, Vec, vec_len, vec_capacity, if◌then◌else◌}
+use Rattle.std.specs.Prelude.{◌≡◌, ℕ, ◌<◌, max, nat_le, Bool, cond, ◌&&◌, List, [], ◌∷◌, ◌++◌, map as list_map, Option, Some, None, option_and_then, is_some, IsSome, ⊤, Vec, vec_len, vec_capacity, if◌then◌else◌}
 use Rattle.std.specs.Option.{option_map_or}
 use Rattle.std.specs.Global.{Global}
 use Rattle.std.specs.Map.{lookup}
@@ -142,6 +142,32 @@ pub record IsNotedIn (noted : Noted) (begun number : ℕ) (old new : Classes) (r
   pub removed : (class : List ℕ) → removed_in new class ≡ (if removes_class_by noted.kind class noted && is_some (held old class) then number else removed_in old class)
   pub versions : (name : MethodName) → versions_in new name ≡ versions_with noted name (versions_in old name)
   pub joins : result ≡ option_map_or (λ u. joined (first_joined begun old u) (group_in old u) number) (topic_of noted) number
+
+-- the same without the versions, which a member that is restored leaves as they are
+pub record IsJoinedIn (noted : Noted) (begun number : ℕ) (old new : Classes) (result : ℕ) : Type 0 where
+  pub groups : (u : Topic) → group_in new u ≡ group_with noted (first_joined begun old u) number u (group_in old u)
+  pub removed : (class : List ℕ) → removed_in new class ≡ (if removes_class_by noted.kind class noted && is_some (held old class) then number else removed_in old class)
+  pub joins : result ≡ option_map_or (λ u. joined (first_joined begun old u) (group_in old u) number) (topic_of noted) number
+
+-- ---- one version more, and no member
+
+abbrev pub versions_more : Bool → ℕ → List ℕ → List ℕ
+versions_more own at versions = if own then versions ++ at ∷ [] else versions
+
+pub record IsMoreAmong (selector : List ℕ) (at : ℕ) (old new : Methods) : Type 0 where
+  pub groups : (q : List ℕ) → group_seen (held new q) ≡ group_seen (held old q)
+  pub versions : (q : List ℕ) → versions_seen (held new q) ≡ versions_more (bytes_eq q selector) at (versions_seen (held old q))
+
+pub record IsMoreUnder (side : Side) (selector : List ℕ) (at : ℕ) (old new : ClassTrace) : Type 0 where
+  pub comment : new.comment ≡ old.comment
+  pub removed : new.removed ≡ old.removed
+  pub groups : (s : Side) (q : List ℕ) → group_seen (held (methods_on new s) q) ≡ group_seen (held (methods_on old s) q)
+  pub versions : (s : Side) (q : List ℕ) → versions_seen (held (methods_on new s) q) ≡ versions_more (same_side s side && bytes_eq q selector) at (versions_seen (held (methods_on old s) q))
+
+pub record IsMoreIn (name : MethodName) (at : ℕ) (old new : Classes) : Type 0 where
+  pub groups : (u : Topic) → group_in new u ≡ group_in old u
+  pub removed : (class : List ℕ) → removed_in new class ≡ removed_in old class
+  pub versions : (other : MethodName) → versions_in new other ≡ versions_more (is_same other name) at (versions_in old other)
 
 -- ---- room for one member more
 

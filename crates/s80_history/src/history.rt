@@ -1,14 +1,16 @@
 // What is kept of a list step by step.
-ghost use Rattle.std.specs.Prelude.{◌≡◌, ◌∷◌, [], ◌++◌, All, List, length, map as list_map, slice_get, IfOk, IfSome, OnOk};
+ghost use Rattle.std.specs.Prelude.{◌≡◌, ◌∷◌, [], ◌++◌, All, List, length, map as list_map, option_copied, slice_get, IfOk, IfSome, OnErr, OnOk};
 ghost use Rattle.s80_change.specs.declared.change.Change.{Change};
 ghost use Rattle.s80_change.specs.Block.{IsLawful, blocks};
 ghost use Rattle.s80_history.specs.Lists.{MethodName, set_of, versions_of};
-ghost use Rattle.s80_history.specs.History.{IsHistoryOf, IsReadyFor, none_noted, noting, set_places, version_places};
+ghost use Rattle.s80_history.specs.History.{IsHistoryOf, IsReadyFor, none_noted, noting, set_places, version_places, with_newest};
 ghost use Rattle.s80_history.specs.Traces.{AreAlikeIn, HasPlaceIn};
 
-use crate::members::{Member, add, count, place_at, places};
-use crate::noted::{Noted, is_no_changes, noted_of};
-use crate::trace::{ClassTrace, make_place, newest, newest_first, note, versions};
+use crate::members::{Member, add, count, listed, member_at, place_at, places, restore};
+use crate::noted::{Noted, is_no_changes, joining, noted_of};
+use crate::trace::{
+    ClassTrace, add_version, make_method_room, make_place, newest, newest_first, note, versions,
+};
 use indexmap::IndexMap;
 use s80_base::{OutOfMemory, Side, Text};
 use s80_change::Change;
@@ -93,6 +95,49 @@ impl History {
         add(&mut self.members, noted, (first - self.begun) as usize);
     }
 
+    /// Adds a member at the end of the set, as a set that was kept is built again from its members. It leaves out none, and the members that
+    /// are noted later leave it out as they would have where it was kept. No version comes with it. What was reserved is let go.
+    pub fn restore_member(&mut self, alloc: Global, member: Noted) -> Result<(), OutOfMemory>
+        ensures ok { OnOk result (self.new.members ≡ self.old.members ++ member ∷ []) }
+        ensures err { OnErr result (self.new.members ≡ self.old.members) }
+        ensures versions { (name : MethodName) → version_places self.new name ≡ version_places self.old name }
+    {
+        self.next = None;
+        self.members.reserve(1)?;
+        let number = self.begun + self.members.len() as u64;
+        if number == u64::MAX {
+            return Err(OutOfMemory);
+        }
+        let mut member = member;
+        let kind = member.kind;
+        member.kind = joining(kind);
+        make_place(&mut self.classes, alloc, &member)?;
+        let first = note(&mut self.classes, &member, self.begun, number);
+        member.kind = kind;
+        restore(&mut self.members, member, (first - self.begun) as usize);
+        Ok(())
+    }
+
+    /// Adds a newest version of a method, as its versions are built again, and leaves the set. What was reserved is let go.
+    pub fn restore_version(
+        &mut self,
+        alloc: Global,
+        class_name: &Text,
+        side: Side,
+        selector: &Text,
+        at: u64,
+    ) -> Result<(), OutOfMemory>
+        ensures members { self.new.members ≡ self.old.members }
+        ensures ok { OnOk result ((name : MethodName) → version_places self.new name
+            ≡ with_newest (record { class_name = class_name.now; side = side; selector = selector.now }) at name (version_places self.old name)) }
+        ensures err { OnErr result ((name : MethodName) → version_places self.new name ≡ version_places self.old name) }
+    {
+        self.next = None;
+        make_method_room(&mut self.classes, alloc, class_name, side, selector)?;
+        add_version(&mut self.classes, class_name, side, selector, at);
+        Ok(())
+    }
+
     /// How many changes the set has. It passes over all that were noted since the set began.
     pub fn set_count(&self) -> usize
         ensures { result ≡ length self.now.members }
@@ -113,6 +158,21 @@ impl History {
         ensures of { (changes : List Change) → IsHistoryOf self.now changes → result ≡ slice_get (list_map (λ p. p.0) (set_of changes)) i }
     {
         place_at(&self.members, i)
+    }
+
+    /// The i-th member of the set, the oldest being that of 0; None past the last. It passes over those before it, where `members` gives all in
+    /// one pass.
+    pub fn member_at(&self, i: usize) -> Option<&Noted>
+        ensures { option_copied result ≡ slice_get self.now.members i }
+    {
+        member_at(&self.members, i)
+    }
+
+    /// The members of the set, the oldest first.
+    pub fn members(&self, alloc: Global) -> Result<Vec<&Noted>, OutOfMemory>
+        ensures { IfOk result (λ members. list_map (λ m. m.now) members.items ≡ self.now.members) }
+    {
+        listed(alloc, &self.members)
     }
 
     /// The place of the i-th newest version of a method, the newest being that of 0; None past the oldest.

@@ -1,6 +1,6 @@
 // The members of a change set in groups, in which a later one leaves out earlier ones.
-ghost use Rattle.std.specs.Prelude.{◌≡◌, ◌<◌, ◌≤◌, All, None, get_or, length, map as list_map, option_map, slice_get, vec_capacity, vec_len, IfOk};
-ghost use Rattle.s80_history.specs.Members.{IsWithin, added, gaps, in_set};
+ghost use Rattle.std.specs.Prelude.{◌≡◌, ◌<◌, ◌≤◌, All, None, false, get_or, length, map as list_map, option_copied, option_map, slice_get, vec_capacity, vec_len, IfOk};
+ghost use Rattle.s80_history.specs.Members.{IsWithin, added, added_as, gaps, in_set};
 
 use crate::noted::{Noted, is_new};
 use s80_base::OutOfMemory;
@@ -34,18 +34,37 @@ pub(crate) fn add(members: &mut Vec<Member>, noted: Noted, group: usize)
     }
 }
 
+/// Adds a member behind the others, which leaves out none. Takes no memory.
+pub(crate) fn restore(members: &mut Vec<Member>, noted: Noted, group: usize)
+    requires { vec_len members.old < vec_capacity members.old }
+    ensures { members.new.items ≡ added_as false members.old.items noted group }
+{
+    let last = members.len();
+    members.push_reserved(Member { noted, group, last });
+}
+
+/// The member of this number, if no later one left it out.
+fn kept(members: &[Member], i: usize) -> Option<&Noted>
+    requires within { i < length members.now }
+    requires groups { All (IsWithin (length members.now)) members.now }
+    ensures { option_copied result ≡ get_or (gaps members.now) i None }
+{
+    let member = &members[i];
+    if members[member.group].last <= i {
+        Some(&member.noted)
+    } else {
+        None
+    }
+}
+
 /// The place of the member of this number, if no later one left it out.
 fn place_of(members: &[Member], i: usize) -> Option<u64>
     requires within { i < length members.now }
     requires groups { All (IsWithin (length members.now)) members.now }
     ensures { result ≡ option_map (λ m. m.at) (get_or (gaps members.now) i None) }
 {
-    let member = &members[i];
-    if members[member.group].last <= i {
-        Some(member.noted.at)
-    } else {
-        None
-    }
+    let noted = kept(members, i)?;
+    Some(noted.at)
 }
 
 /// How many members no later one left out. It passes over all.
@@ -89,4 +108,35 @@ pub(crate) fn place_at(members: &[Member], i: usize) -> Option<u64>
         }
     }
     None
+}
+
+/// The i-th of them, the oldest being that of 0.
+pub(crate) fn member_at(members: &[Member], i: usize) -> Option<&Noted>
+    requires { All (IsWithin (length members.now)) members.now }
+    ensures { option_copied result ≡ slice_get (in_set members.now) i }
+{
+    let mut left = i;
+    for k in 0..members.len() {
+        if let Some(noted) = kept(members, k) {
+            if left == 0 {
+                return Some(noted);
+            }
+            left -= 1;
+        }
+    }
+    None
+}
+
+/// All of them, the oldest first.
+pub(crate) fn listed(alloc: Global, members: &[Member]) -> Result<Vec<&Noted>, OutOfMemory>
+    requires { All (IsWithin (length members.now)) members.now }
+    ensures { IfOk result (λ listed. list_map (λ m. m.now) listed.items ≡ in_set members.now) }
+{
+    let mut listed = Vec::new(alloc);
+    for i in 0..members.len() {
+        if let Some(noted) = kept(members, i) {
+            listed.push(noted)?;
+        }
+    }
+    Ok(listed)
 }

@@ -3,7 +3,7 @@ ghost use Rattle.std.specs.Prelude.{◌≡◌, Some, IfOk};
 ghost use Rattle.s80_change.specs.declared.change.Change.TheVariants as change;
 ghost use Rattle.s80_history.specs.History.{noting, of_class, of_method};
 ghost use Rattle.s80_history.specs.Lists.{is_no_changes};
-ghost use Rattle.s80_history.specs.Topics.{is_new_by};
+ghost use Rattle.s80_history.specs.Topics.{is_new_by, joining};
 
 use s80_base::{OutOfMemory, Side, Text};
 use s80_change::{Change, Form, Method};
@@ -37,6 +37,21 @@ pub(crate) fn is_new(kind: NotedKind) -> bool
     ensures { result ≡ is_new_by kind }
 {
     matches!(kind, NotedKind::Comment | NotedKind::Method)
+}
+
+/// The kind as which a member that is restored joins its group, so that it leaves no version.
+pub(crate) fn joining(kind: NotedKind) -> NotedKind
+    ensures { result ≡ joining kind }
+{
+    match kind {
+        NotedKind::Method => NotedKind::Classify,
+        NotedKind::Define
+        | NotedKind::ClassVars
+        | NotedKind::Comment
+        | NotedKind::RemoveMethod
+        | NotedKind::Classify
+        | NotedKind::RemoveClass => kind,
+    }
 }
 
 pub(crate) fn is_no_changes(change: &Change) -> bool

@@ -1,7 +1,6 @@
 // What a list left of classes and methods, by their names: their versions, and which members a later one leaves out.
-ghost use Rattle.std.specs.Prelude.{◌≡◌, ℕ, [], max, List, None, IfOk, OnOk, option_copied, reverse, slice_get, Some, IsSome};
-ghost use Rattle.s80_history.specs.Topics.{name_of};
-ghost use Rattle.s80_history.specs.Traces.{AreAlike, AreAlikeIn, AreAlikeUnder, HasPlace, HasPlaceIn, HasRoom, IsNotedAmong, IsNotedIn, IsNotedOf, IsNotedOnSide, IsNotedUnder, held, joined, method_in, methods_on, versions_in};
+ghost use Rattle.std.specs.Prelude.{◌≡◌, ◌++◌, ◌∷◌, ℕ, [], max, List, None, IfOk, OnOk, option_copied, reverse, slice_get, Some, IsSome};
+ghost use Rattle.s80_history.specs.Traces.{AreAlike, AreAlikeIn, AreAlikeUnder, HasPlace, HasPlaceIn, HasRoom, IsMoreAmong, IsMoreIn, IsMoreUnder, IsNotedAmong, IsNotedIn, IsNotedOf, IsNotedOnSide, IsNotedUnder, held, joined, method_in, methods_on, versions_in};
 
 use crate::noted::{Noted, NotedKind};
 use indexmap::IndexMap;
@@ -53,6 +52,14 @@ impl MethodTrace {
         }
     }
 
+    fn add_version(&mut self, at: u64)
+        requires { HasRoom (Some self.old) }
+        ensures versions { self.new.versions.items ≡ self.old.versions.items ++ at ∷ [] }
+        ensures group { self.new.group ≡ self.old.group }
+    {
+        self.versions.push_reserved(at);
+    }
+
     /// Notes a member on the method. Answers the first of its group.
     fn note(&mut self, noted: &Noted, from: u64, number: u64) -> u64
         requires { HasPlace noted.now.kind (Some self.old) }
@@ -73,6 +80,16 @@ impl MethodTrace {
             | NotedKind::Comment
             | NotedKind::RemoveClass => number,
         }
+    }
+}
+
+/// Adds a newest version to a method of one side of a class. Takes no memory.
+fn add_version_among(methods: &mut IndexMap<Vec<u8>, MethodTrace>, selector: &Text, at: u64)
+    requires { HasRoom (held methods.old.entries selector.now) }
+    ensures { IsMoreAmong selector.now at methods.old.entries methods.new.entries }
+{
+    if let Some(method) = methods.get_mut(selector.bytes()) {
+        method.add_version(at);
     }
 }
 
@@ -178,6 +195,16 @@ impl ClassTrace {
         }
     }
 
+    fn add_version(&mut self, side: Side, selector: &Text, at: u64)
+        requires { HasRoom (held (methods_on self.old side) selector.now) }
+        ensures { IsMoreUnder side selector.now at self.old self.new }
+    {
+        match side {
+            Side::Instance => add_version_among(&mut self.instance, selector, at),
+            Side::Class => add_version_among(&mut self.class, selector, at),
+        }
+    }
+
     fn make_room(&mut self, alloc: Global, side: Side, selector: &Text) -> Result<(), OutOfMemory>
         ensures same { AreAlikeUnder self.old self.new }
         ensures room { OnOk result (HasRoom (held (methods_on self.new side) selector.now)) }
@@ -216,7 +243,9 @@ pub(crate) fn make_place(
 {
     match noted.kind {
         NotedKind::Comment => add_class(classes, alloc, &noted.class_name),
-        NotedKind::Method | NotedKind::Classify => make_method_room(classes, alloc, noted),
+        NotedKind::Method | NotedKind::Classify => {
+            make_method_room(classes, alloc, &noted.class_name, noted.side, &noted.selector)
+        }
         NotedKind::Define
         | NotedKind::ClassVars
         | NotedKind::RemoveMethod
@@ -224,17 +253,36 @@ pub(crate) fn make_place(
     }
 }
 
-fn make_method_room(
+/// Gives a method room for one more version.
+pub(crate) fn make_method_room(
     classes: &mut IndexMap<Vec<u8>, ClassTrace>,
     alloc: Global,
-    noted: &Noted,
+    class_name: &Text,
+    side: Side,
+    selector: &Text,
 ) -> Result<(), OutOfMemory>
     ensures same { AreAlikeIn classes.old.entries classes.new.entries }
-    ensures room { OnOk result (HasRoom (method_in classes.new.entries (name_of noted.now))) }
+    ensures room { OnOk result (HasRoom (method_in classes.new.entries (record { class_name = class_name.now; side = side; selector = selector.now }))) }
 {
-    add_class(classes, alloc, &noted.class_name)?;
-    let class = classes.get_mut(noted.class_name.bytes()).unwrap();
-    class.make_room(alloc, noted.side, &noted.selector)
+    add_class(classes, alloc, class_name)?;
+    let class = classes.get_mut(class_name.bytes()).unwrap();
+    class.make_room(alloc, side, selector)
+}
+
+/// Adds a newest version to a method. Takes no memory.
+pub(crate) fn add_version(
+    classes: &mut IndexMap<Vec<u8>, ClassTrace>,
+    class_name: &Text,
+    side: Side,
+    selector: &Text,
+    at: u64,
+)
+    requires { HasRoom (method_in classes.old.entries (record { class_name = class_name.now; side = side; selector = selector.now })) }
+    ensures { IsMoreIn (record { class_name = class_name.now; side = side; selector = selector.now }) at classes.old.entries classes.new.entries }
+{
+    if let Some(class) = classes.get_mut(class_name.bytes()) {
+        class.add_version(side, selector, at);
+    }
 }
 
 /// The class without any trace, where it has none so far.

@@ -3,8 +3,10 @@ use Rattle.s80_history.specs.declared.noted.Noted.{Noted}
 use Rattle.s80_history.specs.History.{HistoryState, noting}
 use Rattle.s80_history.specs.Members.{in_set}
 use Rattle.s80_history.specs.Sound.{IsRoomFor, group_here}
+use Rattle.s80_history.specs.Topics.{is_new}
+use Rattle.s80_history.specs.Traces.{IsJoinedIn}
 use Rattle.s80_history.proofs.Continuing.{history_noted, history_passed, noted_at}
-use Rattle.s80_history.proofs.Stepping.{group_before, items_after, placed_anywhere, sound_after, sound_anew}
+use Rattle.s80_history.proofs.Stepping.{group_before, items_after, joins_of, placed_anywhere, sound_after, sound_anew}
 use Rattle.s80_history.proofs.Tying.{set_added}
 use Rattle.s80_history.proofs.history.History.note.Goals as goal
 use Rattle.s80_history.proofs.history.History.note.Goals.{After-note-first, In-Some, In_default}
@@ -20,6 +22,9 @@ room c = c.self.invariant.ready c.in-Some.noted (sym c.in-Some.ensures.value)
 readied : (c : In-Some) → Some c.in-Some.noted ≡ noting 0 c.args.change.now
 readied c = c.in-Some.ensures.value ∙ ap (λ (h : HistoryState). h.ready) c.self.view_is ∙ c.requires
 
+joins : (c : After-note-first) → IsJoinedIn (record c.in-Some.noted { at = c.args.at }) c.self.inside.begun (c.self.inside.begun + c.len-2.result) c.self.inside.classes.entries c.note-first.new.classes.entries c.note-first.result
+joins c = joins_of (record c.in-Some.noted { at = c.args.at }) c.self.inside.begun (c.self.inside.begun + c.len-2.result) c.self.inside.classes.entries c.note-first.new.classes.entries c.note-first.result c.note-first.ensures
+
 numbered : (c : After-note-first) → c.self.inside.begun + c.len-2.result ≡ c.self.inside.begun + length c.self.inside.members.items
 numbered c = let counted : c.len-2.result ≡ length c.self.inside.members.items = search rules in ap (λ n. c.self.inside.begun + n) counted
 
@@ -33,14 +38,14 @@ pub add-requires-clause-group : goal.add-requires-clause-group
 add-requires-clause-group c =
     let at = goal.at.add-requires-clause-group c in
     group_before c.self.inside.members c.self.inside.begun c.self.inside.classes.entries c.self.inside.next (noted at.In-Some) c.note-first.new.classes.entries
-    (c.self.inside.begun + c.len-2.result) c.note-first.result c.self.invariant (numbered at.After-note-first) c.note-first.ensures
+    (c.self.inside.begun + c.len-2.result) c.note-first.result c.self.invariant (numbered at.After-note-first) (joins at.After-note-first)
 
 pub invariant_of-self-2 : goal.invariant_of-self-2
 invariant_of-self-2 c =
     let at = goal.at.invariant_of-self-2 c in
     rw c.take.ensures.after
     (sound_after c.self.inside.members c.self.inside.begun c.self.inside.classes.entries c.self.inside.next (noted at.In-Some) c.note-first.new.classes.entries
-    (c.self.inside.begun + c.len-2.result) c.note-first.result c.self.invariant (numbered at.After-note-first) c.note-first.ensures c.add.new.members (c.note-first.result - c.self.inside.begun) refl
+    (c.self.inside.begun + c.len-2.result) c.note-first.result c.self.invariant (numbered at.After-note-first) (joins at.After-note-first) c.add.new.members (c.note-first.result - c.self.inside.begun) (is_new (noted at.In-Some)) (λ new. new) refl
     c.add.ensures (room at.In-Some).number)
 
 pub returns : goal.returns
@@ -49,7 +54,7 @@ returns c = λ changes lawful here history.
     let inside = c.self.inside in
     let m = noted at.In-Some in
     let items = items_after inside.members inside.begun inside.classes.entries inside.next m c.note-first.new.classes.entries (inside.begun + c.len-2.result) c.note-first.result c.self.invariant
-    (numbered at.After-note-first) c.note-first.ensures c.add.new.members (c.note-first.result - inside.begun) refl c.add.ensures (room at.In-Some).number in
+    (numbered at.After-note-first) (joins at.After-note-first) c.add.new.members (c.note-first.result - inside.begun) (is_new m) (λ new. new) refl c.add.ensures (room at.In-Some).number in
     history_noted inside.members.items inside.classes.entries inside.next c.args.self.now c.self.view_is c.args.change.now c.args.at changes here history m c.add.new.members.items
     c.note-first.new.classes.entries c.take.new.self (noted_at c.args.change.now c.args.at c.in-Some.noted (readied at.In-Some))
     (ap in_set items ∙ set_added inside.members.items m (group_here inside.begun inside.classes.entries) c.self.invariant.within c.self.invariant.tied) c.note-first.ensures.versions

@@ -1,5 +1,5 @@
 use Rattle.s80_history.proofs.Counting.{kept_read, left_read}
-use Rattle.s80_history.proofs.members.place_of.Goals as goal
+use Rattle.s80_history.proofs.members.kept.Goals as goal
 
 pub returns-then-members-member : goal.returns-then-members-member
 returns-then-members-member c =
