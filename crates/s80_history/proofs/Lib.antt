@@ -2,6 +2,8 @@ mod Continuing
 mod Counting
 mod Emptying
 mod Grouping
+mod Kept
+mod Keying
 mod Naming
 mod Noting
 mod OneMore

@@ -5,3 +5,5 @@ pub mod Coded
 pub mod Members
 pub mod Traces
 pub mod Sound
+pub mod Order
+pub mod Keys

@@ -1,11 +1,13 @@
 // What is kept of a list step by step.
-ghost use Rattle.std.specs.Prelude.{◌≡◌, ◌∷◌, [], ◌++◌, All, List, length, map as list_map, option_copied, slice_get, IfOk, IfSome, OnErr, OnOk};
+ghost use Rattle.std.specs.Prelude.{◌≡◌, ◌∷◌, [], ◌++◌, All, List, length, map as list_map, option_copied, option_map, slice_get, IfOk, IfSome, OnErr, OnOk};
 ghost use Rattle.s80_change.specs.declared.change.Change.{Change};
 ghost use Rattle.s80_change.specs.Block.{IsLawful, blocks};
 ghost use Rattle.s80_history.specs.Lists.{MethodName, set_of, versions_of};
 ghost use Rattle.s80_history.specs.History.{IsHistoryOf, IsReadyFor, none_noted, noting, set_places, version_places, with_newest};
+ghost use Rattle.s80_history.specs.Order.{AreMethodsOf};
 ghost use Rattle.s80_history.specs.Traces.{AreAlikeIn, HasPlaceIn};
 
+use crate::keys::{MethodKey, key_at, key_of, put, put_next};
 use crate::members::{Member, add, count, listed, member_at, place_at, places, restore};
 use crate::noted::{Noted, is_no_changes, joining, noted_of};
 use crate::trace::{
@@ -18,7 +20,8 @@ use std::alloc::Global;
 use std::marker::Model;
 
 /// The change set of a list of changes, and the places of all versions of each method, whatever was removed since (Goldberg, "Smalltalk-80:
-/// The Interactive Programming Environment"). Each step of the list is noted in constant time, which no contract says.
+/// The Interactive Programming Environment"). Each step of the list is noted in constant time, which no contract says; but a method's name is
+/// sought among those that have versions, which stand in order, and a new one moves those behind it.
 #[derive(Debug, Drop)]
 pub struct History {
     members: Vec<Member>,
@@ -27,11 +30,16 @@ pub struct History {
     classes: IndexMap<Vec<u8>, ClassTrace>,
     /// The member for which memory is found.
     next: Option<Noted>,
+    /// The methods that have versions, in order.
+    keys: Vec<MethodKey>,
+    /// The method that the member puts for which memory is found.
+    next_key: Option<MethodKey>,
 }
 
 impl Model for History {
     ghost use Rattle.s80_history.specs.Coded.{history_code};
     ghost use Rattle.s80_history.specs.History.{HistoryState};
+    ghost use Rattle.s80_history.specs.Keys.{AreKept};
     ghost use Rattle.s80_history.specs.Members.{in_set};
     ghost use Rattle.s80_history.specs.Sound.{IsSound};
     ghost use Rattle.s80_history.specs.Traces.{versions_of_classes};
@@ -42,7 +50,7 @@ impl Model for History {
 
     ghost view = { λ h. record { members = in_set h.members.items; versions = versions_of_classes h.classes.entries; ready = h.next } };
 
-    ghost invariant = { λ h. IsSound h.members h.begun h.classes.entries h.next };
+    ghost invariant = { λ h. IsSound h.members h.begun h.classes.entries h.next × AreKept h.classes.entries h.keys h.next h.next_key };
 }
 
 impl History {
@@ -56,6 +64,8 @@ impl History {
             begun: 0,
             classes: IndexMap::new(alloc),
             next: None,
+            keys: Vec::new(alloc),
+            next_key: None,
         }
     }
 
@@ -67,12 +77,16 @@ impl History {
         ensures of { (changes : List Change) → IsHistoryOf self.old changes → IsHistoryOf self.new changes }
     {
         self.next = None;
+        self.next_key = None;
         self.members.reserve(1)?;
         let number = self.begun + self.members.len() as u64;
         if number == u64::MAX {
             return Err(OutOfMemory);
         }
-        self.next = ready(&mut self.classes, alloc, change)?;
+        self.keys.reserve(1)?;
+        let noted = ready(&mut self.classes, alloc, change)?;
+        self.next_key = key_of(alloc, &noted)?;
+        self.next = noted;
         Ok(())
     }
 
@@ -93,6 +107,7 @@ impl History {
         let number = self.begun + self.members.len() as u64;
         let first = note(&mut self.classes, &noted, self.begun, number);
         add(&mut self.members, noted, (first - self.begun) as usize);
+        put_next(&mut self.keys, self.next_key.take());
     }
 
     /// Adds a member at the end of the set, as a set that was kept is built again from its members. It leaves out none, and the members that
@@ -103,6 +118,7 @@ impl History {
         ensures versions { (name : MethodName) → version_places self.new name ≡ version_places self.old name }
     {
         self.next = None;
+        self.next_key = None;
         self.members.reserve(1)?;
         let number = self.begun + self.members.len() as u64;
         if number == u64::MAX {
@@ -133,8 +149,12 @@ impl History {
         ensures err { OnErr result ((name : MethodName) → version_places self.new name ≡ version_places self.old name) }
     {
         self.next = None;
+        self.next_key = None;
+        self.keys.reserve(1)?;
+        let key = MethodKey::copied(alloc, class_name, side, selector)?;
         make_method_room(&mut self.classes, alloc, class_name, side, selector)?;
         add_version(&mut self.classes, class_name, side, selector, at);
+        put(&mut self.keys, key);
         Ok(())
     }
 
@@ -173,6 +193,23 @@ impl History {
         ensures { IfOk result (λ members. list_map (λ m. m.now) members.items ≡ self.now.members) }
     {
         listed(alloc, &self.members)
+    }
+
+    /// How many methods have versions, whether or not they are there any more.
+    pub fn key_count(&self) -> usize
+        ensures { (names : List MethodName) → AreMethodsOf self.now names → result ≡ length names }
+    {
+        self.keys.len()
+    }
+
+    /// The i-th of the methods that have versions, in the byte order of their classes, then the instance side before the class side, then in the
+    /// byte order of their selectors; None past the last.
+    pub fn key_at(&self, i: usize) -> Option<(&Text, Side, &Text)>
+        ensures key { (names : List MethodName) → AreMethodsOf self.now names
+            → option_map (λ k. record { class_name = k.0.now; side = k.1; selector = k.2.now }) result ≡ slice_get names i }
+        ensures names { (names : List MethodName) × AreMethodsOf self.now names }
+    {
+        key_at(&self.keys, i)
     }
 
     /// The place of the i-th newest version of a method, the newest being that of 0; None past the oldest.

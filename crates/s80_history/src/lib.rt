@@ -2,9 +2,12 @@
 #![tactic(auto)]
 
 mod history;
+mod keys;
+mod laws;
 mod members;
 mod noted;
 mod trace;
 
 pub use history::History;
+pub use laws::a_history_is_its_members_and_places;
 pub use noted::{Noted, NotedKind};

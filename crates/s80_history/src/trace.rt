@@ -244,7 +244,13 @@ pub(crate) fn make_place(
     match noted.kind {
         NotedKind::Comment => add_class(classes, alloc, &noted.class_name),
         NotedKind::Method | NotedKind::Classify => {
-            make_method_room(classes, alloc, &noted.class_name, noted.side, &noted.selector)
+            make_method_room(
+                classes,
+                alloc,
+                &noted.class_name,
+                noted.side,
+                &noted.selector,
+            )
         }
         NotedKind::Define
         | NotedKind::ClassVars
