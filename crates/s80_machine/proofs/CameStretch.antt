@@ -20,6 +20,8 @@ use Rattle.s80_machine.specs.Turn as turn
 use Rattle.s80_machine.specs.Step.{act, jump, store, turn_at}
 use Rattle.s80_machine.specs.Counted.{block_in}
 use Rattle.s80_machine.specs.Seen.{Given, listing}
+use Rattle.s80_machine.specs.declared.quick.Quick.{Quick}
+use Rattle.s80_machine.specs.Quick.{IsQuick}
 use Rattle.s80_machine.specs.Stretch.{Leads, LeadsFar, LeadsOn, Local, Tries, local, stored_in, world_of}
 use Rattle.s80_machine.proofs.KeptListings.{some_listed}
 use Rattle.s80_machine.proofs.SeenStacks.{seen_first}
@@ -137,16 +139,16 @@ module _ (on : Given) (code : Code) (next ticks : ℕ) where
 
 -- ---- so many instructions
 
-pub record KeepsOn (budget : ℕ) (entries : List (Option (Instruction × ℕ))) (old new : Local) : Type 0 where
+pub record KeepsOn (q : Quick) (entries : List (Option (Instruction × ℕ))) (old new : Local) : Type 0 where
   pub stays : block_in new.context.activation ≡ block_in old.context.activation
-  pub goes : (on : Given) (code : Code) → on.budget ≡ budget → entries ≡ listing code.bytes → (n : ℕ) × LeadsFar on code n old new
+  pub goes : (on : Given) (code : Code) → IsQuick on q → entries ≡ listing code.bytes → (n : ℕ) × LeadsFar on code n old new
 
-module _ (budget : ℕ) (entries : List (Option (Instruction × ℕ))) where
-  pub keeps_first : (l : Local) → KeepsOn budget entries l l
+module _ (q : Quick) (entries : List (Option (Instruction × ℕ))) where
+  pub keeps_first : (l : Local) → KeepsOn q entries l l
   keeps_first l = record { stays = refl; goes = λ on code same listed. (0, refl) }
 
-  module _ (old mid new : Local) (keeps : KeepsOn budget entries old mid) (i : Instruction) (width next : ℕ) (there : slice_get entries mid.context.place ≡ Some (Some (i, width))) (sum : next ≡ mid.context.place + width)
-      (stays : block_in new.context.activation ≡ block_in mid.context.activation) (done : Bool) (tries : (on : Given) (code : Code) → on.budget ≡ budget → Tries on code i next mid new done) where
+  module _ (old mid new : Local) (keeps : KeepsOn q entries old mid) (i : Instruction) (width next : ℕ) (there : slice_get entries mid.context.place ≡ Some (Some (i, width))) (sum : next ≡ mid.context.place + width)
+      (stays : block_in new.context.activation ≡ block_in mid.context.activation) (done : Bool) (tries : (on : Given) (code : Code) → IsQuick on q → Tries on code i next mid new done) where
     leads_on : (on : Given) (code : Code) → entries ≡ listing code.bytes → Leads on code i next mid new → LeadsOn on code mid new
     leads_on on code listed leads =
         let is : decoded (drop mid.context.place code.bytes) ≡ Some (i, width) = some_listed code.bytes mid.context.place (Some (i, width)) (ap (λ es. slice_get es mid.context.place) (sym listed) ∙ there) in
@@ -157,7 +159,7 @@ module _ (budget : ℕ) (entries : List (Option (Instruction × ℕ))) where
               ∙ ap (λ to. act on.table on.methods on.code on.budget code mid.context to rest (world_of mid w) i) (sym sum) ∙ leads.step rest w;
         }
 
-    pub keeps_more : KeepsOn budget entries old new
+    pub keeps_more : KeepsOn q entries old new
     keeps_more = record { stays = stays ∙ keeps.stays; goes = λ on code same listed. by_done on code listed (keeps.goes on code same listed) done (tries on code same) }
       where
         by_done : (on : Given) (code : Code) → entries ≡ listing code.bytes → (n : ℕ) × LeadsFar on code n old mid → (done : Bool) → Tries on code i next mid new done → (n : ℕ) × LeadsFar on code n old new

@@ -13,3 +13,4 @@ pub mod Acts
 pub mod Messages
 pub mod Worked
 pub mod Stretch
+pub mod Quick

@@ -5,11 +5,13 @@ ghost use Rattle.s80_code.specs.declared.code.Code.{Code};
 ghost use Rattle.s80_machine.specs.Counted.{count_of, one_of};
 ghost use Rattle.s80_machine.specs.Seen.{Does, IsEnded, IsUnwound, below_home, message_taken, moved, popped, pushed, temporary_set, topped};
 ghost use Rattle.s80_machine.specs.Seen.{Given, listing};
+ghost use Rattle.s80_machine.specs.Quick.{IsQuick};
 ghost use Rattle.s80_machine.specs.Stretch.{LeadsFar, local};
 ghost use Rattle.s80_machine.specs.Turn.{is_active, Context as Active};
 
 use crate::context::{Activation, Context};
 use crate::halt::Halt;
+use crate::quick::Quick;
 use s80_base::OutOfMemory;
 use s80_code::Instruction;
 use s80_object::{Objects, Value};
@@ -171,18 +173,18 @@ impl Contexts {
     #[inline(always)]
     pub(crate) fn go_on(
         &mut self,
+        quick: &Quick,
         entries: &[Option<(Instruction, u32)>],
         objects: &mut Objects,
         ticks: &mut u64,
-        budget: u64,
     )
-        ensures { (on : Given) (code : Code) (c : Active) (rest : List Active) → on.budget ≡ budget → entries.now ≡ listing code.bytes → self.old ≡ c ∷ rest
+        ensures { (on : Given) (code : Code) (c : Active) (rest : List Active) → IsQuick on quick.now → entries.now ≡ listing code.bytes → self.old ≡ c ∷ rest
             → (new : Active) × (self.new ≡ new ∷ rest) × ((n : ℕ) × LeadsFar on code n (local c objects.old ticks.old) (local new objects.new ticks.new)) }
     {
         let Some(active) = self.contexts.last_mut() else {
             return;
         };
-        active.go_on(entries, objects, ticks, budget);
+        active.go_on(quick, entries, objects, ticks);
     }
 
     /// Ends the active context, and keeps its room.

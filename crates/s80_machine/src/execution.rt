@@ -90,11 +90,12 @@ fn finish<'a>(on: &Setting<'a>, machine: &mut Machine<'a>) -> Result<End, OutOfM
 {
     verified_code_is_never_stuck();
     each_step_leaves_less();
+    let quick = on.quick();
     if let Err(halt) = machine.start(on) {
         return ended(halt);
     }
     loop {
-        machine.go_on(on.budget);
+        machine.go_on(&quick);
         if let Err(halt) = machine.step(on) {
             return ended(halt);
         }

@@ -9,6 +9,7 @@ mod halt;
 mod laws;
 mod machine;
 mod methods;
+mod quick;
 mod selectors;
 mod sends;
 mod setting;

@@ -9,10 +9,12 @@ ghost use Rattle.s80_machine.specs.Turn.{State, place_at};
 ghost use Rattle.s80_machine.specs.Shared.{fixed};
 ghost use Rattle.s80_machine.specs.Seen.{Given, activation_of, listing};
 ghost use Rattle.s80_machine.specs.Came.{Shows};
+ghost use Rattle.s80_machine.specs.Quick.{IsQuick};
 ghost use Rattle.s80_machine.specs.Stretch.{LeadsFar, Reaches, Tries, local, stored_in};
 
 use crate::context::{Activation, Context};
 use crate::machine::Machine;
+use crate::quick::{AT, AT_PUT, Quick, item_of, put_item};
 use crate::sends::one_at_once;
 use crate::steps::as_bool;
 use s80_code::{Instruction, Storage, special_arguments};
@@ -20,8 +22,8 @@ use s80_object::{Objects, Value};
 
 impl<'a> Machine<'a> {
     /// Takes the instructions of the active context that need nothing else, up to one that does. What they can't do is left to `step`.
-    pub(crate) fn go_on(&mut self, budget: u64)
-        ensures { (on : Given) (s : State) → on.budget ≡ budget → Shows on self.old s → (t : State) × ((n : ℕ) × Reaches on n s t) × Shows on self.new t }
+    pub(crate) fn go_on(&mut self, quick: &Quick)
+        ensures { (on : Given) (s : State) → IsQuick on quick.now → Shows on self.old s → (t : State) × ((n : ℕ) × Reaches on n s t) × Shows on self.new t }
     {
         let Some(active) = self.contexts.active() else {
             return;
@@ -30,7 +32,7 @@ impl<'a> Machine<'a> {
             return;
         };
         self.contexts
-            .go_on(listing, &mut self.objects, &mut self.ticks, budget);
+            .go_on(quick, listing, &mut self.objects, &mut self.ticks);
     }
 }
 
@@ -38,13 +40,13 @@ impl Context {
     /// Takes the instructions of its code, which these entries list, from its place on, up to one that needs more.
     pub(crate) fn go_on(
         &mut self,
+        quick: &Quick,
         entries: &[Option<(Instruction, u32)>],
         objects: &mut Objects,
         ticks: &mut u64,
-        budget: u64,
     )
         ensures stays { block_in self.new.activation ≡ block_in self.old.activation }
-        ensures goes { (on : Given) (code : Code) → on.budget ≡ budget → entries.now ≡ listing code.bytes
+        ensures goes { (on : Given) (code : Code) → IsQuick on quick.now → entries.now ≡ listing code.bytes
             → (n : ℕ) × LeadsFar on code n (local self.old objects.old ticks.old) (local self.new objects.new ticks.new) }
     {
         for _ in 0..entries.len() {
@@ -54,7 +56,7 @@ impl Context {
             let Some(next) = self.place.checked_add(*width) else {
                 return;
             };
-            if !self.advance(*instruction, next, objects, ticks, budget) {
+            if !self.advance(quick, *instruction, next, objects, ticks) {
                 return;
             }
         }
@@ -64,14 +66,14 @@ impl Context {
     #[inline(always)]
     fn advance(
         &mut self,
+        quick: &Quick,
         instruction: Instruction,
         next: u32,
         objects: &mut Objects,
         ticks: &mut u64,
-        budget: u64,
     ) -> bool
         ensures stays { block_in self.new.activation ≡ block_in self.old.activation }
-        ensures tries { (on : Given) (code : Code) → on.budget ≡ budget
+        ensures tries { (on : Given) (code : Code) → IsQuick on quick.now
             → Tries on code instruction next (local self.old objects.old ticks.old) (local self.new objects.new ticks.new) result }
     {
         match instruction {
@@ -79,10 +81,12 @@ impl Context {
             Instruction::Store(Storage::Temporary(i)) => self.store_top(objects, i, next),
             Instruction::PopInto(Storage::Temporary(i)) => self.pop_into(objects, i, next),
             Instruction::PushFixed(number) => self.push_fixed(number, next),
-            Instruction::SendSpecial(number) => self.answer_at_once(number, next),
+            Instruction::SendSpecial(number) => {
+                self.answer_special(quick, objects, ticks, number, next)
+            }
             Instruction::Pop => self.drop_top(next),
             Instruction::Duplicate => self.push_again(next),
-            Instruction::Jump(distance) => self.jump_or_back(next, distance, ticks, budget),
+            Instruction::Jump(distance) => self.jump_or_back(next, distance, ticks, quick.budget),
             Instruction::JumpOnTrue(distance) => self.jump_on(true, next, distance),
             Instruction::JumpOnFalse(distance) => self.jump_on(false, next, distance),
             _ => false,
@@ -222,6 +226,73 @@ impl Context {
             return false;
         }
         self.stack.pop();
+        self.place = next;
+        true
+    }
+
+    // Answers a special message that has an answer at once, or is about an item of an Array.
+    #[inline(always)]
+    fn answer_special(
+        &mut self,
+        quick: &Quick,
+        objects: &mut Objects,
+        ticks: &mut u64,
+        number: u8,
+        next: u32,
+    ) -> bool
+        ensures stays { block_in self.new.activation ≡ block_in self.old.activation }
+        ensures tries { (on : Given) (code : Code) → IsQuick on quick.now
+            → Tries on code (SendSpecial number) next (local self.old objects.old ticks.old) (local self.new objects.new ticks.new) result }
+    {
+        if number == AT {
+            return self.read_item(quick, objects, ticks, next);
+        }
+        if number == AT_PUT {
+            return self.put_item(quick, objects, ticks, next);
+        }
+        self.answer_at_once(number, next)
+    }
+
+    // Reads an item of an Array.
+    #[inline(never)]
+    fn read_item(&mut self, quick: &Quick, objects: &Objects, ticks: &mut u64, next: u32) -> bool
+        ensures stays { block_in self.new.activation ≡ block_in self.old.activation }
+        ensures tries { (on : Given) (code : Code) → IsQuick on quick.now
+            → Tries on code (SendSpecial 16) next (local self.old objects.now ticks.old) (local self.new objects.now ticks.new) result }
+    {
+        let Some(below) = self.stack.len().checked_sub(2) else {
+            return false;
+        };
+        let (array, place) = (self.stack[below], self.stack[below + 1]);
+        let Some(item) = item_of(quick, objects, array, place) else {
+            return false;
+        };
+        if !counted(ticks, quick.budget) {
+            return false;
+        }
+        self.stack[below] = item;
+        self.stack.pop();
+        self.place = next;
+        true
+    }
+
+    // Puts an item of an Array.
+    #[inline(never)]
+    fn put_item(&mut self, quick: &Quick, objects: &mut Objects, ticks: &mut u64, next: u32) -> bool
+        ensures stays { block_in self.new.activation ≡ block_in self.old.activation }
+        ensures tries { (on : Given) (code : Code) → IsQuick on quick.now
+            → Tries on code (SendSpecial 17) next (local self.old objects.old ticks.old) (local self.new objects.new ticks.new) result }
+    {
+        let Some(below) = self.stack.len().checked_sub(3) else {
+            return false;
+        };
+        let (array, place) = (self.stack[below], self.stack[below + 1]);
+        let value = self.stack[below + 2];
+        if !put_item(quick, objects, ticks, array, place, value) {
+            return false;
+        }
+        self.stack[below] = value;
+        self.stack.truncate(below + 1);
         self.place = next;
         true
     }

@@ -1,4 +1,4 @@
-use Rattle.std.proofs.Common.{◌≡◌, ◌<◌, ◌≤◌, arith, refl}
+use Rattle.std.proofs.Common.{◌≡◌, ◌<◌, ◌≤◌, arith}
 use Rattle.s80_machine.specs.Turn.{Goes, State}
 use Rattle.s80_machine.specs.Step.{turn}
 use Rattle.s80_machine.specs.Run.{start}
@@ -44,14 +44,14 @@ further c =
     let on = given_of c.args.on.now in
     let at = (goal.at.After-go_on c).After-each_step_leaves_less in
     let way = c.loop-halt.invariant in
-    still_on_its_way on (steps_sound at) (leaves_less at) c.loop-halt.machine c.go_on.new.self way (c.go_on.ensures on way.state refl way.shows)
+    still_on_its_way on (steps_sound at) (leaves_less at) c.loop-halt.machine c.go_on.new.self way (c.go_on.ensures on way.state c.quick-quick.ensures way.shows)
 
 no_more : (c : After-go_on) → left_in c.args.on.now.budget c.go_on.new.self ≤ left_in c.args.on.now.budget c.loop-halt.machine
 no_more c =
     let on = given_of c.args.on.now in
     let at = (goal.at.After-go_on c).After-each_step_leaves_less in
     let way = c.loop-halt.invariant in
-    no_more_left on (steps_sound at) (leaves_less at) c.loop-halt.machine c.go_on.new.self way (c.go_on.ensures on way.state refl way.shows)
+    no_more_left on (steps_sound at) (leaves_less at) c.loop-halt.machine c.go_on.new.self way (c.go_on.ensures on way.state c.quick-quick.ensures way.shows)
 
 pub ended-requires-in-Err-step : goal.ended-requires-in-Err-step
 ended-requires-in-Err-step c =

@@ -11,7 +11,7 @@ returns-in-Jump-clause-tries c = λ on code same.
     let new = local c.jump_or_back.new.self c.args.objects.now c.jump_or_back.new.ticks in
     let fits : SFits w32 c.in-Jump.distance = search rules in
     tries_as on code c.args.instruction (Jump c.in-Jump.distance) c.args.next old new c.jump_or_back.result c.in-Jump.is
-    (subst (λ z. Tries on code (Jump z) c.args.next old new c.jump_or_back.result) (to_z-of_z w32 c.in-Jump.distance fits) (c.jump_or_back.ensures.tries on code c.args.objects.now same))
+    (subst (λ z. Tries on code (Jump z) c.args.next old new c.jump_or_back.result) (to_z-of_z w32 c.in-Jump.distance fits) (c.jump_or_back.ensures.tries on code c.args.objects.now same.budget))
 
 pub returns-in-JumpOnTrue-clause-tries : goal.returns-in-JumpOnTrue-clause-tries
 returns-in-JumpOnTrue-clause-tries c = λ on code same.
