@@ -1,11 +1,12 @@
 // Activations.
-ghost use Rattle.std.specs.Prelude.{◌≡◌, []};
+ghost use Rattle.std.specs.Prelude.{◌≡◌, [], IfOk};
 ghost use Rattle.s80_machine.specs.Counted.{block_in};
 ghost use Rattle.s80_machine.specs.World.{home_in, is_home_activation};
 ghost use Rattle.s80_machine.specs.Turn.{is_home};
 ghost use Rattle.s80_machine.specs.Seen.{DoesIn, IsOwnSet, IsTemporarySet, activation_of, message_taken, moved, popped, pushed, temporary_set, topped};
 
 use crate::halt::Halt;
+use s80_base::OutOfMemory;
 use s80_object::Value;
 use std::marker::Model;
 
@@ -72,6 +73,25 @@ fn set(temporaries: &mut Vec<Value>, i: usize, value: Value) -> Result<(), Halt>
             Ok(())
         }
         None => Err(Halt::Stuck),
+    }
+}
+
+// The room with these arguments in it. Nearly every message has one or none.
+#[inline(always)]
+fn filled(mut room: Vec<Value>, arguments: &[Value]) -> Result<Vec<Value>, OutOfMemory>
+    requires { room.items ≡ [] }
+    ensures { IfOk result (λ filled. filled.items ≡ arguments.now) }
+{
+    match arguments {
+        [] => Ok(room),
+        [argument] => {
+            room.push(*argument)?;
+            Ok(room)
+        }
+        _ => {
+            room.extend_from_slice(arguments)?;
+            Ok(room)
+        }
     }
 }
 
@@ -147,10 +167,10 @@ impl Context {
     #[inline(always)]
     pub(crate) fn take_message(
         &mut self,
-        mut arguments: Vec<Value>,
+        room: Vec<Value>,
         count: u8,
     ) -> Result<(Value, Vec<Value>), Halt>
-        requires empty { arguments.items ≡ [] }
+        requires empty { room.items ≡ [] }
         ensures does { DoesIn (λ p. (p.0, p.1.items)) (message_taken count self.old) self.new result }
         ensures stays { block_in self.new.activation ≡ block_in self.old.activation }
     {
@@ -158,7 +178,7 @@ impl Context {
             return Err(Halt::Stuck);
         };
         let receiver = self.stack[below];
-        arguments.extend_from_slice(&self.stack[below + 1..])?;
+        let arguments = filled(room, &self.stack[below + 1..])?;
         self.stack.truncate(below);
         Ok((receiver, arguments))
     }

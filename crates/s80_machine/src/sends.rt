@@ -1,9 +1,9 @@
 // Messages.
-ghost use Rattle.std.specs.Prelude.{◌≡◌, ◌∷◌, ◌==◌, ℕ, All, IfOk, IfSome, List, [], None, Some, drop, false, get_or, length, slice_get, if◌then◌else◌};
+ghost use Rattle.std.specs.Prelude.{◌≡◌, ◌<◌, ◌∷◌, ◌==◌, ℕ, All, IfOk, IfSome, List, [], None, Some, drop, false, get_or, length, slice_get, if◌then◌else◌};
 ghost use Rattle.std.specs.Option.{option_map, option_map_or};
 ghost use Rattle.s80_class.specs.Table.{IsClass, IsSuperclass, class_name};
 ghost use Rattle.s80_object.specs.declared.value.Value.{Value};
-ghost use Rattle.s80_prims.specs.Arithmetic.{truth};
+ghost use Rattle.s80_prims.specs.Arithmetic.{arithmetic, ranged, truth};
 ghost use Rattle.s80_prims.specs.Classes.{class_of};
 ghost use Rattle.s80_prims.specs.Known.{AreKnown, IsKnown};
 ghost use Rattle.s80_prims.specs.Primitives.{same};
@@ -16,7 +16,7 @@ ghost use Rattle.s80_class.specs.Lookup.{Place, places_up, IsFound};
 ghost use Rattle.s80_machine.specs.Sites.{IsSentAt, IsTarget};
 ghost use Rattle.s80_code.specs.declared.code.Code.{Code};
 ghost use Rattle.s80_code.specs.Special.{special_arguments};
-ghost use Rattle.s80_machine.specs.Shared.{at_once, block_with, does_not_understand, is_value, of_integers, parameters, selector_of, sent_in};
+ghost use Rattle.s80_machine.specs.Shared.{at_once, block_with, does_not_understand, integer_primitives, is_value, of_integers, parameters, selector_of, sent_in};
 ghost use Rattle.s80_machine.specs.Step.{special_turn};
 ghost use Rattle.s80_machine.specs.Seen.{IsBlock};
 ghost use Rattle.s80_machine.specs.Came.{Came, IsGiven, IsReady, IsSet, Shows, ShowsWorld, TopIsKnown, above, at_place, given_of, places, sends};
@@ -635,13 +635,51 @@ pub(crate) fn one_at_once(number: u8, r: Value, a: Value) -> Option<Value>
     of_integers(number, r, a)
 }
 
+/// The same of a message that comes before `==`.
+#[inline(always)]
+pub(crate) fn integers_at_once(number: u8, r: Value, a: Value) -> Option<Value>
+    requires { number < 22 }
+    ensures { result ≡ (if number == 22 then Some (truth (same r a)) else of_integers number r a) }
+{
+    of_integers(number, r, a)
+}
+
 #[inline(always)]
 fn of_integers(number: u8, r: Value, a: Value) -> Option<Value>
     ensures { result ≡ of_integers number r a }
 {
     match (r, a) {
-        (Value::Small(r), Value::Small(a)) => arithmetic(integer_primitive(number), r, a),
+        (Value::Small(r), Value::Small(a)) => integers(number, r, a),
         _ => None,
+    }
+}
+
+// The most frequent messages of two SmallIntegers are answered here, without a call.
+#[inline(always)]
+fn integers(number: u8, r: i32, a: i32) -> Option<Value>
+    ensures { result ≡ arithmetic (get_or integer_primitives number 0) r a }
+{
+    match number {
+        0 => ranged(i64::from(r) + i64::from(a)),
+        1 => ranged(i64::from(r) - i64::from(a)),
+        2 => Some(truth(r < a)),
+        3 => Some(truth(a < r)),
+        4 => Some(truth(r <= a)),
+        5 => Some(truth(r >= a)),
+        6 => Some(truth(r == a)),
+        _ => arithmetic(integer_primitive(number), r, a),
+    }
+}
+
+// A number, where it is a SmallInteger.
+#[inline(always)]
+fn ranged(n: i64) -> Option<Value>
+    ensures { result ≡ ranged n }
+{
+    if -1_073_741_824 <= n && n < 1_073_741_824 {
+        Some(Value::Small(n as i32))
+    } else {
+        None
     }
 }
 

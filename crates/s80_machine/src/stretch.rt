@@ -15,9 +15,9 @@ ghost use Rattle.s80_machine.specs.Stretch.{LeadsFar, Reaches, Tries, local, sto
 use crate::context::{Activation, Context};
 use crate::machine::Machine;
 use crate::quick::{AT, AT_PUT, Quick, item_of, put_item};
-use crate::sends::one_at_once;
+use crate::sends::{integers_at_once, one_at_once};
 use crate::steps::as_bool;
-use s80_code::{Instruction, Storage, special_arguments};
+use s80_code::{BLOCK_COPY, Instruction, Storage, special_arguments};
 use s80_object::{Objects, Value};
 
 impl<'a> Machine<'a> {
@@ -230,9 +230,32 @@ impl Context {
         true
     }
 
-    // Answers a special message that has an answer at once, or is about an item of an Array.
+    // Answers a special message that needs nothing else. The first of them are of two SmallIntegers, and none behind the last answers.
     #[inline(always)]
     fn answer_special(
+        &mut self,
+        quick: &Quick,
+        objects: &mut Objects,
+        ticks: &mut u64,
+        number: u8,
+        next: u32,
+    ) -> bool
+        ensures stays { block_in self.new.activation ≡ block_in self.old.activation }
+        ensures tries { (on : Given) (code : Code) → IsQuick on quick.now
+            → Tries on code (SendSpecial number) next (local self.old objects.old ticks.old) (local self.new objects.new ticks.new) result }
+    {
+        if number < AT {
+            return self.answer_integers(number, next);
+        }
+        if number >= BLOCK_COPY {
+            return false;
+        }
+        self.answer_others(quick, objects, ticks, number, next)
+    }
+
+    // Answers a message that isn't of SmallIntegers alone.
+    #[inline(never)]
+    fn answer_others(
         &mut self,
         quick: &Quick,
         objects: &mut Objects,
@@ -253,8 +276,30 @@ impl Context {
         self.answer_at_once(number, next)
     }
 
+    // Answers one of the messages of two SmallIntegers.
+    #[inline(always)]
+    fn answer_integers(&mut self, number: u8, next: u32) -> bool
+        requires { number < 22 }
+        ensures stays { block_in self.new.activation ≡ block_in self.old.activation }
+        ensures tries { (on : Given) (code : Code) (objects : _) (ticks : ℕ) → Tries on code (SendSpecial number) next (local self.old objects ticks) (local self.new objects ticks) result }
+    {
+        if special_arguments(number) != 1 {
+            return false;
+        }
+        let Some(below) = self.stack.len().checked_sub(2) else {
+            return false;
+        };
+        let Some(answer) = integers_at_once(number, self.stack[below], self.stack[below + 1]) else {
+            return false;
+        };
+        self.stack[below] = answer;
+        self.stack.pop();
+        self.place = next;
+        true
+    }
+
     // Reads an item of an Array.
-    #[inline(never)]
+    #[inline(always)]
     fn read_item(&mut self, quick: &Quick, objects: &Objects, ticks: &mut u64, next: u32) -> bool
         ensures stays { block_in self.new.activation ≡ block_in self.old.activation }
         ensures tries { (on : Given) (code : Code) → IsQuick on quick.now
@@ -277,7 +322,7 @@ impl Context {
     }
 
     // Puts an item of an Array.
-    #[inline(never)]
+    #[inline(always)]
     fn put_item(&mut self, quick: &Quick, objects: &mut Objects, ticks: &mut u64, next: u32) -> bool
         ensures stays { block_in self.new.activation ≡ block_in self.old.activation }
         ensures tries { (on : Given) (code : Code) → IsQuick on quick.now
