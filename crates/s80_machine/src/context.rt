@@ -1,5 +1,5 @@
 // Activations.
-ghost use Rattle.std.specs.Prelude.{◌≡◌, [], IfOk};
+ghost use Rattle.std.specs.Prelude.{◌≡◌, ◌∷◌, ◌++◌, [], IfOk, MatchBool};
 ghost use Rattle.s80_machine.specs.Counted.{block_in};
 ghost use Rattle.s80_machine.specs.World.{home_in, is_home_activation};
 ghost use Rattle.s80_machine.specs.Turn.{is_home};
@@ -76,6 +76,27 @@ fn set(temporaries: &mut Vec<Value>, i: usize, value: Value) -> Result<(), Halt>
     }
 }
 
+/// Pushes a value, where there is memory for it.
+#[inline(always)]
+pub(crate) fn push_on(stack: &mut Vec<Value>, value: Value) -> bool
+    ensures { MatchBool result (stack.new.items ≡ stack.old.items ++ value ∷ []) (stack.new.items ≡ stack.old.items) }
+{
+    if stack.len() < stack.capacity() {
+        stack.push_reserved(value);
+        return true;
+    }
+    push_in_more(stack, value)
+}
+
+// The same in more room. It stands apart, so that what is inlined stays small.
+#[cold]
+#[inline(never)]
+fn push_in_more(stack: &mut Vec<Value>, value: Value) -> bool
+    ensures { MatchBool result (stack.new.items ≡ stack.old.items ++ value ∷ []) (stack.new.items ≡ stack.old.items) }
+{
+    stack.push(value).is_ok()
+}
+
 // The room with these arguments in it. Nearly every message has one or none.
 #[inline(always)]
 fn filled(mut room: Vec<Value>, arguments: &[Value]) -> Result<Vec<Value>, OutOfMemory>
@@ -137,8 +158,11 @@ impl Context {
         ensures does { DoesIn (λ done. done) (pushed value self.old) self.new result }
         ensures stays { block_in self.new.activation ≡ block_in self.old.activation }
     {
-        self.stack.push(value)?;
-        Ok(())
+        if push_on(&mut self.stack, value) {
+            Ok(())
+        } else {
+            Err(Halt::Memory)
+        }
     }
 
     #[inline(always)]

@@ -12,7 +12,7 @@ ghost use Rattle.s80_machine.specs.Came.{Shows};
 ghost use Rattle.s80_machine.specs.Quick.{IsQuick};
 ghost use Rattle.s80_machine.specs.Stretch.{LeadsFar, Reaches, Tries, local, stored_in};
 
-use crate::context::{Activation, Context};
+use crate::context::{Activation, Context, push_on};
 use crate::machine::Machine;
 use crate::quick::{AT, AT_PUT, Quick, item_of, put_item};
 use crate::sends::{integers_at_once, one_at_once};
@@ -100,7 +100,7 @@ impl Context {
         ensures stays { block_in self.new.activation ≡ block_in self.old.activation }
         ensures goes { MatchBool result (self.new ≡ record self.old { place = next; stack = value ∷ self.old.stack }) (self.new ≡ self.old) }
     {
-        if self.stack.push(value).is_err() {
+        if !push_on(&mut self.stack, value) {
             return false;
         }
         self.place = next;
