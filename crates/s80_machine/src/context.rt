@@ -106,8 +106,11 @@ fn filled(mut room: Vec<Value>, arguments: &[Value]) -> Result<Vec<Value>, OutOf
     match arguments {
         [] => Ok(room),
         [argument] => {
-            room.push(*argument)?;
-            Ok(room)
+            if push_on(&mut room, *argument) {
+                Ok(room)
+            } else {
+                Err(OutOfMemory)
+            }
         }
         _ => {
             room.extend_from_slice(arguments)?;

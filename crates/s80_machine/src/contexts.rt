@@ -245,7 +245,11 @@ pub(crate) fn emptied(mut room: Vec<Value>) -> Vec<Value>
 // Keeps a room for others. When out of memory, it is let go.
 #[inline(always)]
 fn keep_room(rooms: &mut Vec<Vec<Value>>, room: Vec<Value>) {
-    let _ = rooms.push(room);
+    if rooms.len() < rooms.capacity() {
+        rooms.push_reserved(room);
+    } else {
+        let _ = rooms.push(room);
+    }
 }
 
 // Keeps the rooms of an activation. That of its temporaries, which were arguments, is taken first again.
@@ -275,6 +279,7 @@ fn count_at(counts: &[u32], block: u32) -> u32
 }
 
 // The count of this block with one activation more. There is a place for it from then on.
+#[inline(always)]
 fn raised_count(counts: &mut Vec<u32>, block: u32) -> Result<u32, OutOfMemory>
     ensures same { (b : ℕ) → get_or counts.new.items b 0 ≡ get_or counts.old.items b 0 }
     ensures raised { IfOk result (λ count. (count ≡ get_or counts.old.items block 0 + 1) × (block < length counts.new.items)) }
