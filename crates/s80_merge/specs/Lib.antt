@@ -1,0 +1,4 @@
+pub mod Order
+pub mod Touched
+pub mod Merging
+pub mod Work
