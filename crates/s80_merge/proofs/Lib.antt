@@ -1,0 +1,4 @@
+pub mod Members
+pub mod Acts
+pub mod Parts
+pub mod KeySets

@@ -1,0 +1,13 @@
+-- The keys so far are there.
+use Rattle.std.proofs.Common.{◌≡◌, ◌++◌, ◌||◌, length}
+use Rattle.std.specs.Vec.Iter.{into_iter_items, into_iter_len}
+use Rattle.s80_merge.specs.declared.key.Key.{Key}
+use Rattle.s80_merge.specs.Order.{has}
+use Rattle.s80_merge.proofs.key_set.KeySet.add.Given as goal
+
+abbrev pub invariant-loop-key : goal.invariant-loop-key
+invariant-loop-key l = record {
+  items : l.yielded ++ into_iter_items l.key-iterator ≡ into_iter_items l.initial.key-iterator;
+  left : into_iter_len l.key-iterator ≡ length (into_iter_items l.key-iterator);
+  gained : (key : Key) → has key l.self ≡ (has key l.fn.self || has key l.yielded);
+}
