@@ -79,7 +79,7 @@ module _ (name : Name) (row : ClassRow) where
   rows_agree (Commenting text) (Placing side selector f) apart = refl
   rows_agree (Commenting text) Nothing apart = refl
 
-both_true : (a b : Bool) → (a && b) ≡ true → (a ≡ true) × (b ≡ true)
+pub both_true : (a b : Bool) → (a && b) ≡ true → (a ≡ true) × (b ≡ true)
 both_true true b is = (refl, is)
 both_true false b bad = absurd (true≢false (sym bad))
 
@@ -212,7 +212,7 @@ pub record AreFree (one other : Change) (classes : Classes) : Type 0 where
   pub right : AreApart (writes other classes) (touches one classes)
 
 -- a change that writes that a class is there, beside one on that class
-clash : (one other : Change) (classes : Classes) → AreApart (writes one classes) (touches other classes) → Contains (writes one classes) (ClassKey (act_of one).name)
+pub clash : (one other : Change) (classes : Classes) → AreApart (writes one classes) (touches other classes) → Contains (writes one classes) (ClassKey (act_of one).name)
     → (act_of one).name ≡ (act_of other).name → IsIdle (act_of other)
 clash one other classes apart written same = by_case (has_class classes other)
   where
@@ -221,13 +221,13 @@ clash one other classes apart written same = by_case (has_class classes other)
     by_case (inr idle) = idle
 
 module _ (one other : Change) (state : State) where
-  idle_right : IsIdle (act_of other) → Agree (act_of one) (act_of other) state
+  pub idle_right : IsIdle (act_of other) → Agree (act_of one) (act_of other) state
   idle_right idle = record {
     rows = λ n _ _. idle.rows ((act_of one).row (map.get state.classes n)) ∙ ap (act_of one).row (sym (idle.rows (map.get state.classes n)));
     methods = λ n s k _ _. idle.methods s k ((act_of one).method s k (map.get (state.methods n s) k)) ∙ ap ((act_of one).method s k) (sym (idle.methods s k (map.get (state.methods n s) k)));
   }
 
-  idle_left : IsIdle (act_of one) → Agree (act_of one) (act_of other) state
+  pub idle_left : IsIdle (act_of one) → Agree (act_of one) (act_of other) state
   idle_left idle = record {
     rows = λ n _ _. ap (act_of other).row (idle.rows (map.get state.classes n)) ∙ sym (idle.rows ((act_of other).row (map.get state.classes n)));
     methods = λ n s k _ _. ap ((act_of other).method s k) (idle.methods s k (map.get (state.methods n s) k)) ∙ sym (idle.methods s k ((act_of other).method s k (map.get (state.methods n s) k)));

@@ -1,5 +1,5 @@
 // The keys that a change writes and uses, in the classes that it is worked in.
-ghost use Rattle.std.specs.Prelude.{◌≡◌, [], IfOk};
+ghost use Rattle.std.specs.Prelude.{◌≡◌, ◌∷◌, [], IfOk};
 ghost use Rattle.s80_merge.specs.Touched.{form_uses, form_writes, line_keys, method_keys, uses, writes};
 ghost use Rattle.s80_change.specs.declared.change.Change.TheVariants as changes;
 ghost use Rattle.s80_form.specs.declared.form.Form.TheVariants as forms;
