@@ -4,4 +4,6 @@ pub mod Parts
 pub mod Clear
 pub mod Takes
 pub mod Accepting
+pub mod Sets
+pub mod Merged
 pub mod KeySets
