@@ -7,3 +7,8 @@ pub mod Accepting
 pub mod Sets
 pub mod Merged
 pub mod KeySets
+pub mod KeyOrder
+pub mod LineKeys
+pub mod Working
+pub mod Conflicts
+pub mod Planned

@@ -1,5 +1,6 @@
 // The keys that a change writes and uses, in the classes that it is worked in.
-ghost use Rattle.std.specs.Prelude.{◌≡◌, ◌∷◌, [], IfOk};
+ghost use Rattle.std.specs.Prelude.{◌≡◌, ◌∷◌, [], IfOk, is_some};
+ghost use Rattle.std.specs.FinMap as map;
 ghost use Rattle.s80_merge.specs.Touched.{form_uses, form_writes, line_keys, method_keys, uses, writes};
 ghost use Rattle.s80_change.specs.declared.change.Change.TheVariants as changes;
 ghost use Rattle.s80_form.specs.declared.form.Form.TheVariants as forms;
@@ -8,7 +9,7 @@ use crate::key::Key;
 use crate::keys::Keys;
 use s80_base::{OutOfMemory, Side, Text};
 use s80_change::{Change, Definition, Form, Method};
-use s80_class::ClassTable;
+use s80_class::{ClassEntry, ClassTable};
 use std::alloc::Global;
 
 /// The keys that a change writes.
@@ -90,10 +91,10 @@ fn definition_writes(
 ) -> Result<Keys, OutOfMemory>
     ensures { IfOk result (λ keys. keys ≡ form_writes (forms.Define definition.now) classes.now.classes) }
 {
-    match classes.find(&definition.class_name) {
-        Some(_) => Keys::one(alloc, Key::DefinitionKey(definition.class_name.copy(alloc)?)),
-        None => Keys::of_class(alloc, &definition.class_name),
+    if class_named(classes, &definition.class_name).is_some() {
+        return Keys::one(alloc, Key::DefinitionKey(definition.class_name.copy(alloc)?));
     }
+    Keys::of_class(alloc, &definition.class_name)
 }
 
 /// A definition uses its superclass with all above it, and the class itself where it is there.
@@ -105,10 +106,18 @@ fn definition_uses(
     ensures { IfOk result (λ keys. keys ≡ form_uses (forms.Define definition.now) classes.now.classes) }
 {
     let mut keys = line_keys(alloc, classes, &definition.superclass)?;
-    if classes.find(&definition.class_name).is_some() {
+    if class_named(classes, &definition.class_name).is_some() {
         keys.push(Key::ClassKey(definition.class_name.copy(alloc)?))?;
     }
     Ok(keys)
+}
+
+/// The class of this name.
+fn class_named<'a>(classes: &'a ClassTable, name: &Text) -> Option<&'a ClassEntry>
+    ensures { is_some result ≡ map.contains_key classes.now.classes name.now }
+{
+    let number = classes.find(name)?;
+    Some(classes.at(number))
 }
 
 /// Those of a class and of each of its superclasses.
