@@ -1,5 +1,5 @@
 -- What is accepted is taken; and what is taken is accepted within the limits.
-use Rattle.std.proofs.Common.{◌≡◌, ◌≢◌, ◌∙◌, ℕ, Bool, cond, true, false, not, nat_le, find, refl, sym, ap, subst, List, [], ◌∷◌, length, Option, Some, None, Result, Ok, Err, option_map}
+use Rattle.std.proofs.Common.{◌≡◌, ◌∙◌, ℕ, Bool, cond, true, false, not, nat_le, find, refl, sym, ap, subst, List, [], ◌∷◌, length, Option, Some, None, Result, Ok, Err, option_map}
 use Rattle.std.specs.Prelude.{⊤}
 use Rattle.std.specs.FinMap as map
 use Rattle.s80_base.specs.declared.names.Side.{Side}
@@ -14,12 +14,11 @@ use Rattle.s80_form.specs.declared.refusal.ManyKind.{ManyKind}
 use Rattle.s80_form.specs.declared.refusal.ManyKind.TheVariants.{Classes as ManyClasses, InstanceVariables, ClassVariables, ClassSideVariables, Pools, BitsVariables}
 use Rattle.s80_form.specs.declared.refusal.Refusal.{Refusal}
 use Rattle.s80_form.specs.declared.refusal.Refusal.TheVariants.{Unended, Syntax, TooLarge, UnknownClass, KernelClass, HasSubclasses, Cycle, Duplicate, BadName, NoSelector, TooMany, LogFull, NoSection}
-use Rattle.s80_class.specs.Classes.{Name, ClassRow, Classes, IsLine, IsValid, change_row, extent_of, has_subclass, is_under, lineage, with_class_side_vars, with_comment}
-use Rattle.s80_class.proofs.lemmas.Lines.{Entry, lineage_line, passes}
+use Rattle.s80_class.specs.Classes.{Name, Classes, IsValid, change_row, extent_of, is_under, with_class_side_vars, with_comment}
+use Rattle.s80_class.proofs.lemmas.Lines.{lineage_line, passes}
 use Rattle.s80_class.proofs.lemmas.Most.{some_row}
 use Rattle.s80_class.proofs.lemmas.Subclasses.{has_none, is_alone}
 use Rattle.s80_apply.specs.Accept.{above, accept, accept_checked, accept_form, accepted, bad_name, classify, cycle, define, duplicate, first_again, first_some, has_subclasses, kernel_class, kernel_name, keeping_rows, no_method, no_selector, put_source, refusal_of, refusal_of_class_vars, refusal_of_removal, too_many, too_many_methods, unknown_class, unknown_name}
-use Rattle.s80_apply.specs.List.{IsAccepted, state_after}
 use Rattle.s80_apply.specs.State.{State, take_class, take_method}
 use Rattle.s80_apply.proofs.Defined.{head_row}
 use Rattle.s80_apply.proofs.Passing.{known_name, method_there, none_first, removal_accepted}
@@ -164,9 +163,9 @@ many_limits d classes =
     let many = above 65536 ManyClasses (map.len (define d classes)) in
     limit_first many (inst ∷ vars ∷ side ∷ pools ∷ bits ∷ []) (limit 65536 ManyClasses (map.len (define d classes)))
     (limit_first inst (vars ∷ side ∷ pools ∷ bits ∷ []) (limit 64 InstanceVariables E.inst_vars)
-        (limit_first vars (side ∷ pools ∷ bits ∷ []) (limit 256 ClassVariables (length d.class_vars))
-            (limit_first side (pools ∷ bits ∷ []) (limit 64 ClassSideVariables E.class_side_vars)
-                (limit_first pools (bits ∷ []) (limit 256 Pools (length d.pools)) (limit_first bits [] (limit 0 BitsVariables E.bits_variables) tt)))))
+    (limit_first vars (side ∷ pools ∷ bits ∷ []) (limit 256 ClassVariables (length d.class_vars))
+    (limit_first side (pools ∷ bits ∷ []) (limit 64 ClassSideVariables E.class_side_vars)
+    (limit_first pools (bits ∷ []) (limit 256 Pools (length d.pools)) (limit_first bits [] (limit 0 BitsVariables E.bits_variables) tt)))))
 
 definition_limits : (d : Definition) (classes : Classes) → TakesDefinition d classes → OnlyLimits (refusal_of d classes)
 definition_limits d classes takes =
@@ -175,9 +174,9 @@ definition_limits d classes takes =
     let no_cycle : cycle d classes ≡ None = ap (λ b. cond b (Some (Cycle d.class_name)) None) acyclic in
     passed_first (bad_name d) (unknown_class d classes ∷ kernel_class d ∷ cycle d classes ∷ duplicate d ∷ too_many d classes ∷ []) takes.named
     (passed_first (unknown_class d classes) (kernel_class d ∷ cycle d classes ∷ duplicate d ∷ too_many d classes ∷ []) (not_unknown classes d.superclass row.0 row.1)
-        (passed_first (kernel_class d) (cycle d classes ∷ duplicate d ∷ too_many d classes ∷ []) takes.own
-            (passed_first (cycle d classes) (duplicate d ∷ too_many d classes ∷ []) no_cycle
-                (passed_first (duplicate d) (too_many d classes ∷ []) takes.once (limit_first (too_many d classes) [] (many_limits d classes) tt)))))
+    (passed_first (kernel_class d) (cycle d classes ∷ duplicate d ∷ too_many d classes ∷ []) takes.own
+    (passed_first (cycle d classes) (duplicate d ∷ too_many d classes ∷ []) no_cycle
+    (passed_first (duplicate d) (too_many d classes ∷ []) takes.once (limit_first (too_many d classes) [] (many_limits d classes) tt)))))
 
 vars_limits : (name : Name) (names : List Name) (classes : Classes) → TakesVars name names classes → OnlyLimits (refusal_of_class_vars name names classes)
 vars_limits name names classes takes =
@@ -187,7 +186,7 @@ vars_limits name names classes takes =
     let many = above 64 ClassSideVariables count in
     passed_first bad (unknown_name name classes ∷ kernel_name name ∷ again ∷ many ∷ []) takes.named
     (passed_first (unknown_name name classes) (kernel_name name ∷ again ∷ many ∷ []) (known name classes takes.there)
-        (passed_first (kernel_name name) (again ∷ many ∷ []) takes.own (passed_first again (many ∷ []) takes.once (limit_first many [] (limit 64 ClassSideVariables count) tt))))
+    (passed_first (kernel_name name) (again ∷ many ∷ []) takes.own (passed_first again (many ∷ []) takes.once (limit_first many [] (limit 64 ClassSideVariables count) tt))))
 
 removal_limits : (name : Name) (classes : Classes) → TakesRemoval name classes → OnlyLimits (refusal_of_removal name classes)
 removal_limits name classes takes =

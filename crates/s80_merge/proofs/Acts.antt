@@ -1,5 +1,5 @@
 -- What a change makes of a state where no limit stands against it: each change alters what one class has.
-use Rattle.std.proofs.Common.{◌≡◌, ◌≢◌, ◌∙◌, ◌&&◌, ℕ, Bool, cond, true, false, true≢false, refl, sym, ap, subst, List, [], ◌∷◌, Option, Some, None, Result, Ok, Err, option_map, unwrap_or, bytes_eq}
+use Rattle.std.proofs.Common.{◌≡◌, ◌∙◌, ◌&&◌, ℕ, Bool, cond, true, false, true≢false, refl, sym, ap, subst, List, [], Option, Some, None, Result, Ok, Err, option_map, unwrap_or, bytes_eq}
 use Rattle.std.specs.Cmp.Lexicographic.{bytes_decides, nat_list_cmp_total, slice_cmp, texts_ties}
 use Rattle.std.specs.FinMap as map
 use Rattle.std.specs.Ordering.{nat_cmp}
@@ -244,7 +244,7 @@ pub agreed : (one other : Act) (state by_one by_other last_other last_one : Stat
 agreed one other state by_one by_other last_other last_one a b c d agree =
     same_state last_other last_one
     (λ q. either_first one.row other.row (bytes_eq q one.name) (bytes_eq q other.name) (map.get state.classes q) (map.get by_one.classes q) (map.get by_other.classes q) (map.get last_other.classes q)
-        (map.get last_one.classes q) (a.rows q) (b.rows q) (c.rows q) (d.rows q) (λ p r. agree.rows q ((bytes_decides q one.name).0 p) ((bytes_decides q other.name).0 r)))
+    (map.get last_one.classes q) (a.rows q) (b.rows q) (c.rows q) (d.rows q) (λ p r. agree.rows q ((bytes_decides q one.name).0 p) ((bytes_decides q other.name).0 r)))
     (λ q s k. either_first (one.method s k) (other.method s k) (bytes_eq q one.name) (bytes_eq q other.name) (map.get (state.methods q s) k) (map.get (by_one.methods q s) k) (map.get (by_other.methods q s) k)
-        (map.get (last_other.methods q s) k) (map.get (last_one.methods q s) k) (a.methods q s k) (b.methods q s k) (c.methods q s k) (d.methods q s k)
-        (λ p r. agree.methods q s k ((bytes_decides q one.name).0 p) ((bytes_decides q other.name).0 r)))
+    (map.get (last_other.methods q s) k) (map.get (last_one.methods q s) k) (a.methods q s k) (b.methods q s k) (c.methods q s k) (d.methods q s k)
+    (λ p r. agree.methods q s k ((bytes_decides q one.name).0 p) ((bytes_decides q other.name).0 r)))

@@ -1,5 +1,5 @@
 -- Two changes that are free of each other: what the one leaves of what the other looks at.
-use Rattle.std.proofs.Common.{◌≡◌, ◌≢◌, ◌⊎◌, ◌∙◌, ◌++◌, ◌&&◌, ◌||◌, inl, inr, ℕ, Bool, cond, true, false, true≢false, refl, sym, ap, subst, List, [], ◌∷◌, Option, Some, None, is_some, option_map, bytes_eq, flat_map, map}
+use Rattle.std.proofs.Common.{◌≡◌, ◌∙◌, ◌++◌, ◌&&◌, ◌||◌, inl, inr, ℕ, Bool, cond, true, false, refl, sym, ap, subst, List, [], ◌∷◌, Option, Some, None, is_some, option_map, bytes_eq, flat_map, map}
 use Rattle.std.specs.Cmp.Lexicographic.{bytes_decides}
 use Rattle.std.specs.FinMap as finmap
 use Rattle.std.specs.List.{Contains, list_any}
@@ -7,15 +7,15 @@ use Rattle.std.proofs.lemmas.List.Elements.{Contains-append_left, Contains-appen
 use Rattle.s80_base.specs.declared.names.Side.{Side}
 use Rattle.s80_dict.specs.Table.{same_side}
 use Rattle.s80_change.specs.declared.change.Change.{Change}
-use Rattle.s80_class.specs.Classes.{Name, ClassRow, Classes, IsLine, lineage}
-use Rattle.s80_class.proofs.lemmas.Lines.{Entry, eq_not, lineage_line, not_eq, passes}
+use Rattle.s80_class.specs.Classes.{Name, ClassRow, IsLine}
+use Rattle.s80_class.proofs.lemmas.Lines.{Entry, passes}
 use Rattle.s80_apply.specs.State.{MethodRow, State}
 use Rattle.s80_merge.specs.declared.key.Key.{Key}
 use Rattle.s80_merge.specs.declared.key.Key.TheVariants.{ClassKey, DefinitionKey, MethodKey}
-use Rattle.s80_merge.specs.Touched.{class_keys, line_keys, writes}
-use Rattle.s80_merge.proofs.Acts.{Act, Agree, Does, act_of, at_place, is_side}
-use Rattle.s80_merge.proofs.Members.{here, later, one_of}
-use Rattle.s80_merge.proofs.Parts.{Alters, AreApart, AreFree, IsPart, Part, Defining, Giving, Commenting, Placing, Nothing, alters, both_true, clash, idle_left, idle_right, methods_agree, part_keys, part_method, part_row, rows_agree, touches}
+use Rattle.s80_merge.specs.Touched.{class_keys, writes}
+use Rattle.s80_merge.proofs.Acts.{Agree, Does, act_of, is_side}
+use Rattle.s80_merge.proofs.Members.{here, later}
+use Rattle.s80_merge.proofs.Parts.{Alters, AreApart, AreFree, IsPart, Part, Defining, Giving, Commenting, Placing, Nothing, alters, both_true, clash, idle_left, idle_right, methods_agree, part_keys, part_method, part_row, rows_agree}
 
 -- ---- they agree
 
@@ -81,7 +81,7 @@ module _ (c : Change) (before now : State) (does : Does (act_of c) before now) w
 
   -- so much of a row as no part alters
   module _ {V : Type 0} (view : Option ClassRow → V) (q : Name) (unwritten : Contains (writes c before.classes) (ClassKey q) → ⊥)
-        (leaves : (p : IsPart c before.classes) → q ≡ name → (row : ClassRow) → view (Some (part_row p.part row)) ≡ view (Some row)) where
+      (leaves : (p : IsPart c before.classes) → q ≡ name → (row : ClassRow) → view (Some (part_row p.part row)) ≡ view (Some row)) where
     by_row : (p : IsPart c before.classes) → q ≡ name → (o : Option ClassRow) → finmap.get before.classes q ≡ o → view ((act_of c).row o) ≡ view o
     by_row p is (Some row) found = ap view (p.some row) ∙ leaves p is row
     by_row p is None found = ap view (p.none (ap (finmap.contains_key before.classes) (sym is) ∙ ap is_some found))
@@ -149,9 +149,9 @@ module _ (c : Change) (before now : State) (does : Does (act_of c) before now) w
   line_later (Some q) (e ∷ es) line free =
       let keys = flat_map (λ (e : Entry). class_keys e.0) es in
       let no_class : Contains (writes c before.classes) (ClassKey q) → ⊥ = λ has.
-          free (ClassKey q) (subst (λ n. Contains (class_keys n ++ keys) (ClassKey q)) (sym line.0) (here (ClassKey q) (DefinitionKey q ∷ keys))) has in
+      free (ClassKey q) (subst (λ n. Contains (class_keys n ++ keys) (ClassKey q)) (sym line.0) (here (ClassKey q) (DefinitionKey q ∷ keys))) has in
       let no_definition : Contains (writes c before.classes) (DefinitionKey q) → ⊥ = λ has.
-          free (DefinitionKey q) (subst (λ n. Contains (class_keys n ++ keys) (DefinitionKey q)) (sym line.0) (later (ClassKey q) (DefinitionKey q ∷ keys) (DefinitionKey q) (here (DefinitionKey q) keys))) has in
+      free (DefinitionKey q) (subst (λ n. Contains (class_keys n ++ keys) (DefinitionKey q)) (sym line.0) (later (ClassKey q) (DefinitionKey q ∷ keys) (DefinitionKey q) (here (DefinitionKey q) keys))) has in
       let same = kept_superclass q no_class no_definition ∙ ap (option_map (λ row. row.superclass)) line.1 in
       let row = row_above (finmap.get now.classes q) e.1.superclass same in
       let rest = line_later e.1.superclass es line.2 (λ key has. free key (Contains-append_right (class_keys e.0) keys key has)) in

@@ -1,5 +1,5 @@
 -- The keys that two sets have in conflict.
-use Rattle.std.proofs.Common.{◌≡◌, ◌⊎◌, ◌↔◌, ◌∙◌, ◌++◌, ◌||◌, ◌&&◌, inl, inr, Bool, true, false, true≢false, refl, sym, ap, ap₂, subst, List, [], ◌∷◌}
+use Rattle.std.proofs.Common.{◌≡◌, ◌⊎◌, ◌↔◌, ◌∙◌, ◌++◌, ◌||◌, ◌&&◌, inl, inr, Bool, true, false, true≢false, refl, sym, ap, List, [], ◌∷◌}
 use Rattle.std.specs.List.{Contains}
 use Rattle.std.specs.List.Sorted.{IsStrictlySortedBy}
 use Rattle.s80_change.specs.declared.change.Change.{Change}
@@ -84,5 +84,8 @@ module _ (base : State) (ours theirs : List Change) (of_ours of_theirs : Touched
       back (inr second) = or_right (has key of_ours.writes && is_touched key of_theirs) (has key of_theirs.writes && is_touched key of_ours) (shared base theirs ours of_theirs of_ours other mine key second)
 
   pub are_conflicts : (keys : List Key) → IsStrictlySortedBy key_cmp keys → ((key : Key) → has key keys ≡ is_conflict key of_ours of_theirs) → AreKeys (IsConflict base ours theirs) keys
-  are_conflicts keys rises all = (rises, λ key.
-    (λ contains. (is_told key).0 (sym (all key) ∙ there key keys contains), λ conflict. found key keys (all key ∙ (is_told key).1 conflict)))
+  are_conflicts keys rises all = (
+    rises,
+    λ key.
+        (λ contains. (is_told key).0 (sym (all key) ∙ there key keys contains), λ conflict. found key keys (all key ∙ (is_told key).1 conflict)),
+  )

@@ -1,6 +1,5 @@
 -- Sets of keys: which keys are there, and their order.
 use Rattle.std.proofs.Common.{◌≡◌, ◌∙◌, ◌++◌, ◌||◌, Bool, true, false, cond, refl, sym, ap, ap₂, List, [], ◌∷◌, Bor, map}
-use Rattle.std.specs.List.{list_any}
 use Rattle.std.specs.Map.Iter.{deref}
 use Rattle.std.proofs.lemmas.List.{map-append}
 use Rattle.std.proofs.lemmas.List.Folds.{list_any-append}

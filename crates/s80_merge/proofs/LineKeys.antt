@@ -1,13 +1,13 @@
 -- The keys of a class and of each of its superclasses, as a walk up gathers them.
-use Rattle.std.proofs.Common.{◌≡◌, ◌∙◌, ◌++◌, ◌+◌, ◌-◌, ◌<◌, ◌≤◌, ℕ, refl, sym, ap, List, [], ◌∷◌, Option, Some, None, MatchOption, is_some, flat_map, append-nil, append_assoc, true, subst, arith}
+use Rattle.std.proofs.Common.{◌≡◌, ◌∙◌, ◌++◌, ◌+◌, ◌-◌, ◌<◌, ℕ, sym, ap, List, [], Option, Some, None, MatchOption, is_some, flat_map, append-nil, append_assoc, true, arith}
 use Rattle.std.specs.FinMap as map
 use Rattle.s80_class.specs.declared.entry.ClassEntry.{ClassEntry}
-use Rattle.s80_class.specs.Classes.{Name, ClassRow, lineage, upwards}
+use Rattle.s80_class.specs.Classes.{Name, upwards}
 use Rattle.s80_class.specs.Table.{Table, IsEntryOf, IsNumberOf, IsSuperclass}
 use Rattle.s80_class.proofs.lemmas.Lines.{Entry}
 use Rattle.s80_class.proofs.lemmas.Removed.{absent_lineage}
 use Rattle.s80_class.proofs.lemmas.Rows.{name_is}
-use Rattle.s80_class.proofs.lemmas.Walks.{left, left_end, left_more, left_none, same_name}
+use Rattle.s80_class.proofs.lemmas.Walks.{left, left_more, left_none, same_name}
 use Rattle.s80_merge.specs.declared.key.Key.{Key}
 use Rattle.s80_merge.specs.Touched.{class_keys, line_keys}
 

@@ -1,5 +1,5 @@
 -- Two change sets without conflict merge in either order.
-use Rattle.std.proofs.Common.{◌≡◌, ◌⊎◌, ◌∙◌, ◌++◌, inl, inr, refl, sym, ap, subst, List, [], ◌∷◌, Result, Ok, Err}
+use Rattle.std.proofs.Common.{◌≡◌, ◌∙◌, ◌++◌, inl, inr, refl, sym, ap, subst, List, [], ◌∷◌, Result, Ok, Err}
 use Rattle.std.specs.List.{Contains}
 use Rattle.s80_change.specs.declared.change.Change.{Change}
 use Rattle.s80_form.specs.declared.refusal.Refusal.{Refusal}
@@ -10,7 +10,7 @@ use Rattle.s80_apply.specs.State.{State, kernel_state}
 use Rattle.s80_apply.proofs.LastingWithin.{within_last}
 use Rattle.s80_apply.proofs.lemmas.Lists.{is_accepted, state_more}
 use Rattle.s80_merge.specs.declared.key.Key.{Key}
-use Rattle.s80_merge.specs.Merging.{AreWithin, IsConflict, IsWithin, MergeEitherWay, set_uses, set_writes}
+use Rattle.s80_merge.specs.Merging.{AreWithin, IsConflict, MergeEitherWay, set_uses, set_writes}
 use Rattle.s80_merge.specs.Touched.{uses, writes}
 use Rattle.s80_merge.proofs.Accepting.{taken, within}
 use Rattle.s80_merge.proofs.Acts.{effect}

@@ -1,5 +1,5 @@
 -- What a change alters of a class that it leaves where it is, by the one key that it writes; and that what has no key in common agrees.
-use Rattle.std.proofs.Common.{◌≡◌, ◌≢◌, ◌⊎◌, ◌∙◌, ◌++◌, ◌&&◌, inl, inr, ℕ, Bool, cond, true, false, true≢false, refl, sym, ap, subst, List, [], ◌∷◌, Option, Some, None, Result, Ok, Err, option_map, unwrap_or, bytes_eq}
+use Rattle.std.proofs.Common.{◌≡◌, ◌⊎◌, ◌∙◌, ◌++◌, ◌&&◌, inl, inr, ℕ, Bool, cond, true, false, true≢false, refl, sym, ap, subst, List, [], ◌∷◌, Option, Some, None, Result, Ok, Err, option_map, bytes_eq}
 use Rattle.std.specs.Cmp.Lexicographic.{bytes_decides}
 use Rattle.std.specs.FinMap as map
 use Rattle.std.specs.List.{Contains}
@@ -10,7 +10,6 @@ use Rattle.s80_change.specs.declared.change.Change.{Change}
 use Rattle.s80_change.specs.declared.change.Change.TheVariants as change
 use Rattle.s80_change.specs.declared.change.Method.{Method}
 use Rattle.s80_form.specs.declared.definition.Definition.{Definition}
-use Rattle.s80_form.specs.declared.form.Form.{Form}
 use Rattle.s80_form.specs.declared.form.Form.TheVariants.{Define, ClassVars, Comment, RemoveMethod, Classify, RemoveClass, NoChanges}
 use Rattle.s80_form.specs.declared.refusal.Refusal.{Refusal}
 use Rattle.s80_class.specs.Classes.{Name, ClassRow, Classes, with_class_side_vars, with_comment}
@@ -19,8 +18,8 @@ use Rattle.s80_apply.specs.State.{MethodRow, State}
 use Rattle.s80_merge.specs.declared.key.Key.{Key}
 use Rattle.s80_merge.specs.declared.key.Key.TheVariants.{ClassKey, DefinitionKey, ClassVarsKey, CommentKey, MethodKey}
 use Rattle.s80_merge.specs.Touched.{class_keys, form_uses, form_writes, line_keys, method_keys, uses, writes}
-use Rattle.s80_merge.proofs.Acts.{Act, Agree, act_of, at_place, form_act, is_side, method_act, same_method, same_row}
-use Rattle.s80_merge.proofs.Members.{here, in_none, later, one_of}
+use Rattle.s80_merge.proofs.Acts.{Act, Agree, act_of, at_place, is_side, method_act}
+use Rattle.s80_merge.proofs.Members.{here}
 
 -- ---- parts of a class
 
@@ -130,12 +129,12 @@ Alters c classes = Contains (writes c classes) (ClassKey (act_of c).name) ⊎ Is
 module _ (classes : Classes) where
   defining : (d : Definition) (b : Bool) → map.contains_key classes d.class_name ≡ b → Alters (change.Form (Define d)) classes
   defining d true is = inr (record {
-        part = Defining d;
-        keys = ap (λ b. cond b (DefinitionKey d.class_name ∷ []) (class_keys d.class_name)) is;
-        some = λ row. refl;
-        none = λ no. absurd (true≢false (sym is ∙ no));
-        methods = λ s k row. refl;
-      })
+    part = Defining d;
+    keys = ap (λ b. cond b (DefinitionKey d.class_name ∷ []) (class_keys d.class_name)) is;
+    some = λ row. refl;
+    none = λ no. absurd (true≢false (sym is ∙ no));
+    methods = λ s k row. refl;
+  })
   defining d false is = inl (subst (λ b. Contains (cond b (DefinitionKey d.class_name ∷ []) (class_keys d.class_name)) (ClassKey d.class_name)) (sym is) (here (ClassKey d.class_name) (DefinitionKey d.class_name ∷ [])))
 
   putting : (m : Method) (check : Result (List ℕ) Refusal) → m.source.selector ≡ check → IsPart (change.Method m) classes
@@ -183,7 +182,7 @@ module _ (classes : Classes) where
   there_or_new d true is =
       by_use (change.Form (Define d)) (ClassKey d.class_name)
       (Contains-append_right (line_keys d.superclass classes) (cond (map.contains_key classes d.class_name) (ClassKey d.class_name ∷ []) []) (ClassKey d.class_name)
-          (subst (λ b. Contains (cond b (ClassKey d.class_name ∷ []) []) (ClassKey d.class_name)) (sym is) (here (ClassKey d.class_name) [])))
+      (subst (λ b. Contains (cond b (ClassKey d.class_name ∷ []) []) (ClassKey d.class_name)) (sym is) (here (ClassKey d.class_name) [])))
   there_or_new d false is =
       Contains-append_left (form_writes (Define d) classes) (form_uses (Define d) classes) (ClassKey d.class_name)
       (subst (λ b. Contains (cond b (DefinitionKey d.class_name ∷ []) (class_keys d.class_name)) (ClassKey d.class_name)) (sym is) (here (ClassKey d.class_name) (DefinitionKey d.class_name ∷ [])))

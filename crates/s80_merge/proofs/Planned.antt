@@ -1,5 +1,5 @@
 -- What a plan tells of two sets.
-use Rattle.std.proofs.Common.{◌≡◌, ◌∙◌, ◌++◌, ℕ, zero, suc, refl, sym, subst, List, [], ◌∷◌, Some, Ok, Err, take}
+use Rattle.std.proofs.Common.{◌≡◌, ◌++◌, ℕ, zero, suc, subst, List, [], ◌∷◌, Some, Err, take}
 use Rattle.std.specs.Prelude.{slice_get}
 use Rattle.std.specs.List.{Contains}
 use Rattle.s80_change.specs.declared.change.Change.{Change}

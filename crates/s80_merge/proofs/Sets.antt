@@ -93,7 +93,7 @@ past a state (b ∷ bs) takes all free =
     let more : IsPast a behind_b bs =
     past a behind_b bs a_later.taken all.1
     (subst (λ ws. AreKeysFree ws (uses a behind_b.classes) (all_writes behind_b bs) (all_uses behind_b bs)) (sym a_later.writes)
-        (subst (λ us. AreKeysFree (writes a state.classes) us (all_writes behind_b bs) (all_uses behind_b bs)) (sym a_later.uses) rest)) in
+    (subst (λ us. AreKeysFree (writes a state.classes) us (all_writes behind_b bs) (all_uses behind_b bs)) (sym a_later.uses) rest)) in
     record {
       taken = (b_later.taken, subst (λ s. AreTaken s bs) (sym same) more.taken);
       set_writes = λ i. b_later.writes i ++ (ap (λ s. all_writes s bs) same ∙ more.set_writes) i;
@@ -118,5 +118,5 @@ merged (a ∷ cs) bs state ours theirs free =
     let more =
     merged cs bs behind_a ours.1 one.taken
     (subst (λ ws. AreKeysFree (all_writes behind_a cs) (all_uses behind_a cs) ws (all_uses behind_a bs)) (sym one.set_writes)
-        (subst (λ us. AreKeysFree (all_writes behind_a cs) (all_uses behind_a cs) (all_writes state bs) us) (sym one.set_uses) others)) in
+    (subst (λ us. AreKeysFree (all_writes behind_a cs) (all_uses behind_a cs) (all_writes state bs) us) (sym one.set_uses) others)) in
     (more.0, more.1 ∙ ap (λ s. end_of s cs) one.one_end)

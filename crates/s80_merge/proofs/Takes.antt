@@ -1,6 +1,5 @@
 -- That a state takes a change, were there no limits; and that it takes it behind another one that is free of it.
-use Rattle.std.proofs.Common.{◌≡◌, ◌≢◌, ◌⊎◌, ◌∙◌, ◌++◌, inl, inr, ℕ, Bool, cond, true, false, true≢false, not, find, refl, sym, ap, subst, List, [], ◌∷◌, Option, Some, None, Result, Ok, Err, is_some, option_map, bytes_eq, flat_map, map}
-use Rattle.std.specs.Cmp.Lexicographic.{bytes_decides}
+use Rattle.std.proofs.Common.{◌≡◌, ◌≢◌, ◌⊎◌, ◌∙◌, ◌++◌, inl, inr, ℕ, Bool, cond, true, false, not, find, refl, sym, ap, subst, List, [], ◌∷◌, Option, Some, None, Result, Ok, Err, is_some, option_map, bytes_eq, flat_map, map}
 use Rattle.std.specs.Prelude.{⊤}
 use Rattle.std.specs.FinMap as finmap
 use Rattle.std.specs.List.{Contains}
@@ -13,17 +12,17 @@ use Rattle.s80_form.specs.declared.definition.Definition.{Definition}
 use Rattle.s80_form.specs.declared.form.Form.{Form}
 use Rattle.s80_form.specs.declared.form.Form.TheVariants.{Define, ClassVars, Comment, RemoveMethod, Classify, RemoveClass, NoChanges}
 use Rattle.s80_form.specs.declared.refusal.Refusal.TheVariants.{BadName, Duplicate}
-use Rattle.s80_class.specs.Classes.{Name, ClassRow, Classes, IsLine, lineage, with_class_side_vars, with_comment}
+use Rattle.s80_class.specs.Classes.{Name, ClassRow, Classes, IsLine, with_class_side_vars, with_comment}
 use Rattle.s80_class.proofs.lemmas.Lines.{Entry, lineage_line, passes}
 use Rattle.s80_apply.specs.Accept.{bad_name, duplicate, first_again, kernel_class, kernel_name, row_of}
-use Rattle.s80_apply.specs.State.{MethodRow, State}
+use Rattle.s80_apply.specs.State.{State}
 use Rattle.s80_merge.specs.declared.key.Key.{Key}
 use Rattle.s80_merge.specs.declared.key.Key.TheVariants.{ClassKey, DefinitionKey, MethodKey}
 use Rattle.s80_merge.specs.Touched.{class_keys, form_uses, form_writes, line_keys, uses, writes}
 use Rattle.s80_merge.proofs.Acts.{Does, act_of, agreed, does, effect, method_act}
 use Rattle.s80_merge.proofs.Clear.{agree, kept_class, kept_method, line_later, same_keys, same_passes}
 use Rattle.s80_merge.proofs.Members.{here}
-use Rattle.s80_merge.proofs.Parts.{AreApart, AreFree, touches}
+use Rattle.s80_merge.proofs.Parts.{AreFree, touches}
 
 -- ---- what a state has to have
 
@@ -191,7 +190,7 @@ module _ (one : Change) (before now : State) (made : Does (act_of one) before no
     there_too true is =
         Contains-append_right (form_writes (Define d) before.classes) (form_uses (Define d) before.classes) (ClassKey d.class_name)
         (Contains-append_right (line_keys d.superclass before.classes) (cond (finmap.contains_key before.classes d.class_name) (ClassKey d.class_name ∷ []) []) (ClassKey d.class_name)
-            (subst (λ b. Contains (cond b (ClassKey d.class_name ∷ []) []) (ClassKey d.class_name)) (sym is) (here (ClassKey d.class_name) [])))
+        (subst (λ b. Contains (cond b (ClassKey d.class_name ∷ []) []) (ClassKey d.class_name)) (sym is) (here (ClassKey d.class_name) [])))
     there_too false is =
         Contains-append_left (form_writes (Define d) before.classes) (form_uses (Define d) before.classes) (ClassKey d.class_name)
         (subst (λ b. Contains (cond b (DefinitionKey d.class_name ∷ []) (class_keys d.class_name)) (ClassKey d.class_name)) (sym is) (here (ClassKey d.class_name) (DefinitionKey d.class_name ∷ [])))

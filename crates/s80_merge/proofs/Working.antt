@@ -1,5 +1,5 @@
 -- Changes at work on a system, and their keys noted.
-use Rattle.std.proofs.Common.{◌≡◌, ◌∙◌, ◌++◌, ◌||◌, ◌+◌, ℕ, zero, suc, refl, sym, ap, subst, List, [], ◌∷◌, Some, Result, Ok, Err, take, append-nil, append_assoc, arith}
+use Rattle.std.proofs.Common.{◌≡◌, ◌∙◌, ◌++◌, ◌||◌, ◌+◌, ℕ, zero, suc, sym, ap, subst, List, [], ◌∷◌, Some, Ok, Err, take, append-nil, append_assoc, arith}
 use Rattle.std.specs.Prelude.{slice_get}
 use Rattle.std.proofs.lemmas.List.Folds.{list_any-append}
 use Rattle.s80_change.specs.declared.change.Change.{Change}

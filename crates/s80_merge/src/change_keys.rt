@@ -92,7 +92,10 @@ fn definition_writes(
     ensures { IfOk result (λ keys. keys ≡ form_writes (forms.Define definition.now) classes.now.classes) }
 {
     if class_named(classes, &definition.class_name).is_some() {
-        return Keys::one(alloc, Key::DefinitionKey(definition.class_name.copy(alloc)?));
+        return Keys::one(
+            alloc,
+            Key::DefinitionKey(definition.class_name.copy(alloc)?),
+        );
     }
     Keys::of_class(alloc, &definition.class_name)
 }

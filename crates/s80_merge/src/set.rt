@@ -5,10 +5,10 @@ ghost use Rattle.s80_apply.specs.State.{State};
 ghost use Rattle.s80_apply.specs.System.{IsSystemOf};
 ghost use Rattle.s80_merge.specs.Work.{Gains, IsNoted, IsWorked, IsWorkedAt, is_touched};
 
+use crate::change_keys::{uses, writes};
 use crate::key::Key;
 use crate::key_set::KeySet;
 use crate::planning::PlanFault;
-use crate::change_keys::{uses, writes};
 use s80_apply::{System, boot};
 use s80_base::OutOfMemory;
 use s80_change::{Change, Changes, Refused};
@@ -101,11 +101,7 @@ fn work_or_leave(alloc: Global, system: &mut System, change: &Change) -> Result<
 }
 
 /// Works changes, one after the other, and notes their keys.
-fn note_all(
-    alloc: Global,
-    system: &mut System,
-    changes: &Changes,
-) -> Result<Touched, PlanFault>
+fn note_all(alloc: Global, system: &mut System, changes: &Changes) -> Result<Touched, PlanFault>
     ensures { (state : State) → IsSystemOf system.old state → IsNoted state changes.now result }
 {
     let mut touched = Touched::none(alloc);
@@ -118,12 +114,7 @@ fn note_all(
 }
 
 /// Works the change of an index.
-fn work_at(
-    alloc: Global,
-    system: &mut System,
-    change: &Change,
-    index: u64,
-) -> Result<(), PlanFault>
+fn work_at(alloc: Global, system: &mut System, change: &Change, index: u64) -> Result<(), PlanFault>
     ensures { (state : State) → IsSystemOf system.old state → IsWorkedAt index state change.now system.new result }
 {
     match work(alloc, system, change) {

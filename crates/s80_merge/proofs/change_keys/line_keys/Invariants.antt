@@ -1,6 +1,5 @@
 -- The keys so far, and those of the classes that are left.
 use Rattle.std.proofs.Common.{◌≡◌, ◌++◌}
-use Rattle.std.specs.FinMap as map
 use Rattle.s80_class.specs.Table.{IsSuperclass}
 use Rattle.s80_class.proofs.lemmas.Walks.{left}
 use Rattle.s80_merge.specs.Touched.{line_keys}

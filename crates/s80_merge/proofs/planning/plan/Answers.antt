@@ -10,9 +10,11 @@ returns-in_err-ours-clause-plan c =
     rw (p.1, p.2) (not_refused (state_of c.args.base.now) c.args.ours.now c.args.theirs.now c.in_err-ours.field-0.0 (ours_accepted c.args.base.now c.args.ours.now c.requires) c.in_err-ours.ensures)
 
 pub returns-clause-plan : goal.returns-clause-plan
-returns-clause-plan c =
-    (c.in_ok-theirs.ensures.0, are_conflicts (state_of c.args.base.now) c.args.ours.now c.args.theirs.now c.in_ok-ours.ours c.in_ok-theirs.theirs c.in_ok-ours.ensures.1 c.in_ok-theirs.ensures.1 c.in_ok-conflicts.field-0
-    c.in_ok-conflicts.ensures.ascending c.in_ok-conflicts.ensures.all)
+returns-clause-plan c = (
+  c.in_ok-theirs.ensures.0,
+  are_conflicts (state_of c.args.base.now) c.args.ours.now c.args.theirs.now c.in_ok-ours.ours c.in_ok-theirs.theirs c.in_ok-ours.ensures.1 c.in_ok-theirs.ensures.1 c.in_ok-conflicts.field-0
+      c.in_ok-conflicts.ensures.ascending c.in_ok-conflicts.ensures.all,
+)
 
 pub returns-clause-merges : goal.returns-clause-merges
 returns-clause-merges c = none_merge c.args.base.now c.args.ours.now c.args.theirs.now c.in_ok-conflicts.field-0 c.requires c.in_ok-theirs.ensures.0 (returns-clause-plan c).1

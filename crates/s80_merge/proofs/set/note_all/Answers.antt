@@ -24,7 +24,7 @@ returns-in_err-work_at c = λ state is.
     let p = err_from_is_err_and c.from_residual-in_err-work_at.result c.from_residual-in_err-work_at.ensures.1 in
     rw (p.1, p.2)
     (broken_off state c.args.changes.now at.i c.at-change.result.now c.work_at.new.system c.in_err-work_at.field-0.0 c.at-change.ensures so.accepted
-        (c.in_err-work_at.ensures (state_from state (take at.i c.args.changes.now)) so.made))
+    (c.in_err-work_at.ensures (state_from state (take at.i c.args.changes.now)) so.made))
 
 pub returns : goal.returns
 returns c = λ state is.

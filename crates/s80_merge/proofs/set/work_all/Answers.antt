@@ -1,4 +1,4 @@
-use Rattle.std.proofs.Common.{◌≤◌, ap, arith, length, subst, sym, take}
+use Rattle.std.proofs.Common.{◌≤◌, arith, length, subst, sym, take}
 use Rattle.std.proofs.lemmas.List.{take_all}
 use Rattle.s80_apply.specs.List.{state_from}
 use Rattle.s80_apply.specs.System.{IsSystemOf}
