@@ -24,7 +24,7 @@ use Rattle.s80_apply.proofs.Defined.{head_row}
 use Rattle.s80_apply.proofs.Passing.{known_name, method_there, none_first, removal_accepted}
 use Rattle.s80_apply.proofs.Refusing.{accepted_where}
 use Rattle.s80_apply.proofs.Sound.{not_unknown}
-use Rattle.s80_merge.specs.Merging.{IsWithin}
+use Rattle.s80_merge.specs.Merging.{IsWithinLimits}
 use Rattle.s80_merge.proofs.Acts.{effect, form_effect, method_effect}
 use Rattle.s80_merge.proofs.Takes.{HasLine, Takes, TakesDefinition, TakesForm, TakesMethod, TakesRemoval, TakesVars}
 
@@ -115,7 +115,7 @@ abbrev OnlyLimits : Option Refusal → Type 0
 OnlyLimits None = ⊤
 OnlyLimits (Some refusal) = IsLimit refusal
 
-past_limit : {T : Type 0} (refusal : Refusal) → IsLimit refusal → IsWithin (Err refusal) → T
+past_limit : {T : Type 0} (refusal : Refusal) → IsLimit refusal → IsWithinLimits (Err refusal) → T
 past_limit Unended bad within = absurd bad
 past_limit (Syntax kind at) bad within = absurd bad
 past_limit (TooLarge word count) bad within = absurd bad
@@ -130,7 +130,7 @@ past_limit (TooMany kind count) is within = absurd within
 past_limit (LogFull at) bad within = absurd bad
 past_limit (NoSection text) bad within = absurd bad
 
-within_ok : (o : Option Refusal) (now : State) → OnlyLimits o → IsWithin (accepted o now) → accepted o now ≡ Ok now
+within_ok : (o : Option Refusal) (now : State) → OnlyLimits o → IsWithinLimits (accepted o now) → accepted o now ≡ Ok now
 within_ok None now only within = refl
 within_ok (Some refusal) now only within = past_limit refusal only within
 
@@ -199,7 +199,7 @@ method_limits name side selector state takes =
     let found : no_selector name side selector state ≡ None = ap (λ b. cond b None (Some (NoSelector name side selector))) takes.found in
     passed_first (unknown_name name state.classes) (no_selector name side selector state ∷ []) (known name state.classes takes.there) (passed_first (no_selector name side selector state) [] found tt)
 
-form_within : (form : Form) (state : State) → TakesForm form state → IsWithin (accept_form keeping_rows form state) → accept_form keeping_rows form state ≡ Ok (form_effect form state)
+form_within : (form : Form) (state : State) → TakesForm form state → IsWithinLimits (accept_form keeping_rows form state) → accept_form keeping_rows form state ≡ Ok (form_effect form state)
 form_within (Define d) state takes within = within_ok (refusal_of d state.classes) (record state { classes = define d state.classes }) (definition_limits d state.classes takes) within
 form_within (ClassVars name names) state takes within =
     within_ok (refusal_of_class_vars name names state.classes) (record state { classes = change_row (with_class_side_vars names) name state.classes }) (vars_limits name names state.classes takes) within
@@ -212,13 +212,13 @@ form_within (RemoveClass name) state takes within = within_ok (refusal_of_remova
 form_within NoChanges state takes within = refl
 
 checked_within : (m : Method) (check : Result (List ℕ) Refusal) (state : State) → (selector : List ℕ) × (check ≡ Ok selector) → map.contains_key state.classes m.class_name ≡ true
-    → IsWithin (accept_checked keeping_rows m check state) → accept_checked keeping_rows m check state ≡ Ok (method_effect m check state)
+    → IsWithinLimits (accept_checked keeping_rows m check state) → accept_checked keeping_rows m check state ≡ Ok (method_effect m check state)
 checked_within m (Err refusal) state (selector, is) there within = absurd (cc)
 checked_within m (Ok selector) state so there within =
     within_ok (first_some (unknown_name m.class_name state.classes ∷ too_many_methods m selector state ∷ [])) (put_source keeping_rows m selector state)
     (passed_first (unknown_name m.class_name state.classes) (too_many_methods m selector state ∷ []) (known m.class_name state.classes there) (limit_first (too_many_methods m selector state) [] (limit 16384 _ _) tt)) within
 
-pub within : (c : Change) (state : State) → Takes c state → IsWithin (accept c state) → accept c state ≡ Ok (effect c state)
+pub within : (c : Change) (state : State) → Takes c state → IsWithinLimits (accept c state) → accept c state ≡ Ok (effect c state)
 within (change.Form form) state takes is = form_within form state takes is
 within (change.Method m) state takes is = checked_within m m.source.selector state takes.0 takes.1 is
 within (change.DoIt text) state takes is = refl

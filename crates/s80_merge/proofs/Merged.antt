@@ -10,7 +10,7 @@ use Rattle.s80_apply.specs.State.{State, kernel_state}
 use Rattle.s80_apply.proofs.LastingWithin.{within_last}
 use Rattle.s80_apply.proofs.lemmas.Lists.{is_accepted, state_more}
 use Rattle.s80_merge.specs.declared.key.Key.{Key}
-use Rattle.s80_merge.specs.Merging.{AreWithin, IsConflict, MergeEitherWay, set_uses, set_writes}
+use Rattle.s80_merge.specs.Merging.{AreWithinLimits, IsConflict, MergeEitherWay, set_uses, set_writes}
 use Rattle.s80_merge.specs.Touched.{uses, writes}
 use Rattle.s80_merge.proofs.Accepting.{taken, within}
 use Rattle.s80_merge.proofs.Acts.{effect}
@@ -35,7 +35,7 @@ pub accepted_last : (state : State) (xs ys : List Change) → AreAccepted state 
 accepted_last state [] ys all = all
 accepted_last state (x ∷ xs) ys all = accepted_last (state_after x state) xs ys all.1
 
-within_behind : (state : State) (xs ys : List Change) → AreWithin state (xs ++ ys) → AreWithin (state_from state xs) ys
+within_behind : (state : State) (xs ys : List Change) → AreWithinLimits state (xs ++ ys) → AreWithinLimits (state_from state xs) ys
 within_behind state [] ys all = all
 within_behind state (x ∷ xs) ys all = within_behind (state_after x state) xs ys all.1
 
@@ -74,7 +74,7 @@ worked base (c ∷ cs) all =
 
 -- ---- a set that is taken, within the limits
 
-all_within : (cs : List Change) (state : State) → AreTaken state cs → AreWithin state cs → AreAccepted state cs × (state_from state cs ≡ end_of state cs)
+all_within : (cs : List Change) (state : State) → AreTaken state cs → AreWithinLimits state cs → AreAccepted state cs × (state_from state cs ≡ end_of state cs)
 all_within [] state takes limits = (tt, refl)
 all_within (c ∷ cs) state takes limits =
     let ok = within c state takes.0 limits.0 in
@@ -89,7 +89,7 @@ module _ (base ours theirs : List Change) where
   start = state_of base
 
   -- the second set behind the first
-  module _ (mine : IsWorked start ours) (behind : AreTaken (end_of start ours) theirs) (limits : AreWithin kernel_state (base ++ (ours ++ theirs))) where
+  module _ (mine : IsWorked start ours) (behind : AreTaken (end_of start ours) theirs) (limits : AreWithinLimits kernel_state (base ++ (ours ++ theirs))) where
     second : AreAccepted (state_from start ours) theirs × (state_from (state_from start ours) theirs ≡ end_of (state_from start ours) theirs)
     second =
         all_within theirs (state_from start ours) (subst (λ s. AreTaken s theirs) (sym mine.last) behind)

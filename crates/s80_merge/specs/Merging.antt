@@ -56,16 +56,16 @@ IsPlan base ours theirs (Err (Theirs index refusal)) = IsFirstRefused base their
 -- ---- merging
 
 -- nothing is refused because there would be too many of it
-abbrev pub IsWithin : Result State Refusal → Type 0
-IsWithin (Err (TooMany kind count)) = ⊥
-IsWithin _ = ⊤
+abbrev pub IsWithinLimits : Result State Refusal → Type 0
+IsWithinLimits (Err (TooMany kind count)) = ⊥
+IsWithinLimits _ = ⊤
 
-abbrev pub AreWithin : State → List Change → Type 0
-AreWithin state [] = ⊤
-AreWithin state (change ∷ changes) = IsWithin (accept change state) × AreWithin (state_after change state) changes
+abbrev pub AreWithinLimits : State → List Change → Type 0
+AreWithinLimits state [] = ⊤
+AreWithinLimits state (change ∷ changes) = IsWithinLimits (accept change state) × AreWithinLimits (state_after change state) changes
 
 -- Behind the base either set may come first: within the limits all changes are accepted, and both orders make one state.
 pub record MergeEitherWay (base ours theirs : List Change) : Type 0 where
-  pub ours_first : AreWithin kernel_state (base ++ (ours ++ theirs)) → IsBuilt (base ++ (ours ++ theirs))
-  pub theirs_first : AreWithin kernel_state (base ++ (theirs ++ ours)) → IsBuilt (base ++ (theirs ++ ours))
-  pub one_state : AreWithin kernel_state (base ++ (ours ++ theirs)) → AreWithin kernel_state (base ++ (theirs ++ ours)) → state_of (base ++ (ours ++ theirs)) ≡ state_of (base ++ (theirs ++ ours))
+  pub ours_first : AreWithinLimits kernel_state (base ++ (ours ++ theirs)) → IsBuilt (base ++ (ours ++ theirs))
+  pub theirs_first : AreWithinLimits kernel_state (base ++ (theirs ++ ours)) → IsBuilt (base ++ (theirs ++ ours))
+  pub one_state : AreWithinLimits kernel_state (base ++ (ours ++ theirs)) → AreWithinLimits kernel_state (base ++ (theirs ++ ours)) → state_of (base ++ (ours ++ theirs)) ≡ state_of (base ++ (theirs ++ ours))

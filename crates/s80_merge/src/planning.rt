@@ -52,10 +52,10 @@ pub fn plan(
     ensures plan { IsPlan (state_of base.now) ours.now theirs.now result }
     ensures merges { IfOk result (λ plan. plan.conflicts ≡ [] → MergeEitherWay base.now ours.now theirs.now) }
 {
-    let ours = touched_by(alloc, base, ours)?;
-    let theirs = touched_by(alloc, base, theirs)?;
+    let of_ours = touched_by(alloc, base, ours)?;
+    let of_theirs = touched_by(alloc, base, theirs)?;
     Ok(MergePlan {
-        conflicts: conflicts(alloc, &ours, &theirs)?,
+        conflicts: conflicts(alloc, &of_ours, &of_theirs)?,
     })
 }
 

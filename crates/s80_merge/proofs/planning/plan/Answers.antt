@@ -4,17 +4,17 @@ use Rattle.s80_merge.proofs.Conflicts.{are_conflicts}
 use Rattle.s80_merge.proofs.Planned.{none_merge, not_refused, ours_accepted}
 use Rattle.s80_merge.proofs.planning.plan.Goals as goal
 
-pub returns-in_err-ours-clause-plan : goal.returns-in_err-ours-clause-plan
-returns-in_err-ours-clause-plan c =
+pub returns-in_err-of_ours-clause-plan : goal.returns-in_err-of_ours-clause-plan
+returns-in_err-of_ours-clause-plan c =
     let p = err_from_is_err_and c.from_residual.result c.from_residual.ensures.1 in
-    rw (p.1, p.2) (not_refused (state_of c.args.base.now) c.args.ours.now c.args.theirs.now c.in_err-ours.field-0.0 (ours_accepted c.args.base.now c.args.ours.now c.requires) c.in_err-ours.ensures)
+    rw (p.1, p.2) (not_refused (state_of c.args.base.now) c.args.ours.now c.args.theirs.now c.in_err-of_ours.field-0.0 (ours_accepted c.args.base.now c.args.ours.now c.requires) c.in_err-of_ours.ensures)
 
 pub returns-clause-plan : goal.returns-clause-plan
 returns-clause-plan c = (
-  c.in_ok-theirs.ensures.0,
-  are_conflicts (state_of c.args.base.now) c.args.ours.now c.args.theirs.now c.in_ok-ours.ours c.in_ok-theirs.theirs c.in_ok-ours.ensures.1 c.in_ok-theirs.ensures.1 c.in_ok-conflicts.field-0
+  c.in_ok-of_theirs.ensures.0,
+  are_conflicts (state_of c.args.base.now) c.args.ours.now c.args.theirs.now c.in_ok-of_ours.of_ours c.in_ok-of_theirs.of_theirs c.in_ok-of_ours.ensures.1 c.in_ok-of_theirs.ensures.1 c.in_ok-conflicts.field-0
       c.in_ok-conflicts.ensures.ascending c.in_ok-conflicts.ensures.all,
 )
 
 pub returns-clause-merges : goal.returns-clause-merges
-returns-clause-merges c = none_merge c.args.base.now c.args.ours.now c.args.theirs.now c.in_ok-conflicts.field-0 c.requires c.in_ok-theirs.ensures.0 (returns-clause-plan c).1
+returns-clause-merges c = none_merge c.args.base.now c.args.ours.now c.args.theirs.now c.in_ok-conflicts.field-0 c.requires c.in_ok-of_theirs.ensures.0 (returns-clause-plan c).1
