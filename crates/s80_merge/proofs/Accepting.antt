@@ -13,18 +13,19 @@ use Rattle.s80_form.specs.declared.form.Form.TheVariants.{Define, ClassVars, Com
 use Rattle.s80_form.specs.declared.refusal.ManyKind.{ManyKind}
 use Rattle.s80_form.specs.declared.refusal.ManyKind.TheVariants.{Classes as ManyClasses, InstanceVariables, ClassVariables, ClassSideVariables, Pools, BitsVariables}
 use Rattle.s80_form.specs.declared.refusal.Refusal.{Refusal}
-use Rattle.s80_form.specs.declared.refusal.Refusal.TheVariants.{Unended, Syntax, TooLarge, UnknownClass, KernelClass, HasSubclasses, Cycle, Duplicate, BadName, NoSelector, TooMany, LogFull, NoSection}
+use Rattle.s80_form.specs.declared.refusal.Refusal.TheVariants.{UnknownClass, HasSubclasses, Cycle, Duplicate, BadName, NoSelector, TooMany}
 use Rattle.s80_class.specs.Classes.{Name, Classes, IsValid, change_row, extent_of, is_under, with_class_side_vars, with_comment}
 use Rattle.s80_class.proofs.lemmas.Lines.{lineage_line, passes}
 use Rattle.s80_class.proofs.lemmas.Most.{some_row}
 use Rattle.s80_class.proofs.lemmas.Subclasses.{has_none, is_alone}
 use Rattle.s80_apply.specs.Accept.{above, accept, accept_checked, accept_form, accepted, bad_name, classify, cycle, define, duplicate, first_again, first_some, has_subclasses, kernel_class, kernel_name, keeping_rows, no_method, no_selector, put_source, refusal_of, refusal_of_class_vars, refusal_of_removal, too_many, too_many_methods, unknown_class, unknown_name}
+use Rattle.s80_apply.specs.List.{IsAccepted}
 use Rattle.s80_apply.specs.State.{State, take_class, take_method}
 use Rattle.s80_apply.proofs.Defined.{head_row}
 use Rattle.s80_apply.proofs.Passing.{known_name, method_there, none_first, removal_accepted}
 use Rattle.s80_apply.proofs.Refusing.{accepted_where}
 use Rattle.s80_apply.proofs.Sound.{not_unknown}
-use Rattle.s80_merge.specs.Merging.{IsWithinLimits}
+use Rattle.s80_merge.specs.Merging.{IsLimit, IsWithinLimits}
 use Rattle.s80_merge.proofs.Acts.{effect, form_effect, method_effect}
 use Rattle.s80_merge.proofs.Takes.{HasLine, Takes, TakesDefinition, TakesForm, TakesMethod, TakesRemoval, TakesVars}
 
@@ -107,32 +108,18 @@ taken (change.DoIt text) state now valid is = (tt, cc)
 -- ---- taken, and so accepted within the limits
 
 -- there is no other reason than a limit
-abbrev IsLimit : Refusal → Type 0
-IsLimit (TooMany kind count) = ⊤
-IsLimit _ = ⊥
-
 abbrev OnlyLimits : Option Refusal → Type 0
 OnlyLimits None = ⊤
 OnlyLimits (Some refusal) = IsLimit refusal
 
-past_limit : {T : Type 0} (refusal : Refusal) → IsLimit refusal → IsWithinLimits (Err refusal) → T
-past_limit Unended bad within = absurd bad
-past_limit (Syntax kind at) bad within = absurd bad
-past_limit (TooLarge word count) bad within = absurd bad
-past_limit (UnknownClass name) bad within = absurd bad
-past_limit (KernelClass name) bad within = absurd bad
-past_limit (HasSubclasses name) bad within = absurd bad
-past_limit (Cycle name) bad within = absurd bad
-past_limit (Duplicate name) bad within = absurd bad
-past_limit (BadName name) bad within = absurd bad
-past_limit (NoSelector name side selector) bad within = absurd bad
-past_limit (TooMany kind count) is within = absurd within
-past_limit (LogFull at) bad within = absurd bad
-past_limit (NoSection text) bad within = absurd bad
+-- it is accepted and makes this state, or refused for a limit
+abbrev pub Answers : State → Result State Refusal → Type 0
+Answers now (Ok state) = state ≡ now
+Answers now (Err refusal) = IsLimit refusal
 
-within_ok : (o : Option Refusal) (now : State) → OnlyLimits o → IsWithinLimits (accepted o now) → accepted o now ≡ Ok now
-within_ok None now only within = refl
-within_ok (Some refusal) now only within = past_limit refusal only within
+answered : (o : Option Refusal) (now : State) → OnlyLimits o → Answers now (accepted o now)
+answered None now only = refl
+answered (Some refusal) now only = only
 
 limit : (most : ℕ) (kind : ManyKind) (count : ℕ) → OnlyLimits (above most kind count)
 limit most kind count = go (nat_le count most)
@@ -199,26 +186,41 @@ method_limits name side selector state takes =
     let found : no_selector name side selector state ≡ None = ap (λ b. cond b None (Some (NoSelector name side selector))) takes.found in
     passed_first (unknown_name name state.classes) (no_selector name side selector state ∷ []) (known name state.classes takes.there) (passed_first (no_selector name side selector state) [] found tt)
 
-form_within : (form : Form) (state : State) → TakesForm form state → IsWithinLimits (accept_form keeping_rows form state) → accept_form keeping_rows form state ≡ Ok (form_effect form state)
-form_within (Define d) state takes within = within_ok (refusal_of d state.classes) (record state { classes = define d state.classes }) (definition_limits d state.classes takes) within
-form_within (ClassVars name names) state takes within =
-    within_ok (refusal_of_class_vars name names state.classes) (record state { classes = change_row (with_class_side_vars names) name state.classes }) (vars_limits name names state.classes takes) within
-form_within (Comment name text) state takes within =
-    within_ok (unknown_name name state.classes) (record state { classes = change_row (with_comment text) name state.classes }) (subst OnlyLimits (sym (known name state.classes takes)) tt) within
-form_within (RemoveMethod name side selector) state takes within = within_ok (no_method name side selector state) (take_method name side selector state) (method_limits name side selector state takes) within
-form_within (Classify name side selector category) state takes within =
-    within_ok (no_method name side selector state) (classify keeping_rows name side selector category state) (method_limits name side selector state takes) within
-form_within (RemoveClass name) state takes within = within_ok (refusal_of_removal name state.classes) (take_class name state) (removal_limits name state.classes takes) within
-form_within NoChanges state takes within = refl
+form_answers : (form : Form) (state : State) → TakesForm form state → Answers (form_effect form state) (accept_form keeping_rows form state)
+form_answers (Define d) state takes = answered (refusal_of d state.classes) (record state { classes = define d state.classes }) (definition_limits d state.classes takes)
+form_answers (ClassVars name names) state takes =
+    answered (refusal_of_class_vars name names state.classes) (record state { classes = change_row (with_class_side_vars names) name state.classes }) (vars_limits name names state.classes takes)
+form_answers (Comment name text) state takes =
+    answered (unknown_name name state.classes) (record state { classes = change_row (with_comment text) name state.classes }) (subst OnlyLimits (sym (known name state.classes takes)) tt)
+form_answers (RemoveMethod name side selector) state takes = answered (no_method name side selector state) (take_method name side selector state) (method_limits name side selector state takes)
+form_answers (Classify name side selector category) state takes =
+    answered (no_method name side selector state) (classify keeping_rows name side selector category state) (method_limits name side selector state takes)
+form_answers (RemoveClass name) state takes = answered (refusal_of_removal name state.classes) (take_class name state) (removal_limits name state.classes takes)
+form_answers NoChanges state takes = refl
 
-checked_within : (m : Method) (check : Result (List ℕ) Refusal) (state : State) → (selector : List ℕ) × (check ≡ Ok selector) → map.contains_key state.classes m.class_name ≡ true
-    → IsWithinLimits (accept_checked keeping_rows m check state) → accept_checked keeping_rows m check state ≡ Ok (method_effect m check state)
-checked_within m (Err refusal) state (selector, is) there within = absurd (cc)
-checked_within m (Ok selector) state so there within =
-    within_ok (first_some (unknown_name m.class_name state.classes ∷ too_many_methods m selector state ∷ [])) (put_source keeping_rows m selector state)
-    (passed_first (unknown_name m.class_name state.classes) (too_many_methods m selector state ∷ []) (known m.class_name state.classes there) (limit_first (too_many_methods m selector state) [] (limit 16384 _ _) tt)) within
+checked_answers : (m : Method) (check : Result (List ℕ) Refusal) (state : State) → (selector : List ℕ) × (check ≡ Ok selector) → map.contains_key state.classes m.class_name ≡ true
+    → Answers (method_effect m check state) (accept_checked keeping_rows m check state)
+checked_answers m (Err refusal) state (selector, is) there = absurd (cc)
+checked_answers m (Ok selector) state so there =
+    answered (first_some (unknown_name m.class_name state.classes ∷ too_many_methods m selector state ∷ [])) (put_source keeping_rows m selector state)
+    (passed_first (unknown_name m.class_name state.classes) (too_many_methods m selector state ∷ []) (known m.class_name state.classes there) (limit_first (too_many_methods m selector state) [] (limit 16384 _ _) tt))
+
+answers : (c : Change) (state : State) → Takes c state → Answers (effect c state) (accept c state)
+answers (change.Form form) state takes = form_answers form state takes
+answers (change.Method m) state takes = checked_answers m m.source.selector state takes.0 takes.1
+answers (change.DoIt text) state takes = refl
+
+within_ok : (now : State) (answer : Result State Refusal) → Answers now answer → IsWithinLimits answer → answer ≡ Ok now
+within_ok now (Ok state) is limits = ap (λ s. Ok s) is
+within_ok now (Err refusal) only limits = absurd (limits only)
 
 pub within : (c : Change) (state : State) → Takes c state → IsWithinLimits (accept c state) → accept c state ≡ Ok (effect c state)
-within (change.Form form) state takes is = form_within form state takes is
-within (change.Method m) state takes is = checked_within m m.source.selector state takes.0 takes.1 is
-within (change.DoIt text) state takes is = refl
+within c state takes limits = within_ok (effect c state) (accept c state) (answers c state takes) limits
+
+-- and refused for a limit alone
+pub refused_for : (c : Change) (state : State) (refusal : Refusal) → Takes c state → accept c state ≡ Err refusal → IsLimit refusal
+refused_for c state refusal takes is = subst (Answers (effect c state)) is (answers c state takes)
+
+pub accepted_within : (answer : Result State Refusal) → IsAccepted answer → IsWithinLimits answer
+accepted_within (Ok state) is = tt
+accepted_within (Err refusal) is = absurd is

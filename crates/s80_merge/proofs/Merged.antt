@@ -1,5 +1,5 @@
 -- Two change sets without conflict merge in either order.
-use Rattle.std.proofs.Common.{◌≡◌, ◌∙◌, ◌++◌, inl, inr, refl, sym, ap, subst, List, [], ◌∷◌, Result, Ok, Err}
+use Rattle.std.proofs.Common.{◌≡◌, ◌∙◌, ◌++◌, inl, inr, ℕ, zero, suc, refl, sym, ap, subst, List, [], ◌∷◌, Some, None, Result, Ok, Err}
 use Rattle.std.specs.List.{Contains}
 use Rattle.s80_change.specs.declared.change.Change.{Change}
 use Rattle.s80_form.specs.declared.refusal.Refusal.{Refusal}
@@ -10,9 +10,9 @@ use Rattle.s80_apply.specs.State.{State, kernel_state}
 use Rattle.s80_apply.proofs.LastingWithin.{within_last}
 use Rattle.s80_apply.proofs.lemmas.Lists.{is_accepted, state_more}
 use Rattle.s80_merge.specs.declared.key.Key.{Key}
-use Rattle.s80_merge.specs.Merging.{AreWithinLimits, IsConflict, MergeEitherWay, set_uses, set_writes}
+use Rattle.s80_merge.specs.Merging.{AreWithinLimits, IsConflict, IsFirstRefused, IsLimit, MergeEitherWay, set_uses, set_writes}
 use Rattle.s80_merge.specs.Touched.{uses, writes}
-use Rattle.s80_merge.proofs.Accepting.{taken, within}
+use Rattle.s80_merge.proofs.Accepting.{accepted_within, refused_for, taken, within}
 use Rattle.s80_merge.proofs.Acts.{effect}
 use Rattle.s80_merge.proofs.Sets.{AreKeysFree, AreTaken, all_uses, all_writes, end_of, merged, turned}
 use Rattle.s80_merge.proofs.Takes.{Takes}
@@ -82,6 +82,17 @@ all_within (c ∷ cs) state takes limits =
     let more = all_within cs (state_after c state) (subst (λ s. AreTaken s cs) (sym same) takes.1) limits.1 in
     ((is_accepted (accept c state) (effect c state) ok, more.0), more.1 ∙ ap (λ s. end_of s cs) same)
 
+-- what is refused of it first
+refused_then : (state : State) (cs : List Change) (index : ℕ) (refusal : Refusal) → AreTaken state cs → IsFirstRefused state cs index refusal → IsLimit refusal
+refused_then state [] index refusal takes is = absurd (let none : None ≡ Some is.change = is.at in cc)
+refused_then state (c ∷ cs) zero refusal takes is =
+    let same : c ≡ is.change = let both : Some c ≡ Some is.change = is.at in cc in
+    refused_for c state refusal takes.0 (ap (λ d. accept d state) same ∙ is.refused)
+refused_then state (c ∷ cs) (suc index) refusal takes is =
+    let ok = within c state takes.0 (accepted_within (accept c state) is.before.0) in
+    let same : state_after c state ≡ effect c state = ap (λ answer. state_or answer state) ok in
+    refused_then (state_after c state) cs index refusal (subst (λ s. AreTaken s cs) (sym same) takes.1) (record { before = is.before.1; change = is.change; at = is.at; refused = is.refused })
+
 -- ---- both sets
 
 module _ (base ours theirs : List Change) where
@@ -89,17 +100,24 @@ module _ (base ours theirs : List Change) where
   start = state_of base
 
   -- the second set behind the first
-  module _ (mine : IsWorked start ours) (behind : AreTaken (end_of start ours) theirs) (limits : AreWithinLimits kernel_state (base ++ (ours ++ theirs))) where
-    second : AreAccepted (state_from start ours) theirs × (state_from (state_from start ours) theirs ≡ end_of (state_from start ours) theirs)
-    second =
-        all_within theirs (state_from start ours) (subst (λ s. AreTaken s theirs) (sym mine.last) behind)
-        (within_behind start ours theirs (within_behind kernel_state base (ours ++ theirs) limits))
+  module _ (mine : IsWorked start ours) (behind : AreTaken (end_of start ours) theirs) where
+    taken_behind : AreTaken (state_of (base ++ ours)) theirs
+    taken_behind = subst (λ s. AreTaken s theirs) (sym (from_both kernel_state base ours ∙ mine.last)) behind
 
-    accepted_so : IsBuilt base → AreAccepted start ours → IsBuilt (base ++ (ours ++ theirs))
-    accepted_so built all = accepted_both kernel_state base (ours ++ theirs) built (accepted_both start ours theirs all second.0)
+    refused_so : (index : ℕ) (refusal : Refusal) → IsFirstRefused (state_of (base ++ ours)) theirs index refusal → IsLimit refusal
+    refused_so index refusal is = refused_then (state_of (base ++ ours)) theirs index refusal taken_behind is
 
-    state_so : state_of (base ++ (ours ++ theirs)) ≡ end_of (end_of start ours) theirs
-    state_so = from_both kernel_state base (ours ++ theirs) ∙ from_both start ours theirs ∙ second.1 ∙ ap (λ s. end_of s theirs) mine.last
+    module _ (limits : AreWithinLimits kernel_state (base ++ (ours ++ theirs))) where
+      second : AreAccepted (state_from start ours) theirs × (state_from (state_from start ours) theirs ≡ end_of (state_from start ours) theirs)
+      second =
+          all_within theirs (state_from start ours) (subst (λ s. AreTaken s theirs) (sym mine.last) behind)
+          (within_behind start ours theirs (within_behind kernel_state base (ours ++ theirs) limits))
+
+      accepted_so : IsBuilt base → AreAccepted start ours → IsBuilt (base ++ (ours ++ theirs))
+      accepted_so built all = accepted_both kernel_state base (ours ++ theirs) built (accepted_both start ours theirs all second.0)
+
+      state_so : state_of (base ++ (ours ++ theirs)) ≡ end_of (end_of start ours) theirs
+      state_so = from_both kernel_state base (ours ++ theirs) ∙ from_both start ours theirs ∙ second.1 ∙ ap (λ s. end_of s theirs) mine.last
 
 free_sets : (state : State) (ours theirs : List Change) → IsWorked state ours → IsWorked state theirs → ((key : Key) → IsConflict state ours theirs key → ⊥)
     → AreKeysFree (all_writes state ours) (all_uses state ours) (all_writes state theirs) (all_uses state theirs)
@@ -121,6 +139,8 @@ merge_either_way base ours theirs built all_ours all_theirs free =
     let there = merged ours theirs (state_of base) mine.taken other.taken keys in
     let back = merged theirs ours (state_of base) other.taken mine.taken (turned keys) in
     record {
+      behind_ours = refused_so base ours theirs mine there.0;
+      behind_theirs = refused_so base theirs ours other back.0;
       ours_first = λ limits. accepted_so base ours theirs mine there.0 limits built all_ours;
       theirs_first = λ limits. accepted_so base theirs ours other back.0 limits built all_theirs;
       one_state = λ one two. state_so base ours theirs mine there.0 one ∙ there.1 ∙ sym (state_so base theirs ours other back.0 two);

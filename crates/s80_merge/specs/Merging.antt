@@ -55,17 +55,26 @@ IsPlan base ours theirs (Err (Theirs index refusal)) = IsFirstRefused base their
 
 -- ---- merging
 
--- nothing is refused because there would be too many of it
+-- there would be too many of something
+abbrev pub IsLimit : Refusal → Type 0
+IsLimit (TooMany kind count) = ⊤
+IsLimit _ = ⊥
+
+-- no limit is met
 abbrev pub IsWithinLimits : Result State Refusal → Type 0
-IsWithinLimits (Err (TooMany kind count)) = ⊥
-IsWithinLimits _ = ⊤
+IsWithinLimits (Ok state) = ⊤
+IsWithinLimits (Err refusal) = IsLimit refusal → ⊥
 
 abbrev pub AreWithinLimits : State → List Change → Type 0
 AreWithinLimits state [] = ⊤
 AreWithinLimits state (change ∷ changes) = IsWithinLimits (accept change state) × AreWithinLimits (state_after change state) changes
 
--- Behind the base either set may come first: within the limits all changes are accepted, and both orders make one state.
+-- Behind the base either set may come first.
 pub record MergeEitherWay (base ours theirs : List Change) : Type 0 where
+  -- the first change of the second set that is refused, is refused for a limit
+  pub behind_ours : (index : ℕ) (refusal : Refusal) → IsFirstRefused (state_of (base ++ ours)) theirs index refusal → IsLimit refusal
+  pub behind_theirs : (index : ℕ) (refusal : Refusal) → IsFirstRefused (state_of (base ++ theirs)) ours index refusal → IsLimit refusal
+  -- within the limits all changes are accepted, and both orders make one state
   pub ours_first : AreWithinLimits kernel_state (base ++ (ours ++ theirs)) → IsBuilt (base ++ (ours ++ theirs))
   pub theirs_first : AreWithinLimits kernel_state (base ++ (theirs ++ ours)) → IsBuilt (base ++ (theirs ++ ours))
   pub one_state : AreWithinLimits kernel_state (base ++ (ours ++ theirs)) → AreWithinLimits kernel_state (base ++ (theirs ++ ours)) → state_of (base ++ (ours ++ theirs)) ≡ state_of (base ++ (theirs ++ ours))
