@@ -12,3 +12,4 @@ pub mod LineKeys
 pub mod Working
 pub mod Conflicts
 pub mod Planned
+pub mod OnePlan

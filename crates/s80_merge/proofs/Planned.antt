@@ -14,7 +14,7 @@ use Rattle.s80_merge.specs.Work.{IsNoted}
 use Rattle.s80_merge.proofs.Members.{in_none}
 use Rattle.s80_merge.proofs.Merged.{accepted_first, accepted_last, merge_either_way}
 
-accepted_at : (state : State) (cs : List Change) (i : ℕ) (c : Change) → AreAccepted state cs → slice_get cs i ≡ Some c → IsAccepted (accept c (state_from state (take i cs)))
+pub accepted_at : (state : State) (cs : List Change) (i : ℕ) (c : Change) → AreAccepted state cs → slice_get cs i ≡ Some c → IsAccepted (accept c (state_from state (take i cs)))
 accepted_at state [] i c all at = absurd (cc)
 accepted_at state (d ∷ ds) zero c all at = let same : d ≡ c = cc in subst (λ e. IsAccepted (accept e state)) same all.0
 accepted_at state (d ∷ ds) (suc i) c all at = accepted_at (state_after d state) ds i c all.1 at

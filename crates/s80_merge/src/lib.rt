@@ -11,5 +11,5 @@ mod set;
 
 pub use key::Key;
 pub use keys::Keys;
-pub use laws::sets_without_conflicts_merge;
+pub use laws::{one_plan, sets_without_conflicts_merge};
 pub use planning::{MergePlan, PlanFault, plan};
