@@ -6,3 +6,4 @@ pub mod Telling
 pub mod Categories
 pub mod Listed
 pub mod Seeking
+pub mod Fitting

@@ -6,3 +6,4 @@ pub mod Sought
 pub mod Replies
 pub mod Texts
 pub mod Entries
+pub mod Plain

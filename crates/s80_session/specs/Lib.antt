@@ -1,5 +1,4 @@
 pub mod Replies
-pub mod Plain
 pub mod Ending
 pub mod Ends
 pub mod Putting

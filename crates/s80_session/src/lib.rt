@@ -7,7 +7,6 @@ mod files;
 mod input;
 mod make;
 mod outside;
-mod plain;
 mod queries;
 mod replies;
 mod reply;

@@ -25,7 +25,6 @@ ghost use Rattle.s80_session.specs.Run.{HasKept, ShownFor};
 
 use crate::end::SessionEnd;
 use crate::outside::{commit, keep_later, put_all, start_keeper};
-use crate::plain::{Plain, plain_of};
 use crate::replies::Replies;
 use crate::reply::{ACCEPTED, refusal_at_fault, refusal_line, reply_to_keeping};
 use s80_apply::{accepted_forms_are_lawful, classes_are_named};
@@ -39,7 +38,8 @@ use s80_form::{FitWord, Refusal, Refused};
 use s80_keeper::Keeper;
 use s80_machine::Ran;
 use s80_model::{
-    Answer, Reply, Section, SessionItem, head_answer, method_of, snapshot_note, too_long_answer,
+    Answer, Plain, Reply, Section, SessionItem, head_answer, method_of, plain_of, snapshot_note,
+    too_long_answer,
 };
 use s80_syntax::MethodTree;
 use s80_verify::Verified;

@@ -14,8 +14,8 @@ use Rattle.s80_model.specs.declared.reply.Reply.{Reply}
 use Rattle.s80_doit.specs.DoIt.{IsMethodOfDoIt}
 use Rattle.s80_model.specs.Asked.{AsksPlain, adds, condenses, snapshot_note}
 use Rattle.s80_model.specs.Replies.{Work}
-use Rattle.s80_session.specs.declared.plain.Plain.{Plain}
-use Rattle.s80_session.specs.Plain.{IsPlain}
+use Rattle.s80_model.specs.declared.plain.Plain.{Plain}
+use Rattle.s80_model.specs.Plain.{IsPlain}
 use Rattle.s80_session.specs.Known.{IsLawfulAnywhere}
 use Rattle.s80_session.specs.Files.{IsOther, IsUnwritten}
 use Rattle.s80_session.specs.Session.{keeper_of, last_run_of, room_of, was_of, RunAfterText}

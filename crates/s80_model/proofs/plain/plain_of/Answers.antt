@@ -2,8 +2,8 @@ use Rattle.std.proofs.Common.{inl, refl, subst}
 use Rattle.s80_tree.specs.Tree.{doit_of}
 use Rattle.s80_form.specs.declared.form.Recognised.{Recognised}
 use Rattle.s80_form.specs.Form.{Recognises}
-use Rattle.s80_session.proofs.Asking.{condensing_fits, doit_fits}
-use Rattle.s80_session.proofs.plain.plain_of.Goals as goal
+use Rattle.s80_model.proofs.Fitting.{condensing_fits, doit_fits}
+use Rattle.s80_model.proofs.plain.plain_of.Goals as goal
 
 pub returns-in-Err : goal.returns-in-Err
 returns-in-Err c = inl (c.in_ok-syntax_refusal-in-Err.ensures.doit c.args.text c.in-Err.ensures.fault)

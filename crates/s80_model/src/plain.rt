@@ -1,6 +1,6 @@
 // What plain texts ask.
 ghost use Rattle.std.specs.Prelude.{◌≤◌, length};
-ghost use Rattle.s80_session.specs.Plain.{IsPlain};
+ghost use Rattle.s80_model.specs.Plain.{IsPlain};
 
 use s80_base::Text;
 use s80_change::{fitting_doit, syntax_refusal};
@@ -10,7 +10,7 @@ use std::alloc::Global;
 
 /// What a plain text asks that has a tree which fits a machine.
 #[derive(Debug, Drop)]
-pub(crate) enum Plain {
+pub enum Plain {
     /// To change classes so.
     Form(Form),
     /// To take a snapshot.
@@ -22,7 +22,7 @@ pub(crate) enum Plain {
 }
 
 /// What a plain text asks, or why it is refused by itself: it has no tree, or one that doesn't fit a machine. It is parsed once.
-pub(crate) fn plain_of(alloc: Global, text: Text) -> Result<Plain, Refused>
+pub fn plain_of(alloc: Global, text: Text) -> Result<Plain, Refused>
     requires { length text ≤ 65535 }
     ensures { IsPlain text result }
 {

@@ -6,8 +6,8 @@ use Rattle.s80_form.specs.declared.refusal.Refused.{Refused}
 use Rattle.s80_form.specs.declared.refusal.Refused.TheVariants as refused
 use Rattle.s80_doit.specs.DoIt.{IsMethodOfDoIt}
 use Rattle.s80_model.specs.Asked.{AsksPlain, refuses, adds, condenses, snapshot_note}
-use Rattle.s80_session.specs.declared.plain.Plain.{Plain}
-use Rattle.s80_session.specs.declared.plain.Plain.TheVariants as plain
+use Rattle.s80_model.specs.declared.plain.Plain.{Plain}
+use Rattle.s80_model.specs.declared.plain.Plain.TheVariants as plain
 
 -- the text asks to add the change of this form, or the note of a snapshot, or to condense, or to be evaluated, and then this is its tree as a
 -- method; or it is refused so
