@@ -1,5 +1,5 @@
 // The activations that are alive.
-ghost use Rattle.std.specs.Prelude.{◌≡◌, ◌+◌, ◌<◌, ◌≤◌, ◌∷◌, [], ℕ, List, IfOk, IfSome, OnOk, get_or, length, option_copied, reverse, slice_get, take};
+ghost use Rattle.std.specs.Prelude.{◌≡◌, ◌+◌, ◌<◌, ◌≤◌, ◌∷◌, [], ℕ, List, IfOk, IfSome, OnOk, get_or, length, option_copied, reverse, slice_get, take, vec_capacity, vec_len};
 ghost use Rattle.std.specs.Option.{option_map};
 ghost use Rattle.s80_code.specs.declared.code.Code.{Code};
 ghost use Rattle.s80_machine.specs.Counted.{count_of, one_of};
@@ -73,12 +73,12 @@ impl Contexts {
         ensures { OnOk result (self.new ≡ context ∷ self.old) }
     {
         let Some(block) = context.block() else {
-            self.contexts.reserve(1)?;
+            make_room(&mut self.contexts)?;
             self.contexts.push_reserved(context);
             return Ok(());
         };
         let count = raised_count(&mut self.counts, block)?;
-        self.contexts.reserve(1)?;
+        make_room(&mut self.contexts)?;
         self.contexts.push_reserved(context);
         self.counts[block as usize] = count;
         Ok(())
@@ -220,6 +220,19 @@ impl Contexts {
     {
         count_at(&self.counts, block) > 0
     }
+}
+
+// Makes room for one more activation, where there is none.
+#[inline(always)]
+fn make_room(contexts: &mut Vec<Context>) -> Result<(), OutOfMemory>
+    ensures items { contexts.new.items ≡ contexts.old.items }
+    ensures room { OnOk result (vec_len contexts.new < vec_capacity contexts.new) }
+{
+    if contexts.len() < contexts.capacity() {
+        return Ok(());
+    }
+    contexts.reserve(1)?;
+    Ok(())
 }
 
 // Room that is there, or what grows into one.
