@@ -1,0 +1,3 @@
+mod Numerals
+mod Longest
+mod Lexing
