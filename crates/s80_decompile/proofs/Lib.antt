@@ -1,3 +1,4 @@
 mod Numerals
 mod Longest
 mod Lexing
+mod Values

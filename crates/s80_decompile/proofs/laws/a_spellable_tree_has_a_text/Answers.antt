@@ -1,5 +1,6 @@
 use Rattle.s80_decompile.proofs.Lexing.{lexed_text}
+use Rattle.s80_decompile.proofs.Values.{number_spellable}
 use Rattle.s80_decompile.proofs.laws.a_spellable_tree_has_a_text.Goals as goal
 
 pub returns : goal.returns
-returns c = let x = lexed_text in ?
+returns c = let x = lexed_text in let y = number_spellable in ?
