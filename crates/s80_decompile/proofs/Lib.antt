@@ -2,3 +2,5 @@ mod Numerals
 mod Longest
 mod Lexing
 mod Values
+mod Selecting
+mod Spells

@@ -1,6 +1,7 @@
 use Rattle.s80_decompile.proofs.Lexing.{lexed_text}
+use Rattle.s80_decompile.proofs.Spells.{method_spelled}
 use Rattle.s80_decompile.proofs.Values.{number_spellable}
 use Rattle.s80_decompile.proofs.laws.a_spellable_tree_has_a_text.Goals as goal
 
 pub returns : goal.returns
-returns c = let x = lexed_text in let y = number_spellable in ?
+returns c = let x = lexed_text in let y = number_spellable in let z = method_spelled in ?
