@@ -4,3 +4,5 @@ mod Lexing
 mod Values
 mod Selecting
 mod Spells
+mod ReadParts
+mod ReadTrees
