@@ -6,3 +6,5 @@ mod Selecting
 mod Spells
 mod ReadParts
 mod ReadTrees
+mod Moved
+mod ReadMethods

@@ -87,12 +87,12 @@ name_read n ls more e =
       left = f.left;
     }
 
-declared_read : (n : NameAt) (ls more : Lexemes) → IsDeclarable n → unplaced_tokens ls ≡ token kind.Name n.name ∷ more → Read unplaced_name IsDeclared n ls more
+pub declared_read : (n : NameAt) (ls more : Lexemes) → IsDeclarable n → unplaced_tokens ls ≡ token kind.Name n.name ∷ more → Read unplaced_name IsDeclared n ls more
 declared_read n ls more h e =
     let r = name_read n ls more e in
     record { tree = r.tree; same = r.same; rest = r.rest; reads = (r.reads, ap (λ (x : NameAt). is_reserved x.name) r.same ∙ h.1); left = r.left }
 
-names_same : (n p : NameAt) (ns ps : List NameAt) → unplaced_name n ≡ unplaced_name p → unplaced_names ns ≡ unplaced_names ps → unplaced_names (n ∷ ns) ≡ unplaced_names (p ∷ ps)
+pub names_same : (n p : NameAt) (ns ps : List NameAt) → unplaced_name n ≡ unplaced_name p → unplaced_names ns ≡ unplaced_names ps → unplaced_names (n ∷ ns) ≡ unplaced_names (p ∷ ps)
 names_same n p ns ps e f = ap (λ x. x ∷ unplaced_names ns) e ∙ ap (λ l. unplaced_name p ∷ l) f
 
 pub targets_read : (ns : List NameAt) (ls more : Lexemes) → unplaced_tokens ls ≡ target_tokens ns more → Read unplaced_names IsTargets ns ls more
