@@ -8,3 +8,5 @@ mod ReadParts
 mod ReadTrees
 mod Moved
 mod ReadMethods
+mod WellSpelled
+mod WellFormed
