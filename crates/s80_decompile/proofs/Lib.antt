@@ -10,3 +10,4 @@ mod Moved
 mod ReadMethods
 mod WellSpelled
 mod WellFormed
+mod Printing

@@ -20,7 +20,7 @@ passes_colon : (w : List ℕ) → Passes is_ascii_alphanumeric w → Passes (λ 
 passes_colon [] h = tt
 passes_colon (b ∷ w) h = (ap not (no_colon b h.0), passes_colon w h.1)
 
-has_mark : (mark : ℕ) (w rest : List ℕ) → (mark == mark) ≡ true → has mark (w ++ mark ∷ rest) ≡ true
+pub has_mark : (mark : ℕ) (w rest : List ℕ) → (mark == mark) ≡ true → has mark (w ++ mark ∷ rest) ≡ true
 has_mark mark [] rest e = ap (λ t. t || has mark rest) e
 has_mark mark (b ∷ w) rest e = ap (λ t. (b == mark) || t) (has_mark mark w rest e) ∙ or_true (b == mark)
   where

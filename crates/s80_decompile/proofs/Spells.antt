@@ -150,9 +150,12 @@ mutual
   primary_spelled (name n) more h m = (refl, h, m)
   primary_spelled (literal v) more h m = literal_spelled false v more h m
   primary_spelled (paren e) more h m = (refl, refl, expr_spelled e (token kind.CloseParen (codes ")") ∷ more) h (refl, refl, m))
-  primary_spelled (block ps ss) more h m =
-      (refl, refl, parameters_spelled ps (bar_tokens ps ss (body_tokens ss (token kind.CloseBracket (codes "]") ∷ more))) h.0
-      (bar_spelled ps ss (body_tokens ss (token kind.CloseBracket (codes "]") ∷ more)) (body_spelled ss (token kind.CloseBracket (codes "]") ∷ more) h.1 (refl, refl, m))))
+  primary_spelled (block ps ss) more h m = (
+    refl,
+    refl,
+    parameters_spelled ps (bar_tokens ps ss (body_tokens ss (token kind.CloseBracket (codes "]") ∷ more))) h.0
+        (bar_spelled ps ss (body_tokens ss (token kind.CloseBracket (codes "]") ∷ more)) (body_spelled ss (token kind.CloseBracket (codes "]") ∷ more) h.1 (refl, refl, m))),
+  )
 
   operand_spelled : (e : ExprTree) (high : ℕ) (more : Lexemes) → IsSpellableOperand e high → AreSpelled more → AreSpelled (expr_tokens e more)
   operand_spelled (expr ns p ms (messages s es cs)) high more (a, b, c, d) m = absurd b

@@ -1,6 +1,5 @@
 // Literals.
 ghost use Rattle.std.specs.Prelude.{◌≡◌, ◌∷◌, [], OnOk};
-ghost use Rattle.std.specs.Fmt.{signed_decimal};
 ghost use Rattle.s80_base.specs.Literal.{literal_of, literals_of};
 ghost use Rattle.s80_lex.specs.Spelling.{begins_with, quoted};
 ghost use Rattle.s80_lex.specs.declared.token.TokenKind.TheVariants as kinds;
@@ -22,7 +21,7 @@ pub(crate) fn literal(
     ensures { OnOk result (Prints printer.old printer.new (literal_tokens (literal_of literal.now))) }
 {
     match literal {
-        Literal::Small(value) => small(alloc, printer, *value),
+        Literal::Small(value) => number(printer, format!(in alloc; "{value}")?.as_bytes()),
         Literal::Character(byte) => printer.token(TokenKind::Character, &[b'$', *byte]),
         Literal::Str(text) => string(alloc, printer, text.bytes()),
         Literal::Symbol(text) => symbol(alloc, printer, text.bytes()),
@@ -51,12 +50,6 @@ fn literals(alloc: Global, printer: &mut Printer, literals: &Literals) -> Result
         literal(alloc, printer, element)?;
     }
     Ok(())
-}
-
-fn small(alloc: Global, printer: &mut Printer, value: i32) -> Result<(), OutOfMemory>
-    ensures { OnOk result (Prints printer.old printer.new (number_tokens (signed_decimal value))) }
-{
-    number(printer, format!(in alloc; "{value}")?.as_bytes())
 }
 
 /// A number by its bytes, after a minus where it is negative.

@@ -22,6 +22,12 @@ pub fn tree_text(alloc: Global, tree: &MethodTree) -> Result<Text, OutOfMemory>
     ensures read { IsSpellable (method_of tree.now) → IfOk result (λ text. HasTree text (method_of tree.now)) }
 {
     a_spellable_tree_has_a_text();
+    spelled(alloc, tree)
+}
+
+fn spelled(alloc: Global, tree: &MethodTree) -> Result<Text, OutOfMemory>
+    ensures { IfOk result (λ text. text ≡ method_text (method_of tree.now)) }
+{
     let mut printer = Printer::new(alloc);
     pattern(&mut printer, &tree.parameters.items, tree.selector.bytes())?;
     primitive(alloc, &mut printer, tree.primitive)?;
@@ -31,11 +37,7 @@ pub fn tree_text(alloc: Global, tree: &MethodTree) -> Result<Text, OutOfMemory>
 }
 
 /// A selector with its parameters.
-fn pattern(
-    printer: &mut Printer,
-    parameters: &[NameAt],
-    selector: &[u8],
-) -> Result<(), OutOfMemory>
+fn pattern(printer: &mut Printer, parameters: &[NameAt], selector: &[u8]) -> Result<(), OutOfMemory>
     ensures { OnOk result (Prints printer.old printer.new (pattern_tokens parameters.now selector.now)) }
 {
     if parameters.is_empty() {

@@ -17,20 +17,20 @@ use std::alloc::Global;
 pub(crate) fn body(alloc: Global, printer: &mut Printer, body: &Body) -> Result<(), OutOfMemory>
     ensures { OnOk result (Prints printer.old printer.new (body_tokens (body_of body.now))) }
 {
-    let mut left = body.items.len();
+    let mut follows = false;
     for one in &body.items {
-        left -= 1;
+        period(printer, follows)?;
         statement(alloc, printer, one)?;
-        period(printer, left > 0)?;
+        follows = true;
     }
     Ok(())
 }
 
-/// A period, where another statement follows.
-fn period(printer: &mut Printer, more: bool) -> Result<(), OutOfMemory>
-    ensures { OnOk result (Prints printer.old printer.new (period_if more)) }
+/// A period, where a statement follows another.
+fn period(printer: &mut Printer, follows: bool) -> Result<(), OutOfMemory>
+    ensures { OnOk result (Prints printer.old printer.new (period_if follows)) }
 {
-    if more {
+    if follows {
         printer.token(TokenKind::Period, b".")?;
     }
     Ok(())
@@ -118,7 +118,7 @@ fn bar(printer: &mut Printer, names: &[NameAt], body: &Body) -> Result<(), OutOf
     if names.is_empty() {
         return Ok(());
     }
-    if body.items.is_empty() {
+    if body.count() == 0 {
         return Ok(());
     }
     printer.token(TokenKind::Binary, b"|")
@@ -151,7 +151,7 @@ fn message(alloc: Global, printer: &mut Printer, one: &Message) -> Result<(), Ou
     ensures { OnOk result (Prints printer.old printer.new (message_tokens (message_of one.now).1 (message_of one.now).0)) }
 {
     let selector = one.selector.bytes();
-    if one.arguments.items.is_empty() {
+    if one.arguments.count() == 0 {
         return printer.token(TokenKind::Name, selector);
     }
     arguments(alloc, printer, &one.arguments, selector)

@@ -1,0 +1,13 @@
+use Rattle.std.proofs.Common.{refl, ◌∷◌}
+use Rattle.s80_lex.specs.declared.token.TokenKind.TheVariants as kind
+use Rattle.s80_decompile.specs.TreeTokens.{name_tokens, token}
+use Rattle.s80_decompile.proofs.Printing.{named, still_end, still_step}
+use Rattle.s80_decompile.proofs.method.names.Goals as goal
+
+pub loop-name-preserved : goal.loop-name-preserved
+loop-name-preserved c =
+    still_step name_tokens c.args.printer.now c.loop-name.printer (name_tokens c.args.names.now) c.args.names.now c.loop-name.name-index c.token.new.self (λ more. token kind.Name c.name-item.result.name ∷ more) c.name-item.result (λ rest more. refl)
+    c.loop-name-test.true c.name-item.is c.loop-name.invariant (named c.loop-name.printer c.token.new.self c.name-item.result c.bytes.result.now c.bytes.ensures c.in_ok-token.ensures)
+
+pub returns : goal.returns
+returns c = still_end name_tokens c.args.printer.now c.loop-name.printer (name_tokens c.args.names.now) c.args.names.now c.loop-name.name-index (λ more. refl) c.loop-name-test.false c.loop-name.invariant
