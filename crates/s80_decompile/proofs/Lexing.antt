@@ -1,6 +1,6 @@
 -- The text of tokens has these tokens.
-use Rattle.std.proofs.Common.{◌≡◌, ℕ, suc, ◌+◌, inl, inr, List, [], ◌∷◌, ◌++◌, Bool, true, false, not, ◌&&◌, ◌||◌, ◌==◌, cond, codes, length, refl, ap, sym, ◌∙◌, subst, arith, rules, tests, append_assoc, length-append, length-drop, ◌-◌}
-use Rattle.std.proofs.lemmas.Bool.{eq-eqb, false≢true}
+use Rattle.std.proofs.Common.{◌≡◌, ℕ, ◌+◌, inl, inr, List, [], ◌∷◌, ◌++◌, Bool, true, false, not, ◌&&◌, ◌||◌, ◌==◌, codes, length, refl, ap, sym, ◌∙◌, subst, arith, append_assoc, length-append, length-drop, ◌-◌}
+use Rattle.std.proofs.lemmas.Bool.{eq-eqb}
 use Rattle.std.proofs.lemmas.Bool.Decides.{nat_tests}
 use Rattle.std.proofs.lemmas.List.{take_at, drop_at, take_rest, drop-drop, append-nil}
 use Rattle.std.specs.Prelude.{slice_range, take, drop}
@@ -10,7 +10,7 @@ use Rattle.s80_lex.specs.declared.token.TokenKind.TheVariants as kind
 use Rattle.s80_lex.specs.Class.{class_of}
 use Rattle.s80_lex.specs.Front.{first_class}
 use Rattle.s80_lex.specs.Number.{IsLawfulNumber}
-use Rattle.s80_lex.specs.Spelling.{IsName, IsBinary, IsNumber, NotNext, begins_with, keyword, quoted}
+use Rattle.s80_lex.specs.Spelling.{IsName, IsBinary, IsNumber, NotNext, keyword, quoted}
 use Rattle.s80_lex.specs.Text.{IsLongest, AreTokens}
 use Rattle.s80_lex.proofs.Begins.{number_first}
 use Rattle.s80_lex.proofs.Classes.{letter_differs}
@@ -19,12 +19,12 @@ use Rattle.s80_lex.proofs.lemmas.Parts.{Up, up_none, up_all, up_more, up_separat
 use Rattle.s80_lex.proofs.lemmas.Standing.{takes_stands}
 use Rattle.s80_lex.proofs.lemmas.Taken.{mark_takes}
 use Rattle.s80_form.specs.Name.{IsSelectorWord}
-use Rattle.s80_form.proofs.Longest.{Stops, name_longest, keyword_longest, symbol_longest, string_longest}
+use Rattle.s80_form.proofs.Longest.{name_longest, keyword_longest, symbol_longest, string_longest}
 use Rattle.s80_syntax.specs.Lexeme.{Lexeme, Lexemes, is_joined, joins, lexeme, lexemes}
 use Rattle.s80_syntax.specs.Word.{minus}
 use Rattle.s80_decompile.specs.Places.{unplaced_token, unplaced_tokens}
 use Rattle.s80_decompile.specs.Spelled.{closes, is_spaced, opens, space_if, spelled, text_of_tokens}
-use Rattle.s80_decompile.proofs.Numerals.{Quiet, StopsNumber, is_number_byte, number_longest}
+use Rattle.s80_decompile.proofs.Numerals.{Quiet, StopsNumber, number_longest}
 use Rattle.s80_decompile.proofs.Longest.{StopsAt, stops, not_quote, not_equals, binary_longest, minus_longest, character_longest, assign_longest, mark_longest, array_longest, colon_longest}
 
 -- ---- tokens that are spelled as their kinds

@@ -1,7 +1,6 @@
 -- Each kind of token is the longest at its place, before what a printed text has behind it.
-use Rattle.std.proofs.Common.{◌≡◌, ℕ, ◌+◌, inl, inr, List, [], ◌∷◌, ◌++◌, Bool, true, false, ◌==◌, codes, take, drop, length, refl, ap, sym, ◌∙◌, subst, arith, rules, tests}
+use Rattle.std.proofs.Common.{◌≡◌, ℕ, List, [], ◌∷◌, ◌++◌, Bool, true, false, ◌==◌, codes, take, length, refl, sym, subst, arith, rules, tests}
 use Rattle.std.specs.List.{list_any}
-use Rattle.std.specs.Char.{is_ascii_alphanumeric}
 use Rattle.std.proofs.lemmas.List.{take_at, drop_at}
 use Rattle.s80_lex.specs.declared.token.TokenKind.{TokenKind}
 use Rattle.s80_lex.specs.declared.token.TokenKind.TheVariants as kind
@@ -11,7 +10,7 @@ use Rattle.s80_lex.specs.Spelling.{IsBinary, NotNext}
 use Rattle.s80_lex.specs.Text.{IsLongest}
 use Rattle.s80_lex.proofs.lemmas.Selectors.{binary_one, binary_two}
 use Rattle.s80_lex.proofs.lemmas.Signs.{colon_takes, array_takes}
-use Rattle.s80_lex.proofs.lemmas.Taken.{binary_takes, character_takes, underscore_takes, mark_takes}
+use Rattle.s80_lex.proofs.lemmas.Taken.{binary_takes, character_takes, underscore_takes}
 use Rattle.s80_form.proofs.Longest.{Ends, Stops}
 
 -- what was taken, as a word and what follows it

@@ -1,5 +1,5 @@
 -- What is lawful and what is spellable stays so, whatever the places.
-use Rattle.std.proofs.Common.{◌≡◌, ℕ, suc, ◌≤◌, ◌⊎◌, inl, inr, List, [], ◌∷◌, Bool, true, false, length, map, refl, ap, sym, ◌∙◌, subst}
+use Rattle.std.proofs.Common.{◌≡◌, ℕ, suc, ◌⊎◌, inl, inr, List, [], ◌∷◌, Bool, true, false, length, refl, ap, sym, ◌∙◌, subst}
 use Rattle.s80_lex.specs.Selector.{IsSelectorOf}
 use Rattle.s80_lex.specs.Spelling.{IsKeywordSelector}
 use Rattle.s80_syntax.specs.Grammar.{IsCascadeOf, IsEmpty, IsNone}
@@ -7,7 +7,7 @@ use Rattle.s80_syntax.specs.Limits.{AreAssignable, AreLawfulExprs, AreLawfulMess
 use Rattle.s80_syntax.specs.Word.{names_in}
 use Rattle.s80_tree.specs.declared.name.NameAt.{NameAt}
 use Rattle.s80_tree.specs.Tree.{ExprTree, PrimaryTree, ExprTrees, MessageTrees, BodyTree, MethodParts, expr, name, literal, block, paren, no_exprs, exprs, no_messages, messages, no_stmts, stmts}
-use Rattle.s80_decompile.specs.Places.{unplaced, unplaced_body, unplaced_expr, unplaced_exprs, unplaced_messages, unplaced_name, unplaced_names, unplaced_primary}
+use Rattle.s80_decompile.specs.Places.{unplaced, unplaced_body, unplaced_expr, unplaced_exprs, unplaced_messages, unplaced_names, unplaced_primary}
 use Rattle.s80_decompile.specs.Spellable.{AreDeclarable, AreNames, AreSpellableMessages, AreSpellableOperands, IsSpellable, IsSpellableBody, IsSpellableCascade, IsSpellableExpr, IsSpellableMessage, IsSpellableOperand, IsSpellablePrimary, MayFollow, count}
 
 -- each follows from the other

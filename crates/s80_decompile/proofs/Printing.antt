@@ -1,7 +1,7 @@
 -- Tokens printed one after another.
-use Rattle.std.proofs.Common.{◌≡◌, ℕ, zero, suc, decimal, ◌+◌, ◌-◌, ◌<◌, ◌≤◌, List, [], ◌∷◌, ◌++◌, Bool, true, false, cond, not, ◌||◌, ◌==◌, Result, Ok, Err, IfOk, OnOk, length, map, take, drop, get_or, refl, ap, sym, ◌∙◌, subst, arith, if◌then◌else◌, length-append, length-take-le, append_assoc, one-add}
-use Rattle.std.specs.List.{position_or_len, before_first, after_first}
-use Rattle.std.proofs.lemmas.Bool.{eqb-true, false≢true}
+use Rattle.std.proofs.Common.{◌≡◌, ℕ, zero, suc, decimal, ◌+◌, ◌-◌, ◌<◌, ◌≤◌, List, [], ◌∷◌, ◌++◌, Bool, true, false, cond, not, ◌||◌, ◌==◌, Result, Ok, Err, IfOk, OnOk, length, map, take, drop, get_or, refl, ap, sym, ◌∙◌, subst, arith, if◌then◌else◌, length-append, length-take-le, append_assoc}
+use Rattle.std.specs.List.{position_or_len}
+use Rattle.std.proofs.lemmas.Bool.{eqb-true}
 use Rattle.std.proofs.lemmas.List.{drop_all, drop_more, take_at, take_rest}
 use Rattle.std.proofs.lemmas.List.Sums.{split_at_first, passes_at_first}
 use Rattle.s80_base.specs.Literal.{LiteralTrees, literal_of, literals_from, literals_of}

@@ -1,23 +1,20 @@
 -- Methods, read from their tokens: the text of a spellable tree has that tree.
-use Rattle.std.proofs.Common.{◌≡◌, ℕ, zero, suc, pos, ◌≤◌, ◌^◌, ◌<◌, inl, inr, List, [], ◌∷◌, ◌++◌, false, true, codes, decimal, length, refl, ap, sym, ◌∙◌, subst, arith, map}
+use Rattle.std.proofs.Common.{◌≡◌, ℕ, zero, suc, ◌≤◌, inl, inr, List, [], ◌∷◌, ◌++◌, false, true, decimal, length, refl, ap, sym, ◌∙◌, subst, arith}
 use Rattle.std.specs.List.{AllByRecursion, flat_map}
-use Rattle.s80_base.specs.Literal.{small}
 use Rattle.s80_lex.specs.declared.token.TokenKind.TheVariants as kind
 use Rattle.s80_lex.specs.Number.{behind, number_literal}
 use Rattle.s80_lex.specs.Selector.{IsSelectorOf}
 use Rattle.s80_lex.specs.Spelling.{IsName as IsNameWord, keyword}
-use Rattle.s80_syntax.specs.Lexeme.{Lexeme, Lexemes, lexemes}
+use Rattle.s80_syntax.specs.Lexeme.{Lexemes, lexemes}
 use Rattle.s80_syntax.specs.Grammar.{AreKeywords, AreOptionalTemporaries, IsHead, IsMethod, IsPattern, IsPrimitive, IsBody}
-use Rattle.s80_syntax.specs.Text.{IsMethodOf}
-use Rattle.s80_syntax.specs.Word.{bar, greater, is_reserved, less, primitive_word}
+use Rattle.s80_syntax.specs.Word.{bar, greater, less, primitive_word}
 use Rattle.s80_tree.specs.declared.name.NameAt.{NameAt}
 use Rattle.s80_tree.specs.Tree.{BodyTree, MethodParts}
-use Rattle.s80_decompile.specs.Places.{unplaced, unplaced_body, unplaced_name, unplaced_names, unplaced_tokens}
+use Rattle.s80_decompile.specs.Places.{unplaced, unplaced_body, unplaced_names, unplaced_tokens}
 use Rattle.s80_decompile.specs.Spellable.{AreDeclarable, IsSpellable}
-use Rattle.s80_decompile.specs.Spelled.{text_of_tokens}
 use Rattle.s80_decompile.specs.TreeText.{HasTree, method_text}
-use Rattle.s80_decompile.specs.TreeTokens.{body_tokens, declared_tokens, method_tokens, name_tokens, part_token, pattern_tokens, primitive_tokens, temporary_tokens, token}
-use Rattle.s80_decompile.proofs.Lexing.{Lexed, lexed_text}
+use Rattle.s80_decompile.specs.TreeTokens.{body_tokens, declared_tokens, method_tokens, name_tokens, pattern_tokens, primitive_tokens, temporary_tokens, token}
+use Rattle.s80_decompile.proofs.Lexing.{lexed_text}
 use Rattle.s80_decompile.proofs.Moved.{lawful_stays}
 use Rattle.s80_decompile.proofs.ReadParts.{Read, Took, declared_read, first_of, names_read, names_same, sign_read}
 use Rattle.s80_decompile.proofs.ReadTrees.{body_read}

@@ -1,6 +1,5 @@
 -- Names and literals, read from their tokens, which stand at places now.
-use Rattle.std.proofs.Common.{◌≡◌, ℕ, zero, suc, pos, negsuc, ◌^◌, ◌<◌, ◌≤◌, ◌⊎◌, inl, inr, List, [], ◌∷◌, ◌++◌, Bool, true, false, ◌&&◌, ◌==◌, codes, decimal, length, refl, ap, sym, ◌∙◌, subst, arith, rules, map}
-use Rattle.std.specs.Fmt.{signed_decimal}
+use Rattle.std.proofs.Common.{◌≡◌, ℕ, suc, pos, negsuc, ◌⊎◌, inl, inr, List, [], ◌∷◌, Bool, true, false, ◌&&◌, codes, decimal, refl, ap, sym, ◌∙◌, subst, arith}
 use Rattle.std.specs.Str.{bytes_eq}
 use Rattle.s80_base.specs.Literal.{LiteralTree, LiteralTrees, small, character, str, symbol, array, true_literal, false_literal, nil_literal, number, no_literals, literals}
 use Rattle.s80_lex.specs.declared.token.TokenKind.{TokenKind}
@@ -10,11 +9,11 @@ use Rattle.s80_lex.specs.Spelling.{IsNumber, quoted}
 use Rattle.s80_form.proofs.lemmas.Operands.{str_is}
 use Rattle.s80_syntax.specs.Lexeme.{Lexeme, Lexemes}
 use Rattle.s80_syntax.specs.Literals.{IsLiteralKind, name_literal, token_literal}
-use Rattle.s80_syntax.specs.Grammar.{AreDeclared, AreElements, AreParameters, IsArray, IsArrayStart, IsDeclared, IsLiteral, IsMark, IsName, IsNegative, IsSign, IsSingle, IsTargets, IsWord, Takes}
+use Rattle.s80_syntax.specs.Grammar.{AreDeclared, AreElements, AreParameters, IsArray, IsDeclared, IsLiteral, IsMark, IsName, IsNegative, IsSign, IsSingle, IsTargets, IsWord}
 use Rattle.s80_syntax.specs.Word.{is_minus, is_reserved, minus}
 use Rattle.s80_tree.specs.declared.name.NameAt.{NameAt}
 use Rattle.s80_decompile.specs.Places.{unplaced_name, unplaced_names, unplaced_token, unplaced_tokens}
-use Rattle.s80_decompile.specs.Spellable.{AreDeclarable, AreNames, AreSpellableLiterals, IsDeclarable, IsSpellableLiteral}
+use Rattle.s80_decompile.specs.Spellable.{AreDeclarable, AreSpellableLiterals, IsDeclarable, IsSpellableLiteral}
 use Rattle.s80_decompile.specs.TreeTokens.{literal_tokens, literals_tokens, name_tokens, number_tokens, parameter_tokens, sign, target_tokens, token}
 use Rattle.s80_decompile.proofs.Spells.{number_tokens_are}
 use Rattle.s80_decompile.proofs.Values.{decimal_number, meant_bytes, negative_is, positive_is}

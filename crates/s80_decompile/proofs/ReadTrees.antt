@@ -1,15 +1,15 @@
 -- Expressions and statements, read from their tokens.
-use Rattle.std.proofs.Common.{◌≡◌, ℕ, suc, ◌≤◌, ◌⊎◌, inl, inr, List, [], ◌∷◌, ◌++◌, Bool, true, false, codes, length, refl, ap, ap₂, sym, ◌∙◌, subst, arith}
+use Rattle.std.proofs.Common.{◌≡◌, ℕ, suc, ◌≤◌, inl, inr, List, [], ◌∷◌, ◌++◌, Bool, true, false, codes, length, refl, ap, ap₂, sym, ◌∙◌, arith}
 use Rattle.std.specs.List.{AllByRecursion, flat_map}
 use Rattle.s80_lex.specs.declared.token.TokenKind.TheVariants as kind
 use Rattle.s80_lex.specs.Number.{behind}
-use Rattle.s80_lex.specs.Spelling.{IsBinary, IsKeywordSelector, IsName as IsNameWord, keyword}
+use Rattle.s80_lex.specs.Spelling.{IsBinary, IsName as IsNameWord, keyword}
 use Rattle.s80_syntax.specs.Lexeme.{Lexeme, Lexemes}
-use Rattle.s80_syntax.specs.Grammar.{AreParts, IsBar, IsBarBetween, IsBetween, IsBody, IsCaret, IsCascade, IsCascadeOf, IsChain, IsExpr, IsMark, IsMessage, IsNone, IsOperand, IsPrimary}
+use Rattle.s80_syntax.specs.Grammar.{AreParts, IsBarBetween, IsBetween, IsBody, IsCaret, IsCascade, IsCascadeOf, IsChain, IsExpr, IsMessage, IsOperand, IsPrimary}
 use Rattle.s80_syntax.specs.Word.{bar}
 use Rattle.s80_tree.specs.declared.name.NameAt.{NameAt}
 use Rattle.s80_tree.specs.Tree.{ExprTree, PrimaryTree, ExprTrees, MessageTrees, BodyTree, expr, name, literal, block, paren, no_exprs, exprs, no_messages, messages, no_stmts, stmts}
-use Rattle.s80_decompile.specs.Places.{unplaced_body, unplaced_expr, unplaced_exprs, unplaced_messages, unplaced_name, unplaced_names, unplaced_primary, unplaced_tokens}
+use Rattle.s80_decompile.specs.Places.{unplaced_body, unplaced_expr, unplaced_exprs, unplaced_messages, unplaced_names, unplaced_primary, unplaced_tokens}
 use Rattle.s80_decompile.specs.Spellable.{AreSpellableMessages, AreSpellableOperands, IsSpellableBody, IsSpellableCascade, IsSpellableExpr, IsSpellableMessage, IsSpellableOperand, IsSpellablePrimary, MayFollow, count}
 use Rattle.s80_decompile.specs.TreeTokens.{bar_tokens, body_tokens, caret_tokens, cascade_tokens, expr_tokens, message_tokens, messages_tokens, parameter_tokens, part_token, parts_tokens, period_tokens, primary_tokens, target_tokens, token}
 use Rattle.s80_decompile.proofs.ReadParts.{Read, Took, alone_in, first_of, literal_read, mark_read, name_read, parameters_read, sign_read, targets_read}

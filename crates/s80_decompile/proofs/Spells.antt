@@ -1,5 +1,5 @@
 -- The tokens of a spellable tree are spelled as their kinds.
-use Rattle.std.proofs.Common.{◌≡◌, ℕ, zero, suc, pos, negsuc, ◌^◌, ◌<◌, ◌≤◌, inl, inr, List, [], ◌∷◌, ◌++◌, Bool, true, false, ◌==◌, codes, length, refl, ap, sym, ◌∙◌, subst, arith, rules, tests, if◌then◌else◌, decimal, drop}
+use Rattle.std.proofs.Common.{◌≡◌, ℕ, zero, suc, pos, negsuc, ◌≤◌, inl, inr, List, [], ◌∷◌, ◌++◌, Bool, true, false, ◌==◌, codes, length, refl, ap, sym, ◌∙◌, subst, arith, rules, tests, if◌then◌else◌, decimal, drop}
 use Rattle.std.specs.Fmt.{signed_decimal}
 use Rattle.std.proofs.lemmas.List.{append-nil}
 use Rattle.std.specs.List.{AllByRecursion, flat_map}
@@ -9,14 +9,13 @@ use Rattle.s80_lex.specs.Class.{class_of}
 use Rattle.s80_lex.specs.Front.{first_class}
 use Rattle.s80_lex.specs.Number.{IsLawfulNumber, behind, signed}
 use Rattle.s80_lex.specs.Selector.{IsSelectorOf}
-use Rattle.s80_lex.specs.Spelling.{IsBinary, IsKeywordSelector, IsName, IsNumber, begins_with, keyword}
+use Rattle.s80_lex.specs.Spelling.{IsBinary, IsName, IsNumber, begins_with, keyword}
 use Rattle.s80_lex.proofs.Begins.{number_first}
-use Rattle.s80_syntax.specs.Lexeme.{Lexeme, Lexemes}
-use Rattle.s80_syntax.specs.Word.{primitive_word}
+use Rattle.s80_syntax.specs.Lexeme.{Lexemes}
 use Rattle.s80_tree.specs.declared.name.NameAt.{NameAt}
 use Rattle.s80_tree.specs.Tree.{ExprTree, PrimaryTree, ExprTrees, MessageTrees, BodyTree, MethodParts, expr, name, literal, block, paren, no_exprs, exprs, no_messages, messages, no_stmts, stmts}
 use Rattle.s80_decompile.specs.Spellable.{AreDeclarable, AreNames, AreSpellableLiterals, AreSpellableMessages, AreSpellableOperands, IsSpellable, IsSpellableBody, IsSpellableCascade, IsSpellableExpr, IsSpellableLiteral, IsSpellableMessage, IsSpellableOperand, IsSpellablePrimary, count}
-use Rattle.s80_decompile.specs.TreeTokens.{bar_tokens, body_tokens, caret_tokens, cascade_tokens, declared_tokens, expr_tokens, literal_tokens, literals_tokens, message_tokens, messages_tokens, method_tokens, name_tokens, number_tokens, parameter_tokens, part_token, parts_tokens, pattern_tokens, period_if, period_tokens, primary_tokens, primitive_tokens, sign, target_tokens, temporary_tokens, token}
+use Rattle.s80_decompile.specs.TreeTokens.{bar_tokens, body_tokens, caret_tokens, cascade_tokens, declared_tokens, expr_tokens, literal_tokens, literals_tokens, message_tokens, messages_tokens, method_tokens, name_tokens, number_tokens, parameter_tokens, part_token, parts_tokens, pattern_tokens, period_tokens, primary_tokens, primitive_tokens, sign, target_tokens, temporary_tokens, token}
 use Rattle.s80_decompile.proofs.Lexing.{AreSpelled, IsOpenNext}
 use Rattle.s80_decompile.proofs.Selecting.{behind_first, binary_part, keyword_part}
 use Rattle.s80_decompile.proofs.Values.{decimal_lawful, decimal_number, meant_bytes}

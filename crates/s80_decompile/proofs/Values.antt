@@ -1,22 +1,20 @@
 -- Numbers as tokens: their bytes, and what they mean.
-use Rattle.std.proofs.Common.{◌≡◌, ℕ, ℤ, zero, suc, pos, negsuc, neg_ℤ, ◌+◌, ◌*◌, ◌^◌, ◌<◌, ◌≤◌, ◌⊎◌, inl, inr, List, [], ◌∷◌, ◌++◌, Bool, true, false, not, ◌||◌, ◌==◌, cond, if◌then◌else◌, nat_le, nat_lt, decimal, length, refl, ap, sym, ◌∙◌, subst, arith, rules, tests, one-add, take, drop}
-use Rattle.std.specs.List.{list_any, position_or_len, AllByRecursion}
+use Rattle.std.proofs.Common.{◌≡◌, ℕ, ℤ, zero, suc, pos, negsuc, neg_ℤ, ◌+◌, ◌*◌, ◌^◌, ◌<◌, ◌≤◌, inl, List, [], ◌∷◌, ◌++◌, Bool, true, false, not, ◌||◌, ◌==◌, cond, if◌then◌else◌, nat_le, nat_lt, decimal, length, refl, ap, sym, ◌∙◌, subst, arith, rules, tests, one-add, take, drop}
+use Rattle.std.specs.List.{position_or_len}
 use Rattle.std.specs.Char.{is_ascii_digit, digit_value}
-use Rattle.std.specs.Fmt.{signed_decimal}
 use Rattle.std.specs.Str.Parse.{digits_value}
 use Rattle.std.proofs.lemmas.Bool.{false≢true, eqb-true}
 use Rattle.std.proofs.lemmas.List.{append-nil, take_all, drop_all}
-use Rattle.std.proofs.lemmas.Str.Parse.{IsDigitsTest, IsNumeralModel, numerals_by_value}
+use Rattle.std.proofs.lemmas.Str.Parse.{IsNumeralModel, numerals_by_value}
 use Rattle.std.specs.Int.{IsInRange}
 use Rattle.std.proofs.lemmas.Bool.Decides.{nat_tests}
 use Rattle.std.proofs.lemmas.Fmt.{decimal_is_IsNumeral, digits_decimal, decimal_nonempty}
-use Rattle.s80_base.specs.Literal.{LiteralTree, small, character, str, symbol, array, true_literal, false_literal, nil_literal, number}
+use Rattle.s80_base.specs.Literal.{LiteralTree, small, number}
 use Rattle.s80_base.specs.declared.literal.NumberKind.{NumberKind}
 use Rattle.s80_base.specs.declared.literal.NumberKind.TheVariants.{LargePositive, LargeNegative, Float}
 use Rattle.s80_lex.specs.Number.{AreBelow, IsLawfulNumber, before, behind, digits_of, exponent_of, has, is_whole, negative_literal, number_literal, positive_literal, radix_of, signed, whole_value}
-use Rattle.s80_lex.specs.Spelling.{IsNumber, IsRun, IsScaled, Passes, begins_with}
-use Rattle.s80_lex.specs.Class.{class_of}
-use Rattle.s80_decompile.specs.Spellable.{IsMeant, IsSmall, IsSpellableLiteral}
+use Rattle.s80_lex.specs.Spelling.{IsNumber, IsRun, Passes}
+use Rattle.s80_decompile.specs.Spellable.{IsSmall, IsSpellableLiteral}
 
 -- ---- the bytes of a number that a literal keeps
 

@@ -1,11 +1,11 @@
 -- What the grammar reads from the tokens of a text is spellable: expressions, statements and methods.
-use Rattle.std.proofs.Common.{◌≡◌, ◌≢◌, ℕ, suc, ◌≤◌, ◌⊎◌, inl, inr, List, [], ◌∷◌, ◌++◌, Bool, true, false, length, refl, ap, sym, ◌∙◌, subst, arith}
+use Rattle.std.proofs.Common.{◌≡◌, ℕ, suc, ◌≤◌, inl, inr, List, [], ◌∷◌, ◌++◌, Bool, true, false, length, refl, ap, sym, ◌∙◌, subst, arith}
 use Rattle.std.specs.List.{AllByRecursion, flat_map}
 use Rattle.s80_lex.specs.declared.token.TokenKind.TheVariants as kind
 use Rattle.s80_lex.specs.Selector.{IsSelectorOf}
 use Rattle.s80_lex.specs.Spelling.{IsBinary, IsKeywordSelector, IsName as IsNameWord, keyword}
-use Rattle.s80_syntax.specs.Lexeme.{Lexeme, Lexemes, lexemes}
-use Rattle.s80_syntax.specs.Grammar.{AreKeywords, AreOptionalTemporaries, AreParts, AreTemporaries, IsBar, IsBarBetween, IsBetween, IsBody, IsCaret, IsCascade, IsChain, IsExpr, IsHead, IsMessage, IsOperand, IsPattern, IsPrimary, IsPrimitive}
+use Rattle.s80_syntax.specs.Lexeme.{Lexemes, lexemes}
+use Rattle.s80_syntax.specs.Grammar.{AreKeywords, AreOptionalTemporaries, AreParts, AreTemporaries, IsBarBetween, IsBetween, IsBody, IsCaret, IsCascade, IsChain, IsExpr, IsHead, IsMessage, IsOperand, IsPattern, IsPrimary, IsPrimitive}
 use Rattle.s80_syntax.specs.Text.{IsMethodOf}
 use Rattle.s80_syntax.specs.Word.{bar, greater, less, primitive_word}
 use Rattle.s80_tree.specs.declared.name.NameAt.{NameAt}

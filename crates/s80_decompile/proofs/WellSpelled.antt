@@ -1,8 +1,8 @@
 -- What the grammar reads from the tokens of a text is spellable: names and literals.
-use Rattle.std.proofs.Common.{◌≡◌, ◌≢◌, ℕ, suc, ◌≤◌, ◌⊎◌, inl, inr, List, [], ◌∷◌, ◌++◌, Bool, true, false, if◌then◌else◌, codes, drop, length, refl, ap, sym, ◌∙◌, subst, arith}
-use Rattle.std.specs.List.{All, AllByRecursion, flat_map}
+use Rattle.std.proofs.Common.{◌≡◌, ◌≢◌, ℕ, inl, inr, List, [], ◌∷◌, ◌++◌, Bool, true, false, if◌then◌else◌, codes, drop, length, refl, ap, sym, ◌∙◌, subst}
+use Rattle.std.specs.List.{AllByRecursion, flat_map}
 use Rattle.std.specs.Str.{bytes_eq}
-use Rattle.s80_base.specs.Literal.{LiteralTree, LiteralTrees, small, character, str, symbol, array, true_literal, false_literal, nil_literal, number, no_literals, literals}
+use Rattle.s80_base.specs.Literal.{LiteralTree, LiteralTrees, symbol, array, true_literal, false_literal, nil_literal, no_literals, literals}
 use Rattle.std.proofs.lemmas.List.{append-nil}
 use Rattle.std.proofs.lemmas.List.Elements.{recursion_from_All}
 use Rattle.s80_lex.specs.declared.token.Token.{Token}
@@ -10,10 +10,10 @@ use Rattle.s80_lex.specs.declared.token.TokenKind.{TokenKind}
 use Rattle.s80_lex.specs.declared.token.TokenKind.TheVariants as kind
 use Rattle.s80_lex.specs.Number.{IsLawfulNumber}
 use Rattle.s80_lex.specs.Selector.{IsSelectorOf}
-use Rattle.s80_lex.specs.Spelling.{IsBinary, IsKeyword, IsName as IsNameWord, IsSelector, IsSymbol, IsToken, keyword}
+use Rattle.s80_lex.specs.Spelling.{IsName as IsNameWord, IsSelector, IsToken, keyword}
 use Rattle.s80_lex.specs.Text.{AreTokens, IsSlice}
 use Rattle.s80_lex.proofs.lemmas.Slices.{slices}
-use Rattle.s80_syntax.specs.Lexeme.{Lexeme, Lexemes, lexeme, lexemes}
+use Rattle.s80_syntax.specs.Lexeme.{Lexeme, Lexemes, lexemes}
 use Rattle.s80_syntax.specs.Literals.{IsLiteralKind, name_literal, token_literal}
 use Rattle.s80_syntax.specs.Grammar.{AreDeclared, AreElements, AreJoined, AreParameters, IsArray, IsArrayStart, IsDeclared, IsLiteral, IsMark, IsName, IsNegative, IsSign, IsSingle, IsTargets, IsWord, Takes}
 use Rattle.s80_tree.specs.declared.name.NameAt.{NameAt}

@@ -1,12 +1,12 @@
 // Methods.
-ghost use Rattle.std.specs.Prelude.{◌≡◌, ◌∷◌, [], IfOk, OnOk};
+ghost use Rattle.std.specs.Prelude.{◌≡◌, ◌∷◌, [], ℕ, List, IfOk, OnOk};
 ghost use Rattle.s80_tree.specs.Tree.{method_of};
 ghost use Rattle.s80_decompile.specs.Printed.{Prints};
 ghost use Rattle.s80_decompile.specs.Spellable.{IsSpellable};
 ghost use Rattle.s80_decompile.specs.TreeText.{HasTree, method_text};
 ghost use Rattle.s80_decompile.specs.TreeTokens.{declared_tokens, name_tokens, pattern_tokens, primitive_tokens, temporary_tokens};
 
-use crate::laws::a_spellable_tree_has_a_text;
+use crate::laws::{a_spellable_tree_has_a_text, a_tree_of_a_text_is_spellable};
 use crate::printer::Printer;
 use crate::selector::{behind, part};
 use crate::walk::body;
@@ -20,8 +20,10 @@ use std::alloc::Global;
 pub fn tree_text(alloc: Global, tree: &MethodTree) -> Result<Text, OutOfMemory>
     ensures is { IfOk result (λ text. text ≡ method_text (method_of tree.now)) }
     ensures read { IsSpellable (method_of tree.now) → IfOk result (λ text. HasTree text (method_of tree.now)) }
+    ensures again { (text : List ℕ) → HasTree text (method_of tree.now) → IfOk result (λ found. HasTree found (method_of tree.now)) }
 {
     a_spellable_tree_has_a_text();
+    a_tree_of_a_text_is_spellable();
     spelled(alloc, tree)
 }
 

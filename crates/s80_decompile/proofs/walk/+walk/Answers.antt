@@ -1,11 +1,11 @@
-use Rattle.std.proofs.Common.{ap, refl, sym, ◌∙◌, ℕ, List, ◌∷◌, [], codes}
+use Rattle.std.proofs.Common.{ap, refl, sym, ◌∙◌, ℕ, List, ◌∷◌, codes}
 use Rattle.s80_lex.specs.declared.token.TokenKind.TheVariants as kind
 use Rattle.s80_tree.specs.Tree.{MessageTree, body_of, expr_of, exprs_of, message_of, messages_of}
 use Rattle.s80_tree.specs.declared.expr.Message.{out-Message}
 use Rattle.s80_tree.proofs.lemmas.Opens.{message_open}
 use Rattle.s80_decompile.specs.Printed.{printed}
 use Rattle.s80_decompile.specs.TreeTokens.{body_tokens, cascade_tokens, expr_tokens, message_tokens, messages_tokens, parts_tokens, token}
-use Rattle.s80_decompile.proofs.Printing.{exprs_all, exprs_in, following, messages_all, messages_in, part_end, part_step, prints_as, prints_both, no_arguments, some_arguments, statement_step, statements_end, still_end, still_step, stmts_all}
+use Rattle.s80_decompile.proofs.Printing.{exprs_all, exprs_in, messages_all, messages_in, part_end, part_step, prints_as, prints_both, no_arguments, some_arguments, statement_step, statements_end, still_end, still_step, stmts_all}
 use Rattle.s80_decompile.proofs.walk.+walk.Goals as goal
 
 pub arguments-loop-argument-init : goal.arguments-loop-argument-init

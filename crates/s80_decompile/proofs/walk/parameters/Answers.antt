@@ -1,4 +1,4 @@
-use Rattle.std.proofs.Common.{refl, ◌∷◌, [], codes}
+use Rattle.std.proofs.Common.{refl, ◌∷◌, codes}
 use Rattle.s80_lex.specs.declared.token.TokenKind.TheVariants as kind
 use Rattle.s80_decompile.specs.TreeTokens.{parameter_tokens, token}
 use Rattle.s80_decompile.proofs.Printing.{named, prints_both, still_end, still_step}
