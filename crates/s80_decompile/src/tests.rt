@@ -1,4 +1,4 @@
-// Texts, read and spelled again.
+// Texts whose trees are spelled.
 use crate::tree_text;
 use s80_base::Text;
 use s80_syntax::parse_method;
@@ -19,7 +19,7 @@ fn spells(rt: &impl Abort, alloc: Global, source: &[u8], wanted: &[u8]) -> Resul
 }
 
 #[test]
-fn rows(rt: HostRuntime) -> Result<(), Fail> {
+fn trees_are_spelled_by_the_rules(rt: HostRuntime) -> Result<(), Fail> {
     spells(
         &rt,
         rt.alloc(),
