@@ -1,5 +1,5 @@
 -- The text of tokens has these tokens.
-use Rattle.std.proofs.Common.{◌≡◌, ℕ, ◌+◌, inl, inr, List, [], ◌∷◌, ◌++◌, Bool, true, false, not, ◌&&◌, ◌||◌, ◌==◌, codes, length, refl, ap, sym, ◌∙◌, subst, arith, append_assoc, length-append, length-drop, ◌-◌}
+use Rattle.std.proofs.Common.{rules, tests, ◌≡◌, ℕ, ◌+◌, inl, inr, List, [], ◌∷◌, ◌++◌, Bool, true, false, not, ◌&&◌, ◌||◌, ◌==◌, codes, length, refl, ap, sym, ◌∙◌, subst, arith, append_assoc, length-append, length-drop, ◌-◌}
 use Rattle.std.proofs.lemmas.Bool.{eq-eqb}
 use Rattle.std.proofs.lemmas.Bool.Decides.{nat_tests}
 use Rattle.std.proofs.lemmas.List.{take_at, drop_at, take_rest, drop-drop, append-nil}
@@ -12,8 +12,6 @@ use Rattle.s80_lex.specs.Front.{first_class}
 use Rattle.s80_lex.specs.Number.{IsLawfulNumber}
 use Rattle.s80_lex.specs.Spelling.{IsName, IsBinary, IsNumber, NotNext, keyword, quoted}
 use Rattle.s80_lex.specs.Text.{IsLongest, AreTokens}
-use Rattle.s80_lex.proofs.Begins.{number_first}
-use Rattle.s80_lex.proofs.Classes.{letter_differs}
 use Rattle.s80_lex.specs.Front.{Takes}
 use Rattle.s80_lex.proofs.lemmas.Parts.{Up, up_none, up_all, up_more, up_separator}
 use Rattle.s80_lex.proofs.lemmas.Standing.{takes_stands}
@@ -24,7 +22,7 @@ use Rattle.s80_syntax.specs.Lexeme.{Lexeme, Lexemes, is_joined, joins, lexeme, l
 use Rattle.s80_syntax.specs.Word.{minus}
 use Rattle.s80_decompile.specs.Places.{unplaced_token, unplaced_tokens}
 use Rattle.s80_decompile.specs.Spelled.{closes, is_spaced, opens, space_if, spelled, text_of_tokens}
-use Rattle.s80_decompile.proofs.Numerals.{Quiet, StopsNumber, number_longest}
+use Rattle.s80_decompile.proofs.Numerals.{Quiet, StopsNumber, number_begins, number_longest}
 use Rattle.s80_decompile.proofs.Longest.{StopsAt, stops, not_quote, not_equals, binary_longest, minus_longest, character_longest, assign_longest, mark_longest, array_longest, colon_longest}
 
 -- ---- tokens that are spelled as their kinds
@@ -102,13 +100,16 @@ number_stopped (l ∷ ls) h = number_stops_by l.kind l.bytes l.joined ls h.1
 
 -- a number, and a name, directly behind a token
 digit_by : (k : TokenKind) (w : List ℕ) (j : Bool) (ls : Lexemes) (more : List ℕ) → k ≡ kind.Number → IsSpelled k w j ls → first_class (w ++ more) ≡ class_of 48
-digit_by kind.Number w false ls more e h = number_first w more h.0
+digit_by kind.Number w false ls more e h = number_begins w more h.0
 digit_by kind.Number w true ls more e h = absurd h
 digit_by _ w j ls more e h = absurd (cc)
 
 digit_next : (ls : Lexemes) → IsNext kind.Number ls → AreSpelled ls → first_class (spelled false ls) ≡ class_of 48
 digit_next [] e h = absurd e
 digit_next (l ∷ ls) e h = digit_by l.kind l.bytes l.joined ls (spelled (is_spaced l) ls) e h.1
+
+letter_differs : (b : ℕ) → class_of b ≡ class_of 97 → (b == 61) ≡ false
+letter_differs b e = search (rules, tests)
 
 name_begins : (w more : List ℕ) → IsName w → NotNext 61 (w ++ more)
 name_begins [] more h = absurd h

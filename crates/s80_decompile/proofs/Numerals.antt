@@ -1,16 +1,14 @@
 -- A number is the longest token at its place, where what follows it can't go on with it.
-use Rattle.std.proofs.Common.{◌≡◌, ℕ, ◌≤◌, ◌<◌, ◌⊎◌, inl, inr, List, [], ◌∷◌, ◌++◌, Bool, true, false, ◌==◌, ◌||◌, take, drop, length, refl, ap, sym, ◌∙◌, subst, arith, rules, tests, take-append-drop, length-take-le}
+use Rattle.std.proofs.Common.{append_assoc, ◌≡◌, ℕ, ◌≤◌, ◌<◌, ◌⊎◌, inl, inr, List, [], ◌∷◌, ◌++◌, Bool, true, false, ◌==◌, ◌||◌, take, drop, length, refl, ap, sym, ◌∙◌, subst, arith, rules, tests, take-append-drop, length-take-le}
 use Rattle.std.specs.Char.{is_ascii_alphanumeric, is_ascii_digit}
 use Rattle.std.proofs.lemmas.Bool.{false≢true, cases_lt}
 use Rattle.std.proofs.lemmas.List.{take_at, drop_at}
 use Rattle.s80_lex.specs.declared.token.TokenKind.TheVariants as kind
 use Rattle.s80_lex.specs.Class.{class_of}
-use Rattle.s80_lex.specs.Front.{first_class, IsMost, Takes, number_len}
+use Rattle.s80_lex.specs.Front.{first_class, Takes, number_len}
 use Rattle.s80_lex.specs.Spelling.{IsRun, Passes, IsFraction, IsPower, IsExponent, IsScaled, IsInRadix, IsNumber, is_digit_or_capital}
 use Rattle.s80_lex.specs.Text.{IsLongest}
-use Rattle.s80_lex.proofs.Begins.{number_first}
-use Rattle.s80_lex.proofs.Numerals.{number_most}
-use Rattle.s80_lex.proofs.lemmas.Taken.{number_takes, digit_run}
+use Rattle.s80_lex.proofs.lemmas.Taken.{number_takes}
 
 -- ---- the bytes of a number
 
@@ -105,6 +103,21 @@ number_ends : (w : List ℕ) → IsNumber w → Ends w
 number_ends w (inl h) = scaled_ends is_ascii_digit digit_is w h
 number_ends w (inr h) = radix_ends w h
 
+-- ---- how it begins
+
+digit_class : (b : ℕ) → is_ascii_digit b ≡ true → class_of b ≡ class_of 48
+digit_class b e = search (rules, tests)
+
+-- with digits
+digits_begin : (d v : List ℕ) → IsRun is_ascii_digit d → first_class (d ++ v) ≡ class_of 48
+digits_begin [] v h = absurd h
+digits_begin (b ∷ d) v h = digit_class b h.0
+
+pub number_begins : (w rest : List ℕ) → IsNumber w → first_class (w ++ rest) ≡ class_of 48
+number_begins w rest (inl (d, f, x, e, h, i, k)) =
+    ap (λ v. first_class (v ++ rest)) (e ∙ append_assoc d f x) ∙ ap first_class (append_assoc d (f ++ x) rest) ∙ digits_begin d ((f ++ x) ++ rest) h
+number_begins w rest (inr (r, s, e, h, k)) = ap (λ v. first_class (v ++ rest)) e ∙ ap first_class (append_assoc r (114 ∷ s) rest) ∙ digits_begin r ((114 ∷ s) ++ rest) h
+
 -- ---- what stops a number
 
 -- the end, a byte of no number, or a period behind which no number goes on
@@ -151,20 +164,17 @@ number_longest w rest h stops = taken (cases_lt (length w) n)
     n : ℕ
     n = number_len (w ++ rest)
 
-    first : first_class (w ++ rest) ≡ class_of 48
-    first = number_first w rest h
-
-    most : IsMost (λ word _. IsNumber word) n (w ++ rest)
-    most = number_most (w ++ rest) (digit_run (w ++ rest) first)
-
     takes : Takes kind.Number n (w ++ rest)
-    takes = number_takes (w ++ rest) first
+    takes = number_takes (w ++ rest) (number_begins w rest h)
+
+    long : length (take n (w ++ rest)) ≡ n
+    long = length-take-le n (w ++ rest) takes.fits
 
     taken : (length w < n) ⊎ (n ≤ length w) → IsLongest kind.Number w rest
     taken (inl lt) =
-        let long : length (take n (w ++ rest)) ≡ n = length-take-le n (w ++ rest) most.fits in
         let more = longer w (take n (w ++ rest)) rest (drop n (w ++ rest)) (take-append-drop n (w ++ rest)) (omega (arith, long, lt)) in
-        absurd (no_longer w more.0 more.1 rest (drop n (w ++ rest)) stops more.3 (subst IsNumber more.2 most.here))
+        absurd (no_longer w more.0 more.1 rest (drop n (w ++ rest)) stops more.3 (subst IsNumber more.2 takes.longest.token))
     taken (inr le) =
-        let same : n ≡ length w = omega (arith, le, most.longest w rest refl h) in
+        let most : length w ≤ length (take n (w ++ rest)) = takes.longest.longest kind.Number w rest (sym (take-append-drop n (w ++ rest))) h in
+        let same : n ≡ length w = omega (arith, le, most, long) in
         subst (λ v. IsLongest kind.Number v rest) (take_at w rest n (sym same)) (subst (IsLongest kind.Number (take n (w ++ rest))) (drop_at w rest n (sym same)) takes.longest)

@@ -1,5 +1,5 @@
 -- Selectors, keyword by keyword.
-use Rattle.std.proofs.Common.{◌≡◌, ℕ, ◌+◌, List, [], ◌∷◌, ◌++◌, Bool, true, false, not, ◌||◌, ◌==◌, length, take, drop, refl, ap, sym, ◌∙◌, subst, rules, tests, length-append, if◌then◌else◌}
+use Rattle.std.proofs.Common.{◌≡◌, ℕ, ◌+◌, List, [], ◌∷◌, ◌++◌, Bool, true, false, not, ◌||◌, ◌==◌, length, take, drop, refl, ap, sym, ◌∙◌, subst, rules, tests, length-append, append_assoc, if◌then◌else◌}
 use Rattle.std.specs.Char.{is_ascii_alphanumeric}
 use Rattle.std.specs.List.{position_or_len}
 use Rattle.std.proofs.lemmas.List.{take_at, drop_at}
@@ -8,10 +8,19 @@ use Rattle.s80_lex.specs.Number.{before, behind, has}
 use Rattle.s80_lex.specs.Selector.{begins_binary}
 use Rattle.s80_lex.specs.Spelling.{IsBinary, IsName, IsOperator, Passes, keyword}
 use Rattle.s80_lex.specs.Class.{class_of}
-use Rattle.s80_lex.proofs.Words.{keyword_append, name_passes}
 use Rattle.s80_lex.proofs.lemmas.Runs.{run_ends}
 use Rattle.s80_lex.proofs.lemmas.SelectorLemmas.{operator_then}
 use Rattle.s80_decompile.specs.TreeTokens.{part_token, token}
+
+letter : (b : ℕ) → class_of b ≡ class_of 97 → is_ascii_alphanumeric b ≡ true
+letter b e = search (rules, tests)
+
+name_passes : (w : List ℕ) → IsName w → Passes is_ascii_alphanumeric w
+name_passes [] h = absurd h
+name_passes (b ∷ w) h = (letter b h.0, h.1)
+
+keyword_append : (n rest : List ℕ) → keyword n ++ rest ≡ n ++ 58 ∷ rest
+keyword_append n rest = append_assoc n (58 ∷ []) rest
 
 no_colon : (b : ℕ) → is_ascii_alphanumeric b ≡ true → (b == 58) ≡ false
 no_colon b e = search (rules, tests)

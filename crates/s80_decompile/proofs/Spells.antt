@@ -10,13 +10,13 @@ use Rattle.s80_lex.specs.Front.{first_class}
 use Rattle.s80_lex.specs.Number.{IsLawfulNumber, behind, signed}
 use Rattle.s80_lex.specs.Selector.{IsSelectorOf}
 use Rattle.s80_lex.specs.Spelling.{IsBinary, IsName, IsNumber, begins_with, keyword}
-use Rattle.s80_lex.proofs.Begins.{number_first}
 use Rattle.s80_syntax.specs.Lexeme.{Lexemes}
 use Rattle.s80_tree.specs.declared.name.NameAt.{NameAt}
 use Rattle.s80_tree.specs.Tree.{ExprTree, PrimaryTree, ExprTrees, MessageTrees, BodyTree, MethodParts, expr, name, literal, block, paren, no_exprs, exprs, no_messages, messages, no_stmts, stmts}
 use Rattle.s80_decompile.specs.Spellable.{AreDeclarable, AreNames, AreSpellableLiterals, AreSpellableMessages, AreSpellableOperands, IsSpellable, IsSpellableBody, IsSpellableCascade, IsSpellableExpr, IsSpellableLiteral, IsSpellableMessage, IsSpellableOperand, IsSpellablePrimary, count}
 use Rattle.s80_decompile.specs.TreeTokens.{bar_tokens, body_tokens, caret_tokens, cascade_tokens, declared_tokens, expr_tokens, literal_tokens, literals_tokens, message_tokens, messages_tokens, method_tokens, name_tokens, number_tokens, parameter_tokens, part_token, parts_tokens, pattern_tokens, period_tokens, primary_tokens, primitive_tokens, sign, target_tokens, temporary_tokens, token}
 use Rattle.s80_decompile.proofs.Lexing.{AreSpelled, IsOpenNext}
+use Rattle.s80_decompile.proofs.Numerals.{number_begins}
 use Rattle.s80_decompile.proofs.Selecting.{behind_first, binary_part, keyword_part}
 use Rattle.s80_decompile.proofs.Values.{decimal_lawful, decimal_number, meant_bytes}
 
@@ -30,7 +30,7 @@ no_minus [] e = absurd (cc)
 no_minus (b ∷ w) e = no_minus_first b e
 
 number_no_minus : (w : List ℕ) → IsNumber w → begins_with 45 w ≡ false
-number_no_minus w h = no_minus w (ap first_class (sym (append-nil w)) ∙ number_first w [] h)
+number_no_minus w h = no_minus w (ap first_class (sym (append-nil w)) ∙ number_begins w [] h)
 
 -- the tokens of a number
 pub number_tokens_are : (w : List ℕ) (more : Lexemes) → IsNumber w → number_tokens w more ≡ token kind.Number w ∷ more
