@@ -6,8 +6,6 @@ mod literal;
 mod method;
 mod printer;
 mod selector;
-#[cfg(test)]
-mod tests;
 mod walk;
 
 pub use laws::{a_spellable_tree_has_a_text, a_tree_of_a_text_is_spellable};

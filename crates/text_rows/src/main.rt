@@ -1,4 +1,4 @@
-//! Reads rows from standard input and prints behind each what the public calls answer to it: texts, their tokens, trees and core trees,
+//! Reads rows from standard input and prints behind each what the public calls answer to it: texts, their tokens, trees and core trees, the texts of trees,
 //! changes, the tables of classes and methods, and look-ups. What it is given and what it prints are tables of the repository's tests.
 #![tactic(auto)]
 

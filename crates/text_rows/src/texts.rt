@@ -10,6 +10,7 @@ mod shown;
 use anyhow::{Context, Result, bail, ensure};
 use s80_base::{Names, Text};
 use s80_core::{elaborate, temporaries_are_declarations};
+use s80_decompile::tree_text;
 use s80_lex::tokens;
 use s80_rows::bytes;
 use s80_scope::{Binding, Bindings, Shape, doit_method, fits, measured, places_of_uses_rise};
@@ -29,6 +30,7 @@ pub(crate) fn row(alloc: Global, word: &str, rest: &str) -> Result<Option<Text>>
         "doit" => doit_line(alloc, rest, false)?,
         "method" => method_line(alloc, rest, false)?,
         "places" => places_line(alloc, rest)?,
+        "spelled" => spelled_line(alloc, rest)?,
         "literals" | "weight" | "fit" => measure_line(alloc, word, &tree_of(alloc, rest)?)?,
         "core" => core_line(alloc, rest)?,
         "recogniser" => recogniser::line(alloc, rest.parse().context("no number of tokens")?)?,
@@ -116,6 +118,15 @@ fn method_line(alloc: Global, spelled: &str, places: bool) -> Result<Text> {
         Ok(tree) => tree_line(alloc, &shown::method(alloc, places, &tree)?),
         Err(fault) => Ok(Text::from_bytes(alloc, format!(in alloc; "{fault}")?.as_bytes())?),
     }
+}
+
+/// The text of a method's tree.
+fn spelled_line(alloc: Global, spelled: &str) -> Result<Text> {
+    let tree = parse_method(alloc, &text_of(alloc, spelled)?)?;
+    let text = tree_text(alloc, &tree)?;
+    let mut out = Text::empty(alloc);
+    bytes::spell(alloc, &mut out, text.bytes())?;
+    Ok(out)
 }
 
 /// The tree of a doIt or a method, with the places of its names.
