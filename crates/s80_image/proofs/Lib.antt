@@ -1,0 +1,3 @@
+pub mod Laws
+pub mod Selectors
+pub mod Elements

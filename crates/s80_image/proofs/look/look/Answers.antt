@@ -1,0 +1,6 @@
+use Rattle.std.proofs.Common.{refl}
+use Rattle.s80_image.proofs.Laws.{list_law}
+use Rattle.s80_image.proofs.look.look.Goals as goal
+
+pub returns : goal.returns
+returns c = refl

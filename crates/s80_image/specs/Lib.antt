@@ -1,0 +1,6 @@
+pub mod Format
+pub mod Parts
+pub mod Literals
+pub mod Methods
+pub mod Classes
+pub mod History
