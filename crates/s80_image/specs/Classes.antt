@@ -8,7 +8,7 @@ use Rattle.s80_form.specs.declared.definition.Kind.{Kind}
 use Rattle.s80_form.specs.declared.definition.Kind.TheVariants.{Plain, Pointers, Bytes, Words}
 use Rattle.s80_form.specs.Definition.{split_names}
 use Rattle.s80_form.specs.Name.{is_class_name, is_name}
-use Rattle.s80_image.specs.declared.image.Heading.{Heading}
+use Rattle.s80_image.specs.declared.image.ClassHeading.{ClassHeading}
 use Rattle.s80_image.specs.declared.image.ClassVariables.{ClassVariables}
 use Rattle.s80_image.specs.declared.image.ImageClass.{ImageClass}
 use Rattle.s80_image.specs.Format.{Format, byte, list_of, mapped, number_where, pair, text, text_where}
@@ -18,7 +18,7 @@ use Rattle.s80_image.specs.Methods.{MethodView, methods, methods_of}
 -- ---- without where they lie in memory
 
 pub record ClassView : Type 0 where
-  pub heading : Heading
+  pub heading : ClassHeading
   pub instance : List MethodView
   pub class : List MethodView
 
@@ -92,7 +92,7 @@ heading_fields last =
     (λ name. let row = kernel_row name in
     pair (superclass_text row) (λ _. pair (kind row) (λ _. pair (variables row) (λ _. pair (category_text row) (λ _. text)))))
 
-unfoldable pub heading : Option Name → Format Heading
+unfoldable pub heading : Option Name → Format ClassHeading
 heading last = mapped
     (λ p. record { name = p.0; superclass = p.1.0; kind = p.1.1.0; variables = p.1.1.1.0; category = p.1.1.1.1.0; comment = p.1.1.1.1.1 })
     (λ h. (h.name, (h.superclass, (h.kind, (h.variables, (h.category, h.comment))))))

@@ -4,3 +4,5 @@ pub mod Literals
 pub mod Methods
 pub mod Classes
 pub mod History
+pub mod Image
+pub mod Answers

@@ -3,6 +3,7 @@ use Rattle.std.specs.Prelude.{ℕ, ◌&&◌, Bool, true, nat_le, List, map, Opti
 use Rattle.s80_code.specs.declared.code.Code.{Code}
 use Rattle.s80_code.specs.Entries.{EntryTree, entries_of}
 use Rattle.s80_image.specs.declared.image.ImageMethod.{ImageMethod}
+use Rattle.s80_image.specs.declared.image.MethodHeading.{MethodHeading}
 use Rattle.s80_image.specs.Format.{Format, byte, list_of, mapped, pair, text, text_where, word64}
 use Rattle.s80_image.specs.Parts.{Name, flag, is_above, is_selector, last_of, source}
 use Rattle.s80_image.specs.Literals.{entry}
@@ -30,22 +31,11 @@ code_of c = record {
 }
 
 pub record MethodView : Type 0 where
-  pub selector : Name
-  pub category : List ℕ
-  pub from_kernel : Bool
-  pub position : ℕ
-  pub length : ℕ
+  pub heading : MethodHeading
   pub code : CodeView
 
 abbrev pub method_of : ImageMethod → MethodView
-method_of m = record {
-  selector = m.selector;
-  category = m.category;
-  from_kernel = m.from_kernel;
-  position = m.position;
-  length = m.length;
-  code = code_of m.code;
-}
+method_of m = record { heading = m.heading; code = code_of m.code }
 
 abbrev pub methods_of : List ImageMethod → List MethodView
 methods_of ms = map method_of ms
@@ -65,24 +55,21 @@ code = mapped
     (λ c. (c.flag, (c.arguments, (c.primitive, (c.temporaries, (c.large, (c.entries, c.bytes)))))))
     code_fields
 
--- selector, category, where the source stands, its place and its length there, and the code
-abbrev pub method_fields : Option Name → Format (Name × (List ℕ × (Bool × (ℕ × (ℕ × CodeView)))))
-method_fields last =
-    pair (text_where (λ word. is_selector word && is_above last word))
-    (λ _. pair text (λ _. pair source (λ _. pair word64 (λ _. pair word64 (λ _. code)))))
+-- selector, category, where the source stands, its place and its length there; behind another method in the order of selectors
+unfoldable pub method_heading : Option Name → Format MethodHeading
+method_heading last = mapped
+    (λ p. record { selector = p.0; category = p.1.0; from_kernel = p.1.1.0; position = p.1.1.1.0; length = p.1.1.1.1 })
+    (λ m. (m.selector, (m.category, (m.from_kernel, (m.position, m.length)))))
+    (pair (text_where (λ word. is_selector word && is_above last word)) (λ _. pair text (λ _. pair source (λ _. pair word64 (λ _. word64)))))
 
--- a method behind another one in the order of selectors
 unfoldable pub method : Option Name → Format MethodView
-method last = mapped
-    (λ p. record { selector = p.0; category = p.1.0; from_kernel = p.1.1.0; position = p.1.1.1.0; length = p.1.1.1.1.0; code = p.1.1.1.1.1 })
-    (λ m. (m.selector, (m.category, (m.from_kernel, (m.position, (m.length, m.code))))))
-    (method_fields last)
+method last = mapped (λ p. record { heading = p.0; code = p.1 }) (λ m. (m.heading, m.code)) (pair (method_heading last) (λ _. code))
 
 abbrev pub method_limit : ℕ
 method_limit = 16384
 
 abbrev pub method_behind : List MethodView → Format MethodView
-method_behind before = method (option_map (λ m. m.selector) (last_of before))
+method_behind before = method (option_map (λ m. m.heading.selector) (last_of before))
 
 unfoldable pub methods : Format (List MethodView)
 methods = list_of (λ n. nat_le n method_limit) method_behind

@@ -68,3 +68,27 @@ pub enum ImageFault {
     #[error("a method's code can't be run")]
     Unverified(Text, Text),
 }
+
+impl From<ReadError> for ImageFault {
+    ghost use Rattle.s80_image.specs.Answers.{fault_of};
+
+    ghost from_gives = { λ error fault. fault ≡ fault_of error };
+
+    fn from(error: ReadError) -> Self {
+        match error {
+            ReadError::Memory => ImageFault::Memory,
+            ReadError::Fault(Fault::Short) => ImageFault::Short,
+            ReadError::Fault(Fault::Field(left, value)) => ImageFault::Field(left, value),
+        }
+    }
+}
+
+impl<T: Drop> From<AllocFailed<T>> for ImageFault {
+    ghost use Rattle.s80_image.specs.declared.fault.ImageFault.TheVariants as faults;
+
+    ghost from_gives = { λ _ fault. fault ≡ faults.Memory };
+
+    fn from(_: AllocFailed<T>) -> Self {
+        ImageFault::Memory
+    }
+}

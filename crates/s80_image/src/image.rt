@@ -4,14 +4,19 @@ use s80_form::Kind;
 use s80_history::Noted;
 use s80_verify::Verified;
 
-/// A method of an image. Its source stands in the kernel's text or in the log, spelled as a chunk without its mark.
+/// What an image has of a method beside its code. The source stands in the kernel's text or in the log, spelled as a chunk without its mark.
 #[derive(Debug, Drop)]
-pub struct ImageMethod {
+pub struct MethodHeading {
     pub selector: Text,
     pub category: Text,
     pub from_kernel: bool,
     pub position: u64,
     pub length: u64,
+}
+
+#[derive(Debug, Drop)]
+pub struct ImageMethod {
+    pub heading: MethodHeading,
     pub code: Verified,
 }
 
@@ -26,7 +31,7 @@ pub struct ClassVariables {
 
 /// What an image has of a class beside its methods.
 #[derive(Debug, Drop)]
-pub struct Heading {
+pub struct ClassHeading {
     pub name: Text,
     /// Empty for Object, which has none.
     pub superclass: Text,
@@ -39,7 +44,7 @@ pub struct Heading {
 /// A class of an image, with its methods in the order of their selectors.
 #[derive(Debug, Drop)]
 pub struct ImageClass {
-    pub heading: Heading,
+    pub heading: ClassHeading,
     pub instance_methods: Vec<ImageMethod>,
     pub class_methods: Vec<ImageMethod>,
 }

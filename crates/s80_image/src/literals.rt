@@ -3,12 +3,12 @@ ghost use Rattle.std.specs.Prelude.{◌≡◌, ◌≢◌, ◌<◌, ◌≤◌, �
 ghost use Rattle.s80_base.specs.Literal.{LiteralTree, array, literal_of, literals_of, no_literals};
 ghost use Rattle.s80_code.specs.Entries.{entry_of};
 ghost use Rattle.s80_image.specs.Format.{Gives, Reading};
-ghost use Rattle.s80_image.specs.Literals.{class_variable_entry, elements, entry, entry_behind, kept_number, literal_at, literal_behind, number_kind_of, owner_entry, signed};
+ghost use Rattle.s80_image.specs.Literals.{elements, entry, entry_behind, is_entry_tag, kept_number, literal_at, literal_behind, number_kind_of, signed};
 
 use crate::fault::ReadError;
 use crate::fields::{byte, byte_to, text, unlawful, word32};
 use crate::parts::{class_text, name_text, side};
-use s80_base::{Literal, Literals, NumberKind, Side, Text};
+use s80_base::{Literal, Literals, NumberKind, Text};
 use s80_code::Entry;
 use std::alloc::Global;
 
@@ -116,4 +116,53 @@ fn elements(alloc: Global, count: u32, bytes: &[u8]) -> Result<(Literals, &[u8])
         rest = after;
     }
     Ok((items, rest))
+}
+
+/// An entry of a literal frame, behind its tag.
+#[tactic(auto, unfolding(crate::specs::Literals::entry_behind))]
+fn entry_behind(alloc: Global, tag: u8, bytes: &[u8]) -> Result<(Entry, &[u8]), ReadError>
+    ensures { Gives (λ x. (entry_of x.0, x.1.now)) result (entry_behind tag bytes.now) }
+{
+    match tag {
+        16 => {
+            let (class, rest) = class_text(alloc, bytes)?;
+            let (name, rest) = name_text(alloc, rest)?;
+            Ok((Entry::ClassVar(class, name), rest))
+        }
+        17 => {
+            let (name, rest) = name_text(alloc, bytes)?;
+            Ok((Entry::Outer(name), rest))
+        }
+        18 => {
+            let (class, rest) = class_text(alloc, bytes)?;
+            let (side, rest) = side(rest)?;
+            Ok((Entry::Owner(class, side), rest))
+        }
+        19 => {
+            let (number, rest) = word32(bytes)?;
+            Ok((Entry::Extension(number), rest))
+        }
+        _ => {
+            let (literal, rest) = literal_behind(alloc, tag, bytes)?;
+            Ok((Entry::Const(literal), rest))
+        }
+    }
+}
+
+fn is_entry_tag(tag: u8) -> bool
+    ensures { result ≡ is_entry_tag tag }
+{
+    tag <= 8 || (16 <= tag && tag <= 19)
+}
+
+/// An entry of a literal frame.
+#[tactic(auto, unfolding(crate::specs::Literals::entry))]
+pub(crate) fn entry(alloc: Global, bytes: &[u8]) -> Result<(Entry, &[u8]), ReadError>
+    ensures { Gives (λ x. (entry_of x.0, x.1.now)) result (entry.read bytes.now) }
+{
+    let (tag, rest) = byte(bytes)?;
+    if !is_entry_tag(tag) {
+        return Err(unlawful(bytes, u64::from(tag)));
+    }
+    entry_behind(alloc, tag, rest)
 }
