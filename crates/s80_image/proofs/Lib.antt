@@ -6,3 +6,5 @@ pub mod KernelRows
 pub mod Names
 pub mod SameCode
 pub mod Verifying
+pub mod Wholes
+pub mod Tables

@@ -84,10 +84,14 @@ fault_of errors.Memory = faults.Memory
 fault_of (errors.Fault Short) = faults.Short
 fault_of (errors.Fault (Field left value)) = faults.Field left value
 
+-- a failure, where this is what reading gives
+abbrev pub Ends : {Y : Type 0} → ImageFault → Result Y Fault → List Met → Type 0
+Ends faults.Memory read met = Unit {0}
+Ends faults.Short read met = (read ≡ Err Short) × AllPass met
+Ends (faults.Field left value) read met = (read ≡ Err (Field left value)) × AllPass met
+Ends (faults.Unverified class selector) read met = StopsAt class selector met
+
 -- What a function answered, seen by view, is what reading gives, unless a code that is met before isn't verified, or memory ran out.
 abbrev pub Answers : {X Y : Type 0} → (X → Y) → Result X ImageFault → Result Y Fault → List Met → Type 0
 Answers view (Ok x) read met = (read ≡ Ok (view x)) × AllPass met
-Answers view (Err faults.Memory) read met = Unit {0}
-Answers view (Err faults.Short) read met = (read ≡ Err Short) × AllPass met
-Answers view (Err (faults.Field left value)) read met = (read ≡ Err (Field left value)) × AllPass met
-Answers view (Err (faults.Unverified class selector)) read met = StopsAt class selector met
+Answers view (Err fault) read met = Ends fault read met
