@@ -8,3 +8,5 @@ pub mod SameCode
 pub mod Verifying
 pub mod Wholes
 pub mod Tables
+pub mod Spelled
+pub mod Decoded

@@ -394,17 +394,17 @@ variables_law : (row : Option KernelRow) → IsFormat (variables row)
 unfolding variables
 variables_law row = mapped_law _ _ _ (pair_law _ _ (names_law 64 _) (λ _. pair_law _ _ (names_law 256 _) (λ _. pair_law _ _ (names_law 256 _) (λ _. names_law 64 _)))) (λ _ _. refl) (λ _. refl)
 
-class_heading_law : (last : Option Name) → IsFormat (heading last)
+pub class_heading_law : (last : Option Name) → IsFormat (heading last)
 unfolding heading
 class_heading_law last = mapped_law _ _ _
     (pair_law (text_where _) _ (text_where_law _) (λ name. pair_law (text_where _) _ (text_where_law _) (λ _. pair_law (kind (kernel_row name)) _ (kind_law (kernel_row name)) (λ _. pair_law (variables (kernel_row name)) _ (variables_law (kernel_row name)) (λ _. pair_law (text_where _) _ (text_where_law _) (λ _. text_law))))))
     (λ _ _. refl) (λ _. refl)
 
-class_law : (last : Option Name) → IsFormat (class last)
+pub class_law : (last : Option Name) → IsFormat (class last)
 unfolding class
 class_law last = mapped_law _ _ _ (pair_law (heading last) _ (class_heading_law last) (λ _. pair_law methods _ methods_law (λ _. methods_law))) (λ _ _. refl) (λ _. refl)
 
-classes_law : IsFormat classes
+pub classes_law : IsFormat classes
 unfolding classes
 classes_law = list_law _ class_behind (λ before. class_law _)
 

@@ -1,5 +1,5 @@
 -- What reading is answered where codes are verified on the way.
-use Rattle.std.specs.Prelude.{◌≡◌, ℕ, zero, suc, List, [], ◌∷◌, ◌++◌, Result, Ok, Err, Option, option_map, nat_le}
+use Rattle.std.specs.Prelude.{◌≡◌, ℕ, zero, suc, List, [], ◌∷◌, ◌++◌, Result, Ok, Err, Option, option_map, nat_le, ◌-◌}
 use Rattle.std.specs.List.{AllByRecursion}
 use Rattle.s80_code.specs.declared.code.Code.{Code}
 use Rattle.s80_verify.specs.Fault.{IsVerified}
@@ -13,7 +13,8 @@ use Rattle.s80_image.specs.Format.{Format, Reading, byte, number_where, word32, 
 use Rattle.s80_image.specs.Parts.{Name, last_of}
 use Rattle.s80_image.specs.Methods.{CodeView, MethodView, code_of, method, method_behind, method_limit, methods}
 use Rattle.s80_image.specs.Classes.{ClassView, class_behind, heading}
-use Rattle.s80_image.specs.Image.{signature}
+use Rattle.s80_image.specs.Image.{ImageView, signature, view_of}
+use Rattle.s80_image.specs.declared.image.Image.{Image}
 
 -- ---- codes that are met
 
@@ -68,6 +69,12 @@ IsVerifiedView view = (code : Code) × (code_of code ≡ view) × IsVerified cod
 abbrev pub AllPass : List Met → Type 0
 AllPass met = AllByRecursion (λ m. IsVerifiedView m.code) met
 
+abbrev pub AreVerifiedMethods : List MethodView → Type 0
+AreVerifiedMethods ms = AllByRecursion (λ m. IsVerifiedView m.code) ms
+
+abbrev pub AreVerified : ImageView → Type 0
+AreVerified image = AllByRecursion (λ c. AreVerifiedMethods c.instance × AreVerifiedMethods c.class) image.classes
+
 -- the first code that isn't verified is this one
 pub record StopsAt (class_name selector : Name) (met : List Met) : Type 0 where
   pub before : List Met
@@ -95,3 +102,14 @@ Ends (faults.Unverified class selector) read met = StopsAt class selector met
 abbrev pub Answers : {X Y : Type 0} → (X → Y) → Result X ImageFault → Result Y Fault → List Met → Type 0
 Answers view (Ok x) read met = (read ≡ Ok (view x)) × AllPass met
 Answers view (Err fault) read met = Ends fault read met
+
+abbrev pub placed_fault : ℕ → ImageFault → ImageFault
+placed_fault size faults.Memory = faults.Memory
+placed_fault size faults.Short = faults.Short
+placed_fault size (faults.Field left value) = faults.Field (size - left) value
+placed_fault size (faults.Unverified class selector) = faults.Unverified class selector
+
+-- that was read, or memory ran out
+abbrev pub IsRead : ImageView → Result Image ImageFault → Type 0
+IsRead image (Ok read) = view_of read ≡ image
+IsRead image (Err fault) = fault ≡ faults.Memory

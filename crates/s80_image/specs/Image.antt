@@ -1,7 +1,8 @@
 -- What an image holds, and how it is spelled and read.
-use Rattle.std.specs.Prelude.{ℕ, ◌==◌, List, [], ◌∷◌, ◌++◌, Result, Ok, map}
+use Rattle.std.specs.Prelude.{ℕ, ◌==◌, ◌-◌, List, [], ◌∷◌, ◌++◌, length, Result, Ok, Err, if◌then◌else◌}
 use Rattle.s80_history.specs.declared.noted.Noted.{Noted}
 use Rattle.s80_image.specs.declared.fault.Fault.{Fault}
+use Rattle.s80_image.specs.declared.fault.Fault.TheVariants.{Short, Field}
 use Rattle.s80_image.specs.declared.image.Image.{Image}
 use Rattle.s80_image.specs.Format.{Format, ◌>>=◌, byte, mapped, number_where, pair, word64}
 use Rattle.s80_image.specs.Classes.{ClassView, classes, classes_of}
@@ -44,3 +45,17 @@ contents = mapped
 
 unfoldable pub image_format : Format ImageView
 image_format = behind_signature contents
+
+-- all of the bytes
+unfoldable pub whole : List ℕ → Result ImageView Fault
+whole bytes = image_format.read bytes >>= λ x. if length x.1 == 0 then Ok x.0 else Err (Field (length x.1) (length x.1))
+
+-- a fault tells the place of its field
+abbrev pub placed : {A : Type 0} → ℕ → Result A Fault → Result A Fault
+placed size (Ok x) = Ok x
+placed size (Err Short) = Err Short
+placed size (Err (Field left value)) = Err (Field (size - left) value)
+
+-- the image that bytes spell, or the first field that isn't lawful
+unfoldable pub decoded : List ℕ → Result ImageView Fault
+decoded bytes = placed (length bytes) (whole bytes)

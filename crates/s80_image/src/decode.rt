@@ -1,10 +1,10 @@
 // Methods, classes and whole images, whose codes are verified as they are read.
-ghost use Rattle.std.specs.Prelude.{◌≡◌, ◌⊎◌, [], nat_le, option_copied};
-ghost use Rattle.s80_image.specs.Answers.{Answers, class_met, class_met_behind, classes_met, contents_met, image_met, members_met, method_met, method_met_behind, methods_met};
+ghost use Rattle.std.specs.Prelude.{◌≡◌, ◌⊎◌, [], true, nat_le, option_copied, IfOk};
+ghost use Rattle.s80_image.specs.Answers.{Answers, AreVerified, IsRead, class_met, class_met_behind, classes_met, contents_met, image_met, members_met, method_met, method_met_behind, methods_met, placed_fault};
 ghost use Rattle.s80_image.specs.Format.{Gives, members, number_where, word32};
 ghost use Rattle.s80_image.specs.Methods.{method, method_behind, method_of, methods, methods_of};
 ghost use Rattle.s80_image.specs.Classes.{class, class_behind, class_of, classes, classes_of};
-ghost use Rattle.s80_image.specs.Image.{contents, exactly, image_format, signature, view_of};
+ghost use Rattle.s80_image.specs.Image.{ImageView, contents, decoded, exactly, image_format, signature, view_of, whole};
 
 use crate::class_parts::{heading, last_name};
 use crate::fault::{ImageFault, ReadError};
@@ -172,4 +172,43 @@ fn front(alloc: Global, bytes: &[u8]) -> Result<(Image, &[u8]), ImageFault>
 {
     let rest = signature(bytes)?;
     contents(alloc, rest)
+}
+
+/// An image that takes all of the bytes.
+fn whole(alloc: Global, bytes: &[u8]) -> Result<Image, ImageFault>
+    ensures { Answers view_of result (whole bytes.now) (image_met bytes.now) }
+{
+    let (image, rest) = front(alloc, bytes)?;
+    if !rest.is_empty() {
+        return Err(ImageFault::Field(rest.len() as u64, rest.len() as u64));
+    }
+    Ok(image)
+}
+
+/// A fault by the place of its field, and not by how many bytes are left there.
+fn placed(size: u64, fault: ImageFault) -> ImageFault
+    ensures { result ≡ placed_fault size fault }
+{
+    match fault {
+        ImageFault::Memory => ImageFault::Memory,
+        ImageFault::Short => ImageFault::Short,
+        ImageFault::Field(left, value) => ImageFault::Field(size.saturating_sub(left), value),
+        ImageFault::Unverified(class, selector) => ImageFault::Unverified(class, selector),
+    }
+}
+
+/// The image that bytes spell, each of whose fields is lawful and each of whose codes is verified. What is asked of all classes together
+/// isn't looked at.
+pub fn decode_fields(alloc: Global, bytes: &[u8]) -> Result<Image, ImageFault>
+    // What is answered, in the order of the bytes: the image, the first unlawful field, or the first code that isn't verified.
+    ensures exact { Answers view_of result (decoded bytes.now) (image_met bytes.now) }
+    // What is read is lawful, and spelled so.
+    ensures found { IfOk result (λ image. (image_format.lawful (view_of image) ≡ true) × (bytes.now ≡ image_format.spell (view_of image))) }
+    // What is spelled so is read.
+    ensures only { (image : ImageView) → image_format.lawful image ≡ true → AreVerified image → bytes.now ≡ image_format.spell image → IsRead image result }
+{
+    match whole(alloc, bytes) {
+        Ok(image) => Ok(image),
+        Err(fault) => Err(placed(bytes.len() as u64, fault)),
+    }
 }

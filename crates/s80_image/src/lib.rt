@@ -3,17 +3,18 @@
 
 mod class_parts;
 mod decode;
+mod encode;
 mod fault;
 mod fields;
 mod history_parts;
 mod image;
 mod literals;
 mod method_parts;
-mod look;
 mod parts;
 
+pub use decode::decode_fields;
+pub use encode::encode_image;
 pub use fault::{Fault, ImageFault};
 pub use image::{
     ClassHeading, ClassVariables, Image, ImageClass, ImageMethod, MethodHeading, MethodVersions,
 };
-pub use look::look as look_at;
