@@ -1,6 +1,5 @@
 -- All of the bytes of an image.
-use Rattle.std.proofs.Common.{◌≡◌, ℕ, suc, ◌-◌, ◌^◌, ◌==◌, ◌&&◌, ltb, Bool, true, false, cond, eqb, List, [], ◌∷◌, ◌++◌, length, Option, Result, Ok, Err, refl, sym, ap, subst, ◌∙◌, append_assoc, arith}
-use Rattle.std.specs.Prelude.{nat_le, IfOk}
+use Rattle.std.proofs.Common.{◌≡◌, ℕ, ◌^◌, ◌&&◌, ltb, Bool, true, false, cond, eqb, List, [], ◌∷◌, ◌++◌, length, Option, Result, Ok, Err, refl, sym, ap, subst, ◌∙◌, append_assoc}
 use Rattle.std.specs.List.{AllByRecursion}
 use Rattle.std.specs.Int.{w32, to_be_bytes}
 use Rattle.std.proofs.lemmas.Bool.{eqb-true}
@@ -10,14 +9,14 @@ use Rattle.s80_image.specs.declared.fault.Fault.TheVariants.{Short, Field}
 use Rattle.s80_image.specs.declared.fault.ImageFault.{ImageFault}
 use Rattle.s80_image.specs.declared.fault.ImageFault.TheVariants as faults
 use Rattle.s80_image.specs.declared.image.Image.{Image}
-use Rattle.s80_image.specs.Format.{◌>>=◌, Format, Reading, members, number_where, spelled, are_lawful, list_of, word32, word64}
+use Rattle.s80_image.specs.Format.{Format, number_where, spelled, are_lawful, list_of, word32, word64}
 use Rattle.s80_image.specs.Parts.{Name}
-use Rattle.s80_image.specs.Methods.{MethodView, method, method_behind, method_limit, methods}
+use Rattle.s80_image.specs.Methods.{MethodView, method, method_behind, methods}
 use Rattle.s80_image.specs.Classes.{ClassView, class, class_behind, classes, heading}
-use Rattle.s80_image.specs.Image.{ImageView, contents, decoded, image_format, placed, signature, view_of, whole}
-use Rattle.s80_image.specs.Answers.{AllPass, Answers, AreVerified, AreVerifiedMethods, Ends, IsRead, IsVerifiedView, Met, StopsAt, class_met, class_met_behind, classes_met, contents_met, image_met, members_met, method_met, method_met_behind, methods_met, on_ok, placed_fault}
-use Rattle.s80_image.proofs.Laws.{IsBytes, IsFormat, bind_ok, both, of_both, passed_ok, such_that_law, word32_law, word64_law, ok_is}
-use Rattle.s80_image.proofs.Tables.{class_heading_law, class_law, classes_law, image_law, method_law, methods_law, number_where_law}
+use Rattle.s80_image.specs.Image.{ImageView, contents, decoded, image_format, view_of, whole}
+use Rattle.s80_image.specs.Answers.{AllPass, Answers, AreVerified, AreVerifiedMethods, Ends, IsRead, IsVerifiedView, Met, class_met, class_met_behind, classes_met, contents_met, image_met, members_met, method_met, method_met_behind, methods_met, on_ok, placed_fault}
+use Rattle.s80_image.proofs.Laws.{IsBytes, IsFormat, bind_ok, of_both, passed_ok, word32_law, word64_law, ok_is}
+use Rattle.s80_image.proofs.Tables.{class_heading_law, class_law, image_law, method_law, methods_law, number_where_law}
 use Rattle.s80_image.proofs.Verifying.{all_join, last_fails}
 
 -- ---- answers
@@ -70,7 +69,7 @@ module _ {A : Type 0} (member : List A → Format A) (met : List A → List ℕ 
       let others = members_pass (before ++ x ∷ []) xs rest o.1 p.1 in
       let next : List ℕ → List Met = λ b. met before b ++ on_ok ((member before).read b) (λ y. members_met member met (before ++ y.0 ∷ []) (length xs) y.1) in
       let here : AllPass (next ((member before).spell x ++ more)) =
-          all_join (met before ((member before).spell x ++ more)) _ (one before x more o.0 p.0) (rw ((laws before).again x more o.0) others) in
+      all_join (met before ((member before).spell x ++ more)) _ (one before x more o.0 p.0) (rw ((laws before).again x more o.0) others) in
       subst (λ b. AllPass (next b)) (sym regroup) here
 
 module _ {A : Type 0} (test : ℕ → Bool) (member : List A → Format A) (met : List A → List ℕ → List Met) (laws : (before : List A) → IsFormat (member before)) (P : A → Type 0)
@@ -81,7 +80,7 @@ module _ {A : Type 0} (test : ℕ → Bool) (member : List A → Format A) (met 
       let o = of_both (ltb (length xs) (2 ^ 32) && test (length xs)) (are_lawful member [] xs) e in
       let all : List ℕ → List Met = λ b. on_ok ((number_where test word32).read b) (λ n. members_met member met [] n.0 n.1) in
       let here : AllPass (all (to_be_bytes w32 (length xs) ++ (spelled member [] xs ++ rest))) =
-          rw ((number_where_law test word32 word32_law).again (length xs) (spelled member [] xs ++ rest) o.0) (members_pass member met laws P one [] xs rest o.1 p) in
+      rw ((number_where_law test word32 word32_law).again (length xs) (spelled member [] xs ++ rest) o.0) (members_pass member met laws P one [] xs rest o.1 p) in
       subst (λ b. AllPass (all b)) (sym (append_assoc (to_be_bytes w32 (length xs)) (spelled member [] xs) rest)) here
 
 method_passes : (class_name : Name) (last : Option Name) (m : MethodView) (rest : List ℕ) → (method last).lawful m ≡ true → IsVerifiedView m.code → AllPass (method_met class_name last ((method last).spell m ++ rest))
@@ -100,9 +99,9 @@ class_passes last c rest e v =
     let tail = methods.spell c.class ++ rest in
     let all : List ℕ → List Met = λ b. on_ok ((heading last).read b) (λ h. methods_met h.0.name h.1 ++ on_ok (methods.read h.1) (λ m. methods_met h.0.name m.1)) in
     let here : AllPass (all ((heading last).spell c.heading ++ (methods.spell c.instance ++ tail))) =
-        rw ((class_heading_law last).again c.heading (methods.spell c.instance ++ tail) o.0)
-        (all_join (methods_met c.heading.name (methods.spell c.instance ++ tail)) _ (methods_pass c.heading.name c.instance tail p.0 v.0)
-          (rw (methods_law.again c.instance tail p.0) (methods_pass c.heading.name c.class rest p.1 v.1))) in
+    rw ((class_heading_law last).again c.heading (methods.spell c.instance ++ tail) o.0)
+    (all_join (methods_met c.heading.name (methods.spell c.instance ++ tail)) _ (methods_pass c.heading.name c.instance tail p.0 v.0)
+    (rw (methods_law.again c.instance tail p.0) (methods_pass c.heading.name c.class rest p.1 v.1))) in
     subst (λ b. AllPass (all b)) (sym (append_assoc ((heading last).spell c.heading) (methods.spell c.instance ++ methods.spell c.class) rest ∙ ap (λ b. (heading last).spell c.heading ++ b) (append_assoc (methods.spell c.instance) (methods.spell c.class) rest))) here
 
 classes_pass : (cs : List ClassView) (rest : List ℕ) → classes.lawful cs ≡ true → AllByRecursion (λ c. AreVerifiedMethods c.instance × AreVerifiedMethods c.class) cs → AllPass (classes_met (classes.spell cs ++ rest))
@@ -116,7 +115,7 @@ contents_pass i rest e v =
     let p = of_both (classes.lawful i.classes) _ o.1 in
     let all : List ℕ → List Met = λ b. on_ok (word64.read b) (λ n. classes_met n.1) in
     let here : (tail : List ℕ) → AllPass (all (word64.spell i.count ++ (classes.spell i.classes ++ tail))) = λ tail.
-        rw (word64_law.again i.count (classes.spell i.classes ++ tail) o.0) (classes_pass i.classes tail p.0 v) in
+    rw (word64_law.again i.count (classes.spell i.classes ++ tail) o.0) (classes_pass i.classes tail p.0 v) in
     subst (λ b. AllPass (all b)) (sym (append_assoc (word64.spell i.count) _ rest ∙ ap (λ b. word64.spell i.count ++ b) (append_assoc (classes.spell i.classes) _ rest))) (here _)
 
 pub image_passes : (i : ImageView) → image_format.lawful i ≡ true → AreVerified i → AllPass (image_met (image_format.spell i))

@@ -1,5 +1,5 @@
 -- Literals that are read one in another.
-use Rattle.std.proofs.Common.{◌≡◌, ◌≢◌, ℕ, zero, suc, ◌+◌, ◌-◌, ◌<◌, ◌≤◌, Bool, ltb, List, [], ◌∷◌, length, take, drop, Result, Ok, Err, refl, sym, ap, subst, ◌∙◌, arith}
+use Rattle.std.proofs.Common.{◌≡◌, ℕ, zero, suc, ◌+◌, ◌-◌, ◌<◌, ◌≤◌, Bool, ltb, List, [], ◌∷◌, length, take, drop, Result, Ok, Err, refl, sym, ap, subst, ◌∙◌, arith}
 use Rattle.s80_base.specs.Literal.{LiteralTree, LiteralTrees, array, no_literals, literals, literals_append}
 use Rattle.s80_image.specs.declared.fault.ReadError.{ReadError}
 use Rattle.s80_image.specs.declared.fault.ReadError.TheVariants as errors

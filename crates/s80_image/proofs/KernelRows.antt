@@ -1,10 +1,9 @@
 -- The row of a class of the kernel.
-use Rattle.std.proofs.Common.{◌≡◌, ℕ, Bool, true, false, cond, List, [], ◌∷◌, map, Option, Some, None, refl, sym, ap, ◌∙◌}
-use Rattle.std.specs.Prelude.{find, option_map, drop, ◌<◌}
-use Rattle.std.specs.List.{list_any}
+use Rattle.std.proofs.Common.{◌≡◌, ℕ, Bool, true, false, cond, List, [], ◌∷◌, map, Option, Some, None, refl, ap, ◌∙◌}
+use Rattle.std.specs.Prelude.{find, option_map}
 use Rattle.std.specs.Str.{bytes_eq}
 use Rattle.s80_kernel.specs.declared.rows.KernelClass.{KernelClass}
-use Rattle.s80_kernel.specs.Rows.{KernelRow, kernel_rows, row_of}
+use Rattle.s80_kernel.specs.Rows.{kernel_rows, row_of}
 
 find_of_map : {X Y : Type 0} (f : X → Y) (p : Y → Bool) (xs : List X) → option_map f (find (λ x. p (f x)) xs) ≡ find p (map f xs)
 find_of_map f p [] = refl

@@ -6,7 +6,7 @@ use Rattle.std.proofs.lemmas.List.{take_at, drop_at, take-append-drop, append-ni
 use Rattle.std.proofs.lemmas.Nat.{be_bytes_4, be_bytes_8, from_be_bytes-to_be_bytes_4, from_be_bytes-to_be_bytes_8}
 use Rattle.s80_image.specs.declared.fault.Fault.{Fault}
 use Rattle.s80_image.specs.declared.fault.Fault.TheVariants.{Short, Field}
-use Rattle.s80_image.specs.Format.{◌>>=◌, Format, Reading, next_byte, byte, number, word32, word64, text, such_that, mapped, pair, spelled, are_lawful, members, list_of, number_where}
+use Rattle.s80_image.specs.Format.{◌>>=◌, Format, byte, number, word32, word64, text, such_that, mapped, pair, spelled, are_lawful, members, list_of, number_where}
 
 -- ---- bytes
 

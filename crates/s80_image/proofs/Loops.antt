@@ -1,10 +1,10 @@
 -- Members that a loop reads one behind the other.
-use Rattle.std.proofs.Common.{◌≡◌, ℕ, suc, ◌+◌, ◌-◌, ◌<◌, ◌≤◌, List, [], ◌∷◌, ◌++◌, length, map, Option, Result, Ok, Err, refl, sym, ap, ◌∙◌, arith, Bor}
+use Rattle.std.proofs.Common.{◌≡◌, ℕ, suc, ◌+◌, ◌-◌, ◌<◌, ◌≤◌, List, [], ◌∷◌, ◌++◌, length, map, Option, Ok, Err, refl, sym, ap, ◌∙◌, arith, Bor}
 use Rattle.std.specs.Prelude.{option_copied, option_map, slice_get, Some, None}
 use Rattle.std.proofs.lemmas.Option.{slice_get-map}
 use Rattle.s80_image.specs.declared.fault.ReadError.{ReadError}
 use Rattle.s80_image.specs.declared.fault.ReadError.TheVariants as errors
-use Rattle.s80_image.specs.Format.{◌>>=◌, Fails, Format, Reading, members}
+use Rattle.s80_image.specs.Format.{Fails, Format, Reading, members}
 use Rattle.s80_image.specs.Parts.{last_of}
 
 module _ {A : Type 0} (member : List A → Format A) (count i : ℕ) (before : List A) (bytes : List ℕ) (total : Reading (List A)) where

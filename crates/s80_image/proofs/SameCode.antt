@@ -1,5 +1,5 @@
 -- Codes that look alike have the same faults.
-use Rattle.std.proofs.Common.{◌≡◌, ℕ, zero, suc, ◌⊎◌, inl, inr, ◌+◌, ◌*◌, List, [], ◌∷◌, Some, refl, sym, ap, subst, ◌∙◌}
+use Rattle.std.proofs.Common.{◌≡◌, ℕ, zero, suc, ◌⊎◌, inl, inr, ◌+◌, ◌*◌, [], ◌∷◌, sym, ap, subst, ◌∙◌}
 use Rattle.std.specs.Prelude.{slice_get, length}
 use Rattle.s80_code.specs.declared.code.Code.{Code}
 use Rattle.s80_code.specs.declared.code.Frame.{Frame}
@@ -7,14 +7,14 @@ use Rattle.s80_code.specs.declared.instruction.Instruction.{Instruction}
 use Rattle.s80_code.specs.declared.instruction.Instruction.TheVariants.{Push, Store, PopInto, PushFixed, ReturnFixed, ReturnTop, ReturnFromBlock, Send, SendSuper, SendSpecial, Pop, Duplicate, PushContext, Jump, JumpOnTrue, JumpOnFalse}
 use Rattle.s80_code.specs.declared.instruction.Storage.{Storage}
 use Rattle.s80_code.specs.declared.instruction.Storage.TheVariants.{Receiver, Temporary, Constant, Variable}
-use Rattle.s80_code.specs.Entries.{EntryTree, entries_of, extension, owner}
+use Rattle.s80_code.specs.Entries.{entries_of, extension, owner}
 use Rattle.s80_verify.specs.declared.stack.Stack.{Stack}
 use Rattle.s80_verify.specs.declared.fault.VerifyKind.{VerifyKind}
 use Rattle.s80_verify.specs.declared.fault.VerifyKind.TheVariants as kinds
 use Rattle.s80_verify.specs.Fault.{Fails, IsVerified, RunsAt}
 use Rattle.s80_verify.specs.Header.{HeaderFits, IsShort, IsExtended, EndsPlain, EndsIn}
-use Rattle.s80_verify.specs.Operands.{HasVariable, HasConstant, HasOwner, IsReadable, IsWritable, LandsBetween, Sends, Suits}
-use Rattle.s80_verify.specs.Reach.{Begins, Continues, Counts, IsReached, Leads, Reached, ReachedIn}
+use Rattle.s80_verify.specs.Operands.{HasVariable, HasOwner, IsReadable, IsWritable, LandsBetween, Sends, Suits}
+use Rattle.s80_verify.specs.Reach.{Begins, Counts, IsReached, Leads, Reached, ReachedIn}
 use Rattle.s80_image.specs.Methods.{CodeView, code_of}
 
 abbrev with_frame : Code → Frame → Code
@@ -45,9 +45,21 @@ module _ (c : Code) (f g : Frame) (e : entries_of f ≡ entries_of g) where
 
   begins : (at arguments start : ℕ) → Begins (with_frame c f) at arguments start → Begins (with_frame c g) at arguments start
   begins at arguments start b = record {
-    context = b.context; push = b.push; count = b.count; jump = b.jump; distance = b.distance; byte = b.byte; placed = b.placed;
-    is_context = b.is_context; is_count = b.is_count; counted = counts b.count arguments b.counted; is_copy = b.is_copy; is_jump = b.is_jump;
-    begun = b.begun; low = b.low; high = b.high;
+    context = b.context;
+    push = b.push;
+    count = b.count;
+    jump = b.jump;
+    distance = b.distance;
+    byte = b.byte;
+    placed = b.placed;
+    is_context = b.is_context;
+    is_count = b.is_count;
+    counted = counts b.count arguments b.counted;
+    is_copy = b.is_copy;
+    is_jump = b.is_jump;
+    begun = b.begun;
+    low = b.low;
+    high = b.high;
   }
 
   leads : (at : ℕ) (stack : Stack) (depth to : ℕ) (other : Stack) (after : ℕ) → Leads (with_frame c f) at stack depth to other after → Leads (with_frame c g) at stack depth to other after

@@ -1,5 +1,5 @@
 -- Selectors, as a test.
-use Rattle.std.proofs.Common.{◌≡◌, ℕ, ◌⊎◌, inl, inr, Bool, true, false, ◌||◌, Option, Some, None, refl, sym, ◌∙◌}
+use Rattle.std.proofs.Common.{◌≡◌, ℕ, ◌⊎◌, inl, inr, Bool, true, false, ◌||◌, Option, Some, None, refl}
 use Rattle.std.specs.Prelude.{List, ◌↔◌}
 use Rattle.std.specs.Option.{is_some}
 use Rattle.s80_lex.specs.Selector.{IsSelectorOf, is_name, is_binary, keywords_of}

@@ -8,7 +8,7 @@ use Rattle.std.proofs.lemmas.List.Concat.{flat_map-append, flat_map-cons}
 use Rattle.std.proofs.lemmas.Option.{slice_get-get_or}
 use Rattle.s80_base.specs.Literal.{LiteralTrees, no_literals, literals, literals_list}
 use Rattle.s80_code.specs.declared.code.Entry.{Entry}
-use Rattle.s80_code.specs.Entries.{EntryTree, entry_of}
+use Rattle.s80_code.specs.Entries.{entry_of}
 use Rattle.s80_history.specs.declared.noted.Noted.{Noted}
 use Rattle.s80_kernel.specs.Rows.{KernelRow}
 use Rattle.s80_image.specs.declared.image.ClassHeading.{ClassHeading}
@@ -122,7 +122,7 @@ pub next_name : (out new old count : List ℕ) (ns : List Name) (i : ℕ) (x : N
 next_name out new old count ns i x within e so_far put =
     let here : get_or ns i x ≡ x = value (get_or ns i x) x (sym (slice_get-get_or ns i x within) ∙ e) in
     let more : flat_map text.spell (take (i + 1) ns) ≡ flat_map text.spell (take i ns) ++ text.spell x =
-        ap (flat_map text.spell) (take_more ns i x within) ∙ flat_map-append text.spell (take i ns) (get_or ns i x ∷ []) ∙ ap (λ b. flat_map text.spell (take i ns) ++ b) (flat_map-cons text.spell (get_or ns i x) [] ∙ append-nil (text.spell (get_or ns i x)) ∙ ap text.spell here) in
+    ap (flat_map text.spell) (take_more ns i x within) ∙ flat_map-append text.spell (take i ns) (get_or ns i x ∷ []) ∙ ap (λ b. flat_map text.spell (take i ns) ++ b) (flat_map-cons text.spell (get_or ns i x) [] ∙ append-nil (text.spell (get_or ns i x)) ∙ ap text.spell here) in
     put ∙ ap (λ b. b ++ text.spell x) so_far ∙ append_assoc old (count ++ flat_map text.spell (take i ns)) (text.spell x) ∙ ap (λ b. old ++ b) (append_assoc count (flat_map text.spell (take i ns)) (text.spell x) ∙ ap (λ b. count ++ b) (sym more))
   where
     value : (a b : Name) → Some a ≡ Some b → a ≡ b

@@ -1,11 +1,11 @@
 -- The parts of an image are read again as they were spelled.
-use Rattle.std.proofs.Common.{◌≡◌, ℕ, zero, suc, ◌^◌, ◌<◌, ◌≤◌, ◌==◌, ◌&&◌, ◌||◌, ℤ, pos, negsuc, Bool, true, false, cond, eqb, ltb, List, [], ◌∷◌, ◌++◌, length, Option, Result, Ok, Err, refl, sym, ap, ap₂, subst, ◌∙◌, append_assoc, arith, inl, inr, ◌⊎◌}
+use Rattle.std.proofs.Common.{◌≡◌, ℕ, zero, suc, ◌^◌, ◌<◌, ◌≤◌, ◌==◌, ◌&&◌, ℤ, pos, negsuc, Bool, true, false, cond, ltb, List, [], ◌∷◌, ◌++◌, length, Option, Ok, refl, sym, ap, ap₂, subst, ◌∙◌, append_assoc, arith}
 use Rattle.std.specs.Prelude.{nat_le}
 use Rattle.std.specs.Int.{w32, to_be_bytes, cast_signed, cast_unsigned}
 use Rattle.std.proofs.lemmas.Bool.{eqb-true, ltb-true}
 use Rattle.std.proofs.lemmas.Int.{of_z-to_z}
 use Rattle.std.proofs.lemmas.Bool.Decides.{nat_tests}
-use Rattle.std.proofs.lemmas.List.{append-nil, length-append}
+use Rattle.std.proofs.lemmas.List.{length-append}
 use Rattle.s80_base.specs.declared.literal.NumberKind.{NumberKind}
 use Rattle.s80_base.specs.declared.literal.NumberKind.TheVariants.{LargePositive, LargeNegative, Float}
 use Rattle.s80_base.specs.declared.names.Side.{Side}
@@ -19,15 +19,14 @@ use Rattle.s80_form.specs.declared.definition.Kind.TheVariants.{Plain, Pointers,
 use Rattle.s80_history.specs.declared.noted.NotedKind.{NotedKind}
 use Rattle.s80_history.specs.declared.noted.NotedKind.TheVariants.{Define, ClassVars, Comment, Method, RemoveMethod, Classify, RemoveClass}
 use Rattle.s80_history.specs.Lists.{MethodName}
-use Rattle.s80_image.specs.declared.fault.Fault.TheVariants.{Short, Field}
-use Rattle.s80_image.specs.Format.{◌>>=◌, Format, Reading, byte, word32, word64, text, such_that, number_where, text_where, mapped, pair, list_of}
+use Rattle.s80_image.specs.Format.{◌>>=◌, Format, Reading, byte, word32, word64, text, number_where, text_where, mapped}
 use Rattle.s80_image.specs.Parts.{Name, at_most, flag, flag_number, source, source_number, side, side_number, side_of, class_text, name_text, place_above, places, last_of}
 use Rattle.s80_image.specs.Literals.{signed, number_kind_of, kept_number, count_of, literal_bytes, literals_bytes, is_lawful_literal, are_lawful_literals, elements, literal_behind, literal_at, is_entry_tag, class_variable_entry, owner_entry, entry_bytes, is_lawful_entry, entry_behind, entry}
 use Rattle.s80_image.specs.Methods.{frame, code, code_fields, method_heading, method, method_behind, methods}
 use Rattle.s80_image.specs.Classes.{kernel_row, kind, kind_number, kind_of, names, variables, heading, class, class_behind, classes}
-use Rattle.s80_image.specs.History.{noted_kind, noted_kind_number, noted_kind_of, noted_side, noted_selector, noted, noted_behind, change_set, selector_above, versions, versions_behind, all_versions}
-use Rattle.s80_image.specs.Image.{exactly, signature, contents, image_format, behind_signature}
-use Rattle.s80_image.proofs.Laws.{IsBytes, IsFormat, Takes, bind_ok, guard_ok, passed_ok, ok_is, both, of_both, rest_fits, byte_law, word32_law, word64_law, text_law, such_that_law, mapped_law, pair_law, list_law}
+use Rattle.s80_image.specs.History.{noted_kind, noted_kind_number, noted_kind_of, noted_side, noted, noted_behind, change_set, selector_above, versions, versions_behind, all_versions}
+use Rattle.s80_image.specs.Image.{exactly, signature, contents, image_format}
+use Rattle.s80_image.proofs.Laws.{IsBytes, IsFormat, Takes, bind_ok, ok_is, both, of_both, rest_fits, byte_law, word32_law, word64_law, text_law, such_that_law, mapped_law, pair_law, list_law}
 
 -- ---- small parts
 
@@ -193,9 +192,10 @@ array_part element takes tag bytes x fits is e =
     let count = word32_law.takes bytes a.0 fits a.1 in
     let m = elements_take element takes no_literals a.0.0 a.0.1 b.0 (rest_fits word32 bytes a.0 fits count) b.1 in
     let n_is : count_of b.0.0 ≡ a.0.0 = ap count_of m.all ∙ m.count in
-    subst (λ y. Tagged tag bytes y) (ok_is (array b.0.0, b.0.1) x b.2)
-    (ap (λ n. n ∷ bytes) is ∙ ap (λ r. 4 ∷ r) (count.parts ∙ ap₂ (λ (k : ℕ) (r : List ℕ). to_be_bytes w32 k ++ r) (sym n_is) (m.parts ∙ ap (λ ls. literals_bytes ls ++ b.0.1) (sym m.all)) ∙ sym (append_assoc (to_be_bytes w32 (count_of b.0.0)) (literals_bytes b.0.0) b.0.1)),
-      both _ _ (ap (λ k. ltb k (2 ^ 32)) n_is ∙ count.is_lawful) (ap are_lawful_literals m.all ∙ m.is_lawful))
+    subst (λ y. Tagged tag bytes y) (ok_is (array b.0.0, b.0.1) x b.2) (
+      ap (λ n. n ∷ bytes) is ∙ ap (λ r. 4 ∷ r) (count.parts ∙ ap₂ (λ (k : ℕ) (r : List ℕ). to_be_bytes w32 k ++ r) (sym n_is) (m.parts ∙ ap (λ ls. literals_bytes ls ++ b.0.1) (sym m.all)) ∙ sym (append_assoc (to_be_bytes w32 (count_of b.0.0)) (literals_bytes b.0.0) b.0.1)),
+      both _ _ (ap (λ k. ltb k (2 ^ 32)) n_is ∙ count.is_lawful) (ap are_lawful_literals m.all ∙ m.is_lawful),
+    )
 
 last_tag : (tag : ℕ) → nat_le tag 8 ≡ true → (tag == 0) ≡ false → (tag == 1) ≡ false → (tag == 2) ≡ false → (tag == 3) ≡ false → (tag == 4) ≡ false → (tag == 5) ≡ false → (tag == 6) ≡ false → (tag == 7) ≡ false → tag ≡ 8
 last_tag tag le a b c d e f g h = grind (arith, nat_tests)

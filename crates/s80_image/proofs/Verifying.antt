@@ -1,5 +1,5 @@
 -- Answers of reading where codes are verified on the way.
-use Rattle.std.proofs.Common.{◌≡◌, ℕ, suc, ◌+◌, ◌-◌, ◌<◌, ◌≤◌, List, [], ◌∷◌, ◌++◌, Result, Ok, Err, refl, sym, ap, subst, ◌∙◌, append_assoc, arith}
+use Rattle.std.proofs.Common.{◌≡◌, ℕ, suc, ◌+◌, ◌-◌, ◌<◌, ◌≤◌, List, [], ◌∷◌, ◌++◌, Result, Ok, refl, sym, ap, subst, ◌∙◌, append_assoc, arith}
 use Rattle.std.proofs.lemmas.List.{append-nil}
 use Rattle.s80_image.specs.declared.fault.Fault.{Fault}
 use Rattle.s80_image.specs.declared.fault.Fault.TheVariants.{Short, Field}
@@ -8,7 +8,7 @@ use Rattle.s80_image.specs.declared.fault.ReadError.TheVariants as errors
 use Rattle.s80_image.specs.declared.fault.ImageFault.{ImageFault}
 use Rattle.s80_image.specs.declared.fault.ImageFault.TheVariants as faults
 use Rattle.s80_image.specs.Format.{◌>>=◌, Fails, Format, Reading, members}
-use Rattle.s80_image.specs.Answers.{AllPass, Answers, Ends, Met, StopsAt, fault_of, members_met, on_ok}
+use Rattle.s80_image.specs.Answers.{AllPass, Answers, Ends, Met, fault_of, members_met, on_ok}
 
 pub all_join : (a b : List Met) → AllPass a → AllPass b → AllPass (a ++ b)
 all_join [] b p q = q
@@ -110,7 +110,7 @@ module _ {A : Type 0} (member : List A → Format A) (met : List A → List ℕ 
   loop_fails fault lt h so =
       let k : count - i ≡ suc (count - (i + 1)) = omega arith in
       let step : Ends fault (members member before (suc (count - (i + 1))) bytes) (members_met member met before (suc (count - (i + 1))) bytes) =
-          part_fails fault ((member before).read bytes) (met before bytes) (λ x. members member (before ++ x.0 ∷ []) (count - (i + 1)) x.1) (λ x. members_met member met (before ++ x.0 ∷ []) (count - (i + 1)) x.1) h in
+      part_fails fault ((member before).read bytes) (met before bytes) (λ x. members member (before ++ x.0 ∷ []) (count - (i + 1)) x.1) (λ x. members_met member met (before ++ x.0 ∷ []) (count - (i + 1)) x.1) h in
       let here : Ends fault (members member before (count - i) bytes) (members_met member met before (count - i) bytes) = rw k step in
       subst (λ t. Ends fault t all) so.read (subst (λ l. Ends fault (members member before (count - i) bytes) l) (sym so.parts) (prefix fault (members member before (count - i) bytes) so.done (members_met member met before (count - i) bytes) so.passed here))
 
@@ -121,7 +121,7 @@ module _ {A : Type 0} (member : List A → Format A) (met : List A → List ℕ 
       let k : count - i ≡ suc (count - (i + 1)) = omega arith in
       let next : members member before (count - i) bytes ≡ members member new (count - (i + 1)) rest = rw k (rw e (ap (λ b. members member b (count - (i + 1)) rest) (sym is))) in
       let more : members_met member met before (count - i) bytes ≡ met before bytes ++ members_met member met new (count - (i + 1)) rest =
-          rw k (ap (λ r. met before bytes ++ on_ok r (λ y. members_met member met (before ++ y.0 ∷ []) (count - (i + 1)) y.1)) e ∙ ap (λ b. met before bytes ++ members_met member met b (count - (i + 1)) rest) (sym is)) in
+      rw k (ap (λ r. met before bytes ++ on_ok r (λ y. members_met member met (before ++ y.0 ∷ []) (count - (i + 1)) y.1)) e ∙ ap (λ b. met before bytes ++ members_met member met b (count - (i + 1)) rest) (sym is)) in
       record {
         read = sym next ∙ so.read;
         done = so.done ++ met before bytes;

@@ -1,20 +1,19 @@
 -- Methods, classes and contents, part by part.
-use Rattle.std.proofs.Common.{◌≡◌, ℕ, List, [], ◌∷◌, ◌++◌, ◌⊎◌, inl, inr, Option, Result, Ok, Err, refl, sym, ap, subst, ◌∙◌}
+use Rattle.std.proofs.Common.{◌≡◌, ℕ, List, [], ◌++◌, ◌⊎◌, inl, inr, Option, Result, Ok, Err, refl, sym, ap, ◌∙◌}
 use Rattle.std.specs.Prelude.{nat_le}
 use Rattle.s80_code.specs.declared.code.Code.{Code}
 use Rattle.s80_verify.specs.Fault.{Fails as HasFault, IsVerified}
 use Rattle.s80_verify.specs.declared.fault.VerifyKind.{VerifyKind}
 use Rattle.s80_history.specs.declared.noted.Noted.{Noted}
-use Rattle.s80_image.specs.declared.fault.Fault.{Fault}
 use Rattle.s80_image.specs.declared.fault.ReadError.{ReadError}
 use Rattle.s80_image.specs.declared.fault.ReadError.TheVariants as errors
 use Rattle.s80_image.specs.declared.fault.ImageFault.{ImageFault}
 use Rattle.s80_image.specs.declared.fault.ImageFault.TheVariants as faults
 use Rattle.s80_image.specs.declared.image.MethodHeading.{MethodHeading}
 use Rattle.s80_image.specs.declared.image.ClassHeading.{ClassHeading}
-use Rattle.s80_image.specs.Format.{◌>>=◌, Fails, Format, Reading, members, number_where, word32, word64}
+use Rattle.s80_image.specs.Format.{◌>>=◌, Fails, Reading, members, number_where, word32, word64}
 use Rattle.s80_image.specs.Parts.{Name}
-use Rattle.s80_image.specs.Methods.{CodeView, MethodView, code_of, method, method_behind, method_limit, methods}
+use Rattle.s80_image.specs.Methods.{MethodView, code_of, method, method_behind, method_limit, methods}
 use Rattle.s80_image.specs.Classes.{ClassView, class, class_behind, classes, heading}
 use Rattle.s80_image.specs.History.{VersionsView, all_versions, change_set}
 use Rattle.s80_image.specs.Image.{ImageView, contents, image_format, signature}

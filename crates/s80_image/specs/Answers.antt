@@ -9,7 +9,7 @@ use Rattle.s80_image.specs.declared.fault.ReadError.{ReadError}
 use Rattle.s80_image.specs.declared.fault.ReadError.TheVariants as errors
 use Rattle.s80_image.specs.declared.fault.ImageFault.{ImageFault}
 use Rattle.s80_image.specs.declared.fault.ImageFault.TheVariants as faults
-use Rattle.s80_image.specs.Format.{Format, Reading, byte, number_where, word32, word64}
+use Rattle.s80_image.specs.Format.{Format, number_where, word32, word64}
 use Rattle.s80_image.specs.Parts.{Name, last_of}
 use Rattle.s80_image.specs.Methods.{CodeView, MethodView, code_of, method, method_behind, method_limit, methods}
 use Rattle.s80_image.specs.Classes.{ClassView, class_behind, heading}

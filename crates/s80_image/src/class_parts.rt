@@ -120,10 +120,7 @@ fn names<'b>(
 }
 
 /// The instance variables that a class of the kernel has to have.
-fn inst_vars_given(
-    alloc: Global,
-    row: Option<&KernelClass>,
-) -> Result<Option<Names>, OutOfMemory>
+fn inst_vars_given(alloc: Global, row: Option<&KernelClass>) -> Result<Option<Names>, OutOfMemory>
     ensures { IfOk result (λ names. names ≡ inst_vars_given (option_map (λ r. row_of r.now) row.entry)) }
 {
     match row {

@@ -79,11 +79,7 @@ fn is_noted_selector(kind: NotedKind, word: &[u8]) -> bool
     }
 }
 
-fn noted_selector(
-    alloc: Global,
-    kind: NotedKind,
-    bytes: &[u8],
-) -> Result<(Text, &[u8]), ReadError>
+fn noted_selector(alloc: Global, kind: NotedKind, bytes: &[u8]) -> Result<(Text, &[u8]), ReadError>
     ensures { Gives (λ x. (x.0, x.1.now)) result ((noted_selector kind).read bytes.now) }
 {
     let (word, rest) = text(alloc, bytes)?;
@@ -140,10 +136,7 @@ fn change_set_from(
 }
 
 #[tactic(auto, unfolding(crate::specs::History::change_set))]
-pub(crate) fn change_set(
-    alloc: Global,
-    bytes: &[u8],
-) -> Result<(Vec<Noted>, &[u8]), ReadError>
+pub(crate) fn change_set(alloc: Global, bytes: &[u8]) -> Result<(Vec<Noted>, &[u8]), ReadError>
     ensures { Gives (λ x. (x.0.items, x.1.now)) result (change_set.read bytes.now) }
 {
     let (count, rest) = word32(bytes)?;

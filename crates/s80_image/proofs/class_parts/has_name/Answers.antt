@@ -1,4 +1,4 @@
-use Rattle.std.proofs.Common.{◌≡◌, ◌∙◌, sym, rules}
+use Rattle.std.proofs.Common.{rules}
 use Rattle.s80_image.proofs.Names.{named_here, named_later}
 use Rattle.s80_image.proofs.class_parts.has_name.Goals as goal
 

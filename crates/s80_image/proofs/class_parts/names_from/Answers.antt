@@ -1,6 +1,6 @@
-use Rattle.std.proofs.Common.{◌≡◌, ◌++◌, ◌∷◌, [], ◌∙◌, ap, refl, rules}
+use Rattle.std.proofs.Common.{refl}
 use Rattle.std.proofs.lemmas.Result.{err_from_is_err_and}
-use Rattle.s80_image.proofs.Loops.{last_key, last_mapped, member_fails, member_read, members_end, map_push}
+use Rattle.s80_image.proofs.Loops.{member_fails, member_read, members_end}
 use Rattle.std.specs.Prelude.{option_copied}
 use Rattle.s80_image.specs.Format.{text_where}
 use Rattle.s80_image.specs.Classes.{may_stand}

@@ -1,4 +1,4 @@
-use Rattle.std.proofs.Common.{◌≡◌, ◌++◌, ◌∷◌, [], ap, sym, subst, rules, Ok, ◌-◌, arith}
+use Rattle.std.proofs.Common.{◌≡◌, [], ap, subst, rules, Ok, ◌-◌, arith}
 use Rattle.std.specs.Prelude.{Option, option_copied, option_map}
 use Rattle.std.proofs.lemmas.Result.{err_from_is_err_and}
 use Rattle.s80_image.specs.Parts.{Name, last_of}
@@ -17,8 +17,8 @@ returns-in_err-class c =
     let e : option_copied c.last_name.result ≡ option_map (λ m. m.heading.name) (last_of (classes_of c.loop.classes.items)) = search rules in
     let p = err_from_is_err_and c.from_residual.result c.from_residual.ensures.1 in
     rw (p.1, p.2) (loop_fails class_behind class_met_behind c.args.count c.loop.counter (classes_of c.loop.classes.items) c.loop.rest.now
-      (members class_behind [] c.args.count c.args.bytes.now) (members_met class_behind class_met_behind [] c.args.count c.args.bytes.now) c.in_err-class.field-0.0 c.loop-test.true
-      (subst (λ o. Ends c.in_err-class.field-0.0 ((class o).read c.loop.rest.now) (class_met o c.loop.rest.now)) e c.in_err-class.ensures) c.loop.invariant)
+    (members class_behind [] c.args.count c.args.bytes.now) (members_met class_behind class_met_behind [] c.args.count c.args.bytes.now) c.in_err-class.field-0.0 c.loop-test.true
+    (subst (λ o. Ends c.in_err-class.field-0.0 ((class o).read c.loop.rest.now) (class_met o c.loop.rest.now)) e c.in_err-class.ensures) c.loop.invariant)
 
 pub loop-preserved : goal.loop-preserved
 loop-preserved c =

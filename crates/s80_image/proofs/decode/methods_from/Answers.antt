@@ -1,4 +1,4 @@
-use Rattle.std.proofs.Common.{◌≡◌, ◌++◌, ◌∷◌, [], ap, sym, subst, rules, Ok, ◌-◌, arith}
+use Rattle.std.proofs.Common.{◌≡◌, [], ap, subst, rules, Ok, ◌-◌, arith}
 use Rattle.std.specs.Prelude.{Option, option_copied, option_map}
 use Rattle.std.proofs.lemmas.Result.{err_from_is_err_and}
 use Rattle.s80_image.specs.Parts.{Name, last_of}
@@ -17,8 +17,8 @@ returns-in_err-method c =
     let e : option_copied c.last_selector.result ≡ option_map (λ m. m.heading.selector) (last_of (methods_of c.loop.methods.items)) = search rules in
     let p = err_from_is_err_and c.from_residual.result c.from_residual.ensures.1 in
     rw (p.1, p.2) (loop_fails method_behind (method_met_behind c.args.class.now) c.args.count c.loop.counter (methods_of c.loop.methods.items) c.loop.rest.now
-      (members method_behind [] c.args.count c.args.bytes.now) (members_met method_behind (method_met_behind c.args.class.now) [] c.args.count c.args.bytes.now) c.in_err-method.field-0.0 c.loop-test.true
-      (subst (λ o. Ends c.in_err-method.field-0.0 ((method o).read c.loop.rest.now) (method_met c.args.class.now o c.loop.rest.now)) e c.in_err-method.ensures) c.loop.invariant)
+    (members method_behind [] c.args.count c.args.bytes.now) (members_met method_behind (method_met_behind c.args.class.now) [] c.args.count c.args.bytes.now) c.in_err-method.field-0.0 c.loop-test.true
+    (subst (λ o. Ends c.in_err-method.field-0.0 ((method o).read c.loop.rest.now) (method_met c.args.class.now o c.loop.rest.now)) e c.in_err-method.ensures) c.loop.invariant)
 
 pub loop-preserved : goal.loop-preserved
 loop-preserved c =

@@ -1,4 +1,3 @@
-use Rattle.std.proofs.Common.{sym, ap, subst, rules}
 use Rattle.std.specs.Prelude.{option_copied}
 use Rattle.std.proofs.lemmas.Result.{err_from_is_err_and}
 use Rattle.s80_image.proofs.Wholes.{method_fails, method_passes, method_stops}

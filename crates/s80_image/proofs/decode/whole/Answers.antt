@@ -1,4 +1,4 @@
-use Rattle.std.proofs.Common.{rules, arith}
+use Rattle.std.proofs.Common.{rules}
 use Rattle.std.proofs.lemmas.Result.{err_from_is_err_and}
 use Rattle.s80_image.specs.Image.{view_of}
 use Rattle.s80_image.proofs.Decoded.{whole_fails, rest_fails, whole_read}

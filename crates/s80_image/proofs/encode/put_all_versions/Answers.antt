@@ -1,9 +1,9 @@
-use Rattle.std.proofs.Common.{length, map, rules, arith}
+use Rattle.std.proofs.Common.{length}
 use Rattle.std.specs.Prelude.{None}
 use Rattle.std.specs.Int.{w32, to_be_bytes}
 use Rattle.std.specs.List.{flat_map}
 use Rattle.s80_image.specs.History.{versions, all_versions, all_versions_of}
-use Rattle.s80_image.proofs.Spelled.{next_name, whole, all_versions_spelled}
+use Rattle.s80_image.proofs.Spelled.{whole, all_versions_spelled}
 use Rattle.s80_image.proofs.encode.put_all_versions.Goals as goal
 
 pub returns : goal.returns

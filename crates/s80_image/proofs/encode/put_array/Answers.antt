@@ -1,5 +1,4 @@
-use Rattle.std.proofs.Common.{◌++◌, ◌∷◌, [], ap, ◌∙◌, sym, refl, rules}
-use Rattle.std.specs.Prelude.{None}
+use Rattle.std.proofs.Common.{◌∷◌, [], ap, ◌∙◌, sym, rules}
 use Rattle.std.specs.Int.{w32, to_be_bytes}
 use Rattle.s80_base.specs.Literal.{literals_of}
 use Rattle.s80_image.specs.Literals.{count_of}

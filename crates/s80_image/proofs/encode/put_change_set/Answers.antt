@@ -1,9 +1,9 @@
-use Rattle.std.proofs.Common.{length, map, rules, arith}
+use Rattle.std.proofs.Common.{length}
 use Rattle.std.specs.Prelude.{None}
 use Rattle.std.specs.Int.{w32, to_be_bytes}
 use Rattle.std.specs.List.{flat_map}
 use Rattle.s80_image.specs.History.{noted, change_set}
-use Rattle.s80_image.proofs.Spelled.{next_name, whole, change_set_spelled}
+use Rattle.s80_image.proofs.Spelled.{whole, change_set_spelled}
 use Rattle.s80_image.proofs.encode.put_change_set.Goals as goal
 
 pub returns : goal.returns

@@ -1,9 +1,9 @@
-use Rattle.std.proofs.Common.{length, map, rules, arith}
+use Rattle.std.proofs.Common.{length}
 use Rattle.std.specs.Prelude.{None}
 use Rattle.std.specs.Int.{w32, to_be_bytes}
 use Rattle.std.specs.List.{flat_map}
 use Rattle.s80_image.specs.Methods.{method, methods, methods_of}
-use Rattle.s80_image.proofs.Spelled.{next_name, whole, methods_spelled}
+use Rattle.s80_image.proofs.Spelled.{whole, methods_spelled}
 use Rattle.s80_image.proofs.encode.put_methods.Goals as goal
 
 pub returns : goal.returns

@@ -1,4 +1,4 @@
-use Rattle.std.proofs.Common.{length, map, rules, arith}
+use Rattle.std.proofs.Common.{length, rules}
 use Rattle.std.specs.Prelude.{None}
 use Rattle.std.specs.Int.{w32, to_be_bytes}
 use Rattle.std.specs.List.{flat_map}

@@ -1,4 +1,4 @@
-use Rattle.std.proofs.Common.{◌++◌, ◌∷◌, [], ap, ◌∙◌, sym, refl, rules}
+use Rattle.std.proofs.Common.{◌++◌, ◌∷◌, [], rules}
 use Rattle.std.specs.Prelude.{None}
 use Rattle.s80_image.specs.Format.{text, word64}
 use Rattle.s80_image.specs.Parts.{side}

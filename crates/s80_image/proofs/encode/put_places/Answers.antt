@@ -1,10 +1,9 @@
-use Rattle.std.proofs.Common.{length, map, rules, arith}
-use Rattle.std.specs.Prelude.{None}
+use Rattle.std.proofs.Common.{length}
 use Rattle.std.specs.Int.{w32, to_be_bytes}
 use Rattle.std.specs.List.{flat_map}
 use Rattle.s80_image.specs.Format.{word64}
 use Rattle.s80_image.specs.Parts.{places}
-use Rattle.s80_image.proofs.Spelled.{next_name, whole, places_spelled}
+use Rattle.s80_image.proofs.Spelled.{whole, places_spelled}
 use Rattle.s80_image.proofs.encode.put_places.Goals as goal
 
 pub returns : goal.returns

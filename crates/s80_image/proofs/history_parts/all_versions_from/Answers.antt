@@ -1,6 +1,6 @@
-use Rattle.std.proofs.Common.{◌≡◌, ◌++◌, ◌∷◌, [], ◌∙◌, ap, refl, rules}
+use Rattle.std.proofs.Common.{ap, rules}
 use Rattle.std.proofs.lemmas.Result.{err_from_is_err_and}
-use Rattle.s80_image.proofs.Loops.{last_key, last_mapped, member_fails, member_read, members_end, map_push}
+use Rattle.s80_image.proofs.Loops.{last_key, member_fails, member_read, members_end, map_push}
 use Rattle.s80_image.specs.History.{all_versions_of, versions, versions_behind, versions_of}
 use Rattle.std.specs.Prelude.{option_map}
 use Rattle.s80_image.proofs.history_parts.all_versions_from.Goals as goal

@@ -1,5 +1,5 @@
 use Rattle.std.proofs.Common.{◌≡◌, ◌-◌, []}
-use Rattle.s80_image.specs.Format.{members, text_where}
+use Rattle.s80_image.specs.Format.{members}
 use Rattle.s80_image.specs.History.{all_versions_of, versions_behind}
 use Rattle.s80_image.proofs.history_parts.all_versions_from.Given as goal
 

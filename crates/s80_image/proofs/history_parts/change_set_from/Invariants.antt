@@ -1,5 +1,5 @@
 use Rattle.std.proofs.Common.{◌≡◌, ◌-◌, []}
-use Rattle.s80_image.specs.Format.{members, text_where}
+use Rattle.s80_image.specs.Format.{members}
 use Rattle.s80_image.specs.History.{noted_behind}
 use Rattle.s80_image.proofs.history_parts.change_set_from.Given as goal
 

@@ -1,6 +1,6 @@
-use Rattle.std.proofs.Common.{◌≡◌, ◌++◌, ◌∷◌, [], ◌∙◌, ap, refl, rules}
+use Rattle.std.proofs.Common.{ap, rules}
 use Rattle.std.proofs.lemmas.Result.{err_from_is_err_and}
-use Rattle.s80_image.proofs.Loops.{last_key, last_mapped, member_fails, member_read, members_end, map_push}
+use Rattle.s80_image.proofs.Loops.{member_fails, member_read, members_end}
 use Rattle.s80_image.specs.Parts.{last_of, place_above}
 use Rattle.s80_image.proofs.history_parts.places_from.Goals as goal
 

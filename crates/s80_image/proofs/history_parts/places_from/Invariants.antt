@@ -1,5 +1,5 @@
 use Rattle.std.proofs.Common.{◌≡◌, ◌-◌, []}
-use Rattle.s80_image.specs.Format.{members, text_where}
+use Rattle.s80_image.specs.Format.{members}
 use Rattle.s80_image.specs.Parts.{last_of, place_above}
 use Rattle.s80_image.proofs.history_parts.places_from.Given as goal
 

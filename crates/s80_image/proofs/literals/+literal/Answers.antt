@@ -1,7 +1,7 @@
-use Rattle.std.proofs.Common.{◌≡◌, ◌<◌, ℕ, List, length, refl, sym, ◌∙◌, arith, subst, rules}
+use Rattle.std.proofs.Common.{arith}
 use Rattle.std.proofs.lemmas.Result.{err_from_is_err_and}
 use Rattle.s80_base.specs.Literal.{literal_of, literals_of}
-use Rattle.s80_image.proofs.Elements.{byte_shorter, word_shorter, tag_fails, tagged, count_fails, array_fails, array_read, elements_begin, element_fails, element_read, elements_end}
+use Rattle.s80_image.proofs.Elements.{byte_shorter, word_shorter, tag_fails, tagged, count_fails, array_fails, array_read, element_fails, element_read, elements_end}
 use Rattle.s80_image.proofs.literals.+literal.Goals as goal
 
 pub literal-returns-in_err-tag-clause-given : goal.literal-returns-in_err-tag-clause-given
@@ -17,12 +17,12 @@ pub elements-returns-in_err-item-clause-given : goal.elements-returns-in_err-ite
 elements-returns-in_err-item-clause-given t c =
     let p = err_from_is_err_and c.from_residual.result c.from_residual.ensures.1 in
     rw (p.1, p.2) (λ most lt. element_fails c.in_err-item.field-0.0 c.args.count c.loop.counter c.loop.rest.now most (literals_of c.loop.items) _ c.loop-test.true
-      (c.in_err-item.ensures.given most (let s = c.loop.invariant.shorter in omega arith)) (c.loop.invariant.read most lt))
+    (c.in_err-item.ensures.given most (let s = c.loop.invariant.shorter in omega arith)) (c.loop.invariant.read most lt))
 
 pub elements-loop-preserved : goal.elements-loop-preserved
 elements-loop-preserved t c = record {
   read = λ most lt. element_read c.args.count c.loop.counter c.loop.rest.now most (literals_of c.loop.items) (literals_of c.push.new.self) (literal_of c.in_ok-item.item) c.in_ok-item.after.now _ c.loop-test.true
-    (c.in_ok-item.ensures.given most (let s = c.loop.invariant.shorter in omega arith)) c.in_ok-push.ensures.ok (c.loop.invariant.read most lt);
+      (c.in_ok-item.ensures.given most (let s = c.loop.invariant.shorter in omega arith)) c.in_ok-push.ensures.ok (c.loop.invariant.read most lt);
   shorter = (let s = c.loop.invariant.shorter in let r = c.in_ok-item.ensures.shorter in omega arith);
 }
 
@@ -38,7 +38,7 @@ pub literal_behind-returns-in_err-items-clause-given : goal.literal_behind-retur
 literal_behind-returns-in_err-items-clause-given t c =
     let p = err_from_is_err_and c.from_residual-in_err-items.result c.from_residual-in_err-items.ensures.1 in
     rw (p.1, p.2) (λ most le. array_fails c.in_err-items.field-0.0 c.args.tag c.args.bytes.now c.in_ok-count.count c.in_ok-count.rest.now c.if-tag-ne4.false c.in_ok-count.ensures most
-      (c.in_err-items.ensures.given most (let s = word_shorter c.args.bytes.now (c.in_ok-count.count, c.in_ok-count.rest.now) c.in_ok-count.ensures in omega arith)))
+    (c.in_err-items.ensures.given most (let s = word_shorter c.args.bytes.now (c.in_ok-count.count, c.in_ok-count.rest.now) c.in_ok-count.ensures in omega arith)))
 
 pub literal_behind-returns-clause-given : goal.literal_behind-returns-clause-given
 literal_behind-returns-clause-given t c = λ most le.

@@ -1,6 +1,6 @@
-use Rattle.std.proofs.Common.{◌≡◌, ◌++◌, ◌∷◌, [], ◌∙◌, ap, refl, rules}
+use Rattle.std.proofs.Common.{refl}
 use Rattle.std.proofs.lemmas.Result.{err_from_is_err_and}
-use Rattle.s80_image.proofs.Loops.{last_key, last_mapped, member_fails, member_read, members_end, map_push}
+use Rattle.s80_image.proofs.Loops.{member_fails, member_read, members_end}
 use Rattle.s80_code.specs.Entries.{entries_of, entry_of}
 use Rattle.s80_image.specs.Literals.{entry}
 use Rattle.s80_image.proofs.method_parts.entries.Goals as goal

@@ -1,5 +1,5 @@
 use Rattle.std.proofs.Common.{◌≡◌, ◌-◌, []}
-use Rattle.s80_image.specs.Format.{members, text_where}
+use Rattle.s80_image.specs.Format.{members}
 use Rattle.s80_code.specs.Entries.{entries_of}
 use Rattle.s80_image.specs.Literals.{entry}
 use Rattle.s80_image.proofs.method_parts.entries.Given as goal
