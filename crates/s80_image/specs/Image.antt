@@ -1,5 +1,5 @@
 -- What an image holds, and how it is spelled and read.
-use Rattle.std.specs.Prelude.{ℕ, ◌==◌, ◌-◌, List, [], ◌∷◌, ◌++◌, length, Result, Ok, Err, if◌then◌else◌}
+use Rattle.std.specs.Prelude.{◌≡◌, true, ℕ, ◌==◌, ◌-◌, List, [], ◌∷◌, ◌++◌, length, Result, Ok, Err, if◌then◌else◌}
 use Rattle.s80_history.specs.declared.noted.Noted.{Noted}
 use Rattle.s80_image.specs.declared.fault.Fault.{Fault}
 use Rattle.s80_image.specs.declared.fault.Fault.TheVariants.{Short, Field}
@@ -59,3 +59,11 @@ placed size (Err (Field left value)) = Err (Field (size - left) value)
 -- the image that bytes spell, or the first field that isn't lawful
 unfoldable pub decoded : List ℕ → Result ImageView Fault
 decoded bytes = placed (length bytes) (whole bytes)
+
+-- the bytes of an image
+abbrev pub image_bytes : ImageView → List ℕ
+image_bytes image = image_format.spell image
+
+-- each of its fields is lawful
+abbrev pub HasLawfulFields : ImageView → Type 0
+HasLawfulFields image = image_format.lawful image ≡ true

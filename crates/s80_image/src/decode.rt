@@ -1,10 +1,10 @@
 // Methods, classes and whole images, whose codes are verified as they are read.
-ghost use Rattle.std.specs.Prelude.{◌≡◌, ◌⊎◌, [], true, nat_le, option_copied, IfOk};
+ghost use Rattle.std.specs.Prelude.{◌≡◌, ◌⊎◌, [], nat_le, option_copied, IfOk};
 ghost use Rattle.s80_image.specs.Answers.{Answers, AreVerified, IsRead, class_met, class_met_behind, classes_met, contents_met, image_met, members_met, method_met, method_met_behind, methods_met, placed_fault};
 ghost use Rattle.s80_image.specs.Format.{Gives, members, number_where, word32};
 ghost use Rattle.s80_image.specs.Methods.{method, method_behind, method_of, methods, methods_of};
 ghost use Rattle.s80_image.specs.Classes.{class, class_behind, class_of, classes, classes_of};
-ghost use Rattle.s80_image.specs.Image.{ImageView, contents, decoded, exactly, image_format, signature, view_of, whole};
+ghost use Rattle.s80_image.specs.Image.{HasLawfulFields, ImageView, contents, decoded, exactly, image_bytes, image_format, signature, view_of, whole};
 
 use crate::class_parts::{heading, last_name};
 use crate::fault::{ImageFault, ReadError};
@@ -203,9 +203,9 @@ pub fn decode_fields(alloc: Global, bytes: &[u8]) -> Result<Image, ImageFault>
     // What is answered, in the order of the bytes: the image, the first unlawful field, or the first code that isn't verified.
     ensures exact { Answers view_of result (decoded bytes.now) (image_met bytes.now) }
     // What is read is lawful, and spelled so.
-    ensures found { IfOk result (λ image. (image_format.lawful (view_of image) ≡ true) × (bytes.now ≡ image_format.spell (view_of image))) }
+    ensures found { IfOk result (λ image. HasLawfulFields (view_of image) × (bytes.now ≡ image_bytes (view_of image))) }
     // What is spelled so is read.
-    ensures only { (image : ImageView) → image_format.lawful image ≡ true → AreVerified image → bytes.now ≡ image_format.spell image → IsRead image result }
+    ensures only { (image : ImageView) → HasLawfulFields image → AreVerified image → bytes.now ≡ image_bytes image → IsRead image result }
 {
     match whole(alloc, bytes) {
         Ok(image) => Ok(image),

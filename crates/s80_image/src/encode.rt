@@ -9,7 +9,7 @@ ghost use Rattle.s80_image.specs.Literals.{count_of, entry_bytes, kept_number, l
 ghost use Rattle.s80_image.specs.Methods.{code as code_format, code_of, frame as frame_format, method as method_format, method_heading as method_heading_format, method_of, methods as methods_format, methods_of};
 ghost use Rattle.s80_image.specs.Classes.{class as class_format, class_of, classes as classes_format, classes_of, heading as heading_format, kind_number as class_kind_number, names as names_format, variables as variables_format};
 ghost use Rattle.s80_image.specs.History.{all_versions, all_versions_of, change_set, noted as noted_format, noted_kind_number, versions as versions_format, versions_of};
-ghost use Rattle.s80_image.specs.Image.{contents, image_format, view_of};
+ghost use Rattle.s80_image.specs.Image.{contents, image_bytes, view_of};
 
 use crate::image::{
     ClassHeading, ClassVariables, Image, ImageClass, ImageMethod, MethodHeading, MethodVersions,
@@ -402,7 +402,7 @@ fn put_contents(out: &mut Vec<u8>, image: &Image) -> Result<(), OutOfMemory>
 /// The one spelling of an image, whose bytes `decode_fields` reads again.
 #[tactic(auto, unfolding(crate::specs::Image::image_format))]
 pub fn encode_image(alloc: Global, image: &Image) -> Result<Text, OutOfMemory>
-    ensures { IfOk result (λ text. text ≡ image_format.spell (view_of image.now)) }
+    ensures { IfOk result (λ text. text ≡ image_bytes (view_of image.now)) }
 {
     let mut out = Vec::new(alloc);
     out.extend_from_slice(b"S80I\x01")?;
