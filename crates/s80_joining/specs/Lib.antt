@@ -1,0 +1,4 @@
+pub mod Parts
+pub mod Theirs
+pub mod Outcome
+pub mod Answer

@@ -1,0 +1,12 @@
+//! Joining a second change set: the changes of an input, worked from the base of a list; what merging them with that list comes to, and what it is answered.
+#![tactic(auto)]
+
+mod laws;
+mod lines;
+mod outcome;
+mod theirs;
+
+pub use laws::{a_bad_item_stays_the_first, theirs_are_accepted};
+pub use lines::{conflict_lines, merged_line};
+pub use outcome::Outcome;
+pub use theirs::Theirs;
