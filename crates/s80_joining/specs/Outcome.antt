@@ -4,7 +4,7 @@ use Rattle.s80_change.specs.declared.change.Change.{Change}
 use Rattle.s80_form.specs.declared.refusal.Refusal.{Refusal}
 use Rattle.s80_apply.specs.List.{add, state_of}
 use Rattle.s80_merge.specs.declared.key.Key.{Key}
-use Rattle.s80_merge.specs.Merging.{AreKeys, IsConflict}
+use Rattle.s80_merge.specs.Merging.{AreKeys, IsConflict, MergeEitherWay}
 use Rattle.s80_model.specs.Asked.{Ask, adds}
 use Rattle.s80_model.specs.declared.item.SessionItem.{SessionItem}
 use Rattle.s80_joining.specs.declared.outcome.Outcome.{Outcome}
@@ -30,6 +30,15 @@ IsOutcome base ours items (Joins theirs) = HasConflicts base ours items theirs [
 -- what merging these items with a list comes to
 abbrev pub MergesTo : List Change → List SessionItem → Outcome → Type 0
 MergesTo changes items outcome = IsOutcome (base_of changes) (ours_of changes) items outcome
+
+-- without conflicts either set may come first
+abbrev pub MayMergeBy : List Change → List Change → List Change → List Key → Type 0
+MayMergeBy base ours theirs keys = keys ≡ [] → MergeEitherWay base ours theirs
+
+abbrev pub MayMerge : List Change → List Change → Outcome → Type 0
+MayMerge base ours (Refused refusal) = Unit {0}
+MayMerge base ours (Conflicts keys) = Unit {0}
+MayMerge base ours (Joins theirs) = MergeEitherWay base ours theirs
 
 -- ---- the list
 

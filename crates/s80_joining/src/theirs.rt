@@ -47,11 +47,11 @@ impl Theirs {
         self.work_item(alloc, item)
     }
 
-    /// The changes of the items so far.
-    pub fn changes(&self) -> &Changes
-        ensures { (worked : Worked) → IsAt self.now worked → result.now ≡ worked.changes }
+    /// The changes of the items.
+    pub(crate) fn into_changes(self) -> Changes
+        ensures { result ≡ self.changes }
     {
-        &self.changes
+        self.changes
     }
 
     fn work_item(&mut self, alloc: Global, item: SessionItem) -> Result<(), Refused>
