@@ -24,7 +24,7 @@ abbrev pub conflict_lines : List Key → List ℕ
 conflict_lines keys = flat_map conflict_line keys
 
 abbrev pub merged_line : ℕ → List ℕ
-merged_line count = codes "merged " ++ decimal count ++ codes " changes" ++ 10 ∷ []
+merged_line count = (codes "merged " ++ decimal count) ++ (codes " changes" ++ 10 ∷ [])
 
 abbrev pub refusal_line : Refusal → List ℕ
 refusal_line refusal = refusal_text refusal ++ 10 ∷ []

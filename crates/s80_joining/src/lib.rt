@@ -6,7 +6,9 @@ mod lines;
 mod outcome;
 mod theirs;
 
-pub use laws::{a_bad_item_stays_the_first, theirs_are_accepted};
+pub use laws::{
+    a_bad_item_stays_the_first, a_set_starts_from_its_base, joining_adds_one_by_one, merging_has_one_outcome, theirs_are_accepted,
+};
 pub use lines::{conflict_lines, merged_line};
 pub use outcome::Outcome;
 pub use theirs::Theirs;

@@ -28,7 +28,7 @@ impl Theirs {
     pub fn outcome(self, alloc: Global, base: &Changes, ours: &Changes) -> Result<Outcome, OutOfMemory>
         requires { IsBuilt (base.now ++ ours.now) }
         ensures outcome { (items : List SessionItem) → HasTaken self (state_of base.now) items → IfOk result (IsOutcome base.now ours.now items) }
-        ensures merges { (items : List SessionItem) → HasTaken self (state_of base.now) items → IfOk result (MayMerge base.now ours.now) }
+        ensures merges { IfOk result (MayMerge base.now ours.now) }
     {
         let theirs = self.into_changes();
         match plan(alloc, base, ours, &theirs) {
