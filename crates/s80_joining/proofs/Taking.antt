@@ -146,7 +146,7 @@ pub opened : (worked : Worked) (head : SectionHead) (theirs : Theirs) (found : O
     → is_some found ≡ true → IsAt theirs worked → Comes (after_ask worked (opens head)) (record theirs { section = sections.Open head }) (Ok tt)
 opened worked head theirs found is some at =
     let there : unknown_name head.class_name worked.state.classes ≡ None =
-        sym (ap (λ (c : Classes). unknown_name head.class_name c) at.made.classes) ∙ found_there theirs.system head.class_name found is some in
+    sym (ap (λ (c : Classes). unknown_name head.class_name c) at.made.classes) ∙ found_there theirs.system head.class_name found is some in
     (record worked { section = sections.Open head }, ap (in_section worked head) there, record { made = at.made; section = refl; changes = at.changes })
 
 -- ---- methods
@@ -156,7 +156,7 @@ pub by_method : (text : List ℕ) (source : SourceParts) (head : SectionHead) (m
     → ComesBy (AsksMethod text) worked now result
 by_method text source head method worked theirs now result asks open_in is at comes =
     let same : after_change worked (changes.Method method) ≡ after_source worked worked.section source =
-        ap (after_change worked) is ∙ sym (ap (λ s. after_source worked s source) (sym at.section ∙ open_in)) in
+    ap (after_change worked) is ∙ sym (ap (λ s. after_source worked s source) (sym at.section ∙ open_in)) in
     by_ask (AsksMethod text) worked (adds_source source) now result asks (subst (λ next. Comes next now result) same comes)
 
 -- outside an open section it is passed over

@@ -7,7 +7,8 @@ mod outcome;
 mod theirs;
 
 pub use laws::{
-    a_bad_item_stays_the_first, a_set_starts_from_its_base, joining_adds_one_by_one, merging_has_one_outcome, theirs_are_accepted,
+    a_bad_item_stays_the_first, a_set_starts_from_its_base, joining_adds_one_by_one,
+    merging_has_one_outcome, theirs_are_accepted,
 };
 pub use lines::{conflict_lines, merged_line};
 pub use outcome::Outcome;

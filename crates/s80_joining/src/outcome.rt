@@ -25,7 +25,12 @@ pub enum Outcome {
 
 impl Theirs {
     /// What merging comes to where no item was bad, with the other set that starts from the base.
-    pub fn outcome(self, alloc: Global, base: &Changes, ours: &Changes) -> Result<Outcome, OutOfMemory>
+    pub fn outcome(
+        self,
+        alloc: Global,
+        base: &Changes,
+        ours: &Changes,
+    ) -> Result<Outcome, OutOfMemory>
         requires { IsBuilt (base.now ++ ours.now) }
         ensures outcome { (items : List SessionItem) → HasTaken self (state_of base.now) items → IfOk result (IsOutcome base.now ours.now items) }
         ensures merges { IfOk result (MayMerge base.now ours.now) }
