@@ -1,12 +1,12 @@
 -- The changes that are worked are accepted, and so a plan refuses none of them.
-use Rattle.std.proofs.Common.{◌≡◌, ◌≢◌, ◌∙◌, ◌++◌, ◌+◌, ℕ, Bool, true, false, cond, refl, sym, ap, subst, List, [], ◌∷◌, Option, Some, None, Result, Ok, Err}
+use Rattle.std.proofs.Common.{◌≡◌, ◌∙◌, ℕ, Bool, true, false, cond, refl, sym, ap, subst, List, [], ◌∷◌, Option, Some, None, Result, Ok, Err}
 use Rattle.std.specs.Prelude.{⊤}
 use Rattle.s80_change.specs.declared.change.Change.{Change}
 use Rattle.s80_change.specs.Source.{SourceParts}
 use Rattle.s80_change.specs.declared.head.SectionHead.{SectionHead}
 use Rattle.s80_form.specs.declared.refusal.Refusal.{Refusal}
 use Rattle.s80_apply.specs.Accept.{accept, unknown_name}
-use Rattle.s80_apply.specs.List.{AreAccepted, IsAccepted, IsBuilt, state_after, state_from, state_of, state_or}
+use Rattle.s80_apply.specs.List.{AreAccepted, IsAccepted, state_from, state_of}
 use Rattle.s80_apply.specs.State.{State}
 use Rattle.s80_apply.proofs.lemmas.Lists.{accepted_more, from_more, is_accepted, is_after}
 use Rattle.s80_merge.specs.declared.key.Key.{Key}
@@ -14,14 +14,14 @@ use Rattle.s80_merge.specs.declared.planning.MergePlan.{MergePlan}
 use Rattle.s80_merge.specs.declared.planning.PlanFault.TheVariants.{Theirs as RefusesTheirs}
 use Rattle.s80_merge.specs.Merging.{IsFirstRefused, IsPlan}
 use Rattle.s80_merge.proofs.Planned.{accepted_at}
-use Rattle.s80_model.specs.Asked.{Ask, Asks, refuses, adds, evaluates, condenses, opens, refuses_head, adds_source, refuses_source, closes, tells, files, seeks}
+use Rattle.s80_model.specs.Asked.{Ask, refuses, adds, evaluates, condenses, opens, refuses_head, adds_source, refuses_source, closes, tells, files, seeks}
 use Rattle.s80_model.specs.Replies.{method_in}
 use Rattle.s80_model.specs.declared.item.SessionItem.{SessionItem}
 use Rattle.s80_model.specs.declared.section.Section.{Section}
 use Rattle.s80_model.specs.declared.section.Section.TheVariants as sections
 use Rattle.s80_joining.specs.declared.theirs.Theirs.{Theirs}
 use Rattle.s80_joining.specs.Outcome.{HasConflicts}
-use Rattle.s80_joining.specs.Theirs.{AreWorked, Become, HasTaken, Worked, after_ask, after_change, after_source, begun_from, in_section, is_passed_over, refused_in, with_change}
+use Rattle.s80_joining.specs.Theirs.{AreWorked, Become, HasTaken, Worked, after_ask, after_source, begun_from, in_section, is_passed_over, refused_in, with_change}
 
 -- the changes are accepted, and this is the state that they make
 abbrev pub IsAcceptedWork : State → Worked → Type 0

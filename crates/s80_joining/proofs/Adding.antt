@@ -1,10 +1,10 @@
 -- Changes that are added one by one.
-use Rattle.std.proofs.Common.{◌≡◌, ◌∙◌, ◌++◌, ◌||◌, Bool, true, false, refl, sym, ap, subst, List, [], ◌∷◌, length, append_assoc, append-nil, Option, Some, None, is_some, Result, Ok, Err}
+use Rattle.std.proofs.Common.{◌≡◌, ◌∙◌, ◌++◌, ◌||◌, refl, sym, subst, List, [], ◌∷◌, length, append_assoc, append-nil, Option, Some, None, is_some, Result, Ok, Err}
 use Rattle.s80_change.specs.declared.change.Change.{Change}
 use Rattle.s80_form.specs.declared.refusal.Refusal.{Refusal}
 use Rattle.s80_apply.specs.List.{add, added, refusal_to, state_of}
-use Rattle.s80_change.specs.Block.{block, blocks}
-use Rattle.s80_model.specs.Asked.{Ask, adds}
+use Rattle.s80_change.specs.Block.{blocks}
+use Rattle.s80_model.specs.Asked.{Ask}
 use Rattle.s80_model.specs.Replies.{Work, any_trouble, is_trouble as is_refused, list_after_all, list_or, reply_to_adding}
 use Rattle.s80_joining.specs.Outcome.{Joined, asks_behind, joined, joining_asks, with_joined}
 

@@ -1,11 +1,11 @@
 -- Items at work, one by one.
-use Rattle.std.proofs.Common.{◌≡◌, ◌∙◌, ◌++◌, ◌<◌, ◌≤◌, ℕ, Bool, true, false, cond, refl, sym, ap, subst, List, [], ◌∷◌, length, Option, Some, None, Result, Ok, Err, arith}
+use Rattle.std.proofs.Common.{◌≡◌, ◌∙◌, ◌++◌, ℕ, Bool, true, false, cond, refl, sym, ap, subst, List, [], ◌∷◌, Option, Some, None, Result, Ok, Err}
 use Rattle.s80_change.specs.declared.change.Change.{Change}
 use Rattle.s80_form.specs.declared.refusal.Refusal.{Refusal}
 use Rattle.s80_form.specs.declared.refusal.Refused.{Refused}
 use Rattle.s80_form.specs.declared.refusal.Refused.TheVariants as refused
 use Rattle.s80_apply.specs.Accept.{accept, unknown_name}
-use Rattle.s80_apply.specs.List.{state_after, state_of}
+use Rattle.s80_apply.specs.List.{state_after}
 use Rattle.s80_apply.specs.State.{State}
 use Rattle.s80_apply.specs.System.{IsSystemOf, SystemState}
 use Rattle.s80_merge.specs.Work.{IsWorked}
@@ -16,9 +16,7 @@ use Rattle.s80_form.specs.declared.refusal.Refusal.TheVariants as refusals
 use Rattle.std.specs.FinMap as map
 use Rattle.std.specs.Prelude.{MatchOption, is_some, if◌then◌else◌}
 use Rattle.s80_tree.specs.declared.method.MethodTree.{MethodTree}
-use Rattle.s80_tree.specs.Tree.{DoItParts}
 use Rattle.s80_syntax.specs.Faults.{IsDoItText}
-use Rattle.s80_syntax.specs.Text.{IsDoItOf}
 use Rattle.s80_change.specs.declared.change.Change.TheVariants as changes
 use Rattle.s80_change.specs.declared.change.Method.{Method}
 use Rattle.s80_change.specs.declared.head.SectionHead.{SectionHead}
@@ -33,10 +31,9 @@ use Rattle.s80_model.specs.Plain.{IsPlain}
 use Rattle.s80_model.specs.declared.plain.Plain.TheVariants as plain
 use Rattle.s80_model.specs.Replies.{method_in}
 use Rattle.s80_model.specs.declared.item.SessionItem.{SessionItem}
-use Rattle.s80_model.specs.declared.section.Section.{Section}
 use Rattle.s80_model.specs.declared.section.Section.TheVariants as sections
 use Rattle.s80_joining.specs.declared.theirs.Theirs.{Theirs}
-use Rattle.s80_joining.specs.Theirs.{AreWorked, Become, Comes, ComesBy, HasTaken, IsAt, Takes, Worked, after_ask, after_change, after_source, begun_from, in_section, is_passed_over, refused_in, with_change}
+use Rattle.s80_joining.specs.Theirs.{Become, Comes, ComesBy, HasTaken, IsAt, Takes, Worked, after_ask, after_change, after_source, begun_from, in_section, is_passed_over, refused_in, with_change}
 
 -- ---- items, one more
 

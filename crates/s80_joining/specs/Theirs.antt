@@ -1,5 +1,5 @@
 -- Theirs: the changes of the items of an input, worked from a base item by item up to the first that is bad.
-use Rattle.std.specs.Prelude.{◌≡◌, ◌||◌, ◌≤◌, ⊤, ℕ, Bool, List, [], ◌∷◌, ◌++◌, length, Option, Some, None, Result, Ok, Err, if◌then◌else◌}
+use Rattle.std.specs.Prelude.{◌≡◌, ◌||◌, ◌≤◌, ⊤, Bool, List, [], ◌∷◌, ◌++◌, length, Option, Some, None, Result, Ok, Err, if◌then◌else◌}
 use Rattle.s80_chunk.specs.Chunks.{longest}
 use Rattle.s80_chunk.specs.declared.item.Item.TheVariants as items
 use Rattle.s80_change.specs.declared.change.Change.{Change}

@@ -1,5 +1,5 @@
 // The lines that merging is answered.
-ghost use Rattle.std.specs.Prelude.{◌≡◌, ◌++◌, ◌∷◌, [], IfOk, OnOk, codes};
+ghost use Rattle.std.specs.Prelude.{◌≡◌, ◌++◌, IfOk, OnOk, codes};
 ghost use Rattle.s80_print.specs.Refusal.{spec_of};
 ghost use Rattle.s80_joining.specs.Answer.{conflict_line, conflict_lines, key_text, merged_line};
 

@@ -1,14 +1,13 @@
 // The changes of an input, worked from a base.
 ghost use Rattle.std.specs.Prelude.{◌≡◌, ◌≤◌, ◌<◌, ◌++◌, ◌∷◌, [], List, length, IfOk, OnOk, OnErr};
 ghost use Rattle.s80_chunk.specs.Chunks.{longest};
-ghost use Rattle.s80_chunk.specs.declared.item.Item.TheVariants as items;
 ghost use Rattle.s80_apply.specs.List.{state_after, state_from, state_of};
 ghost use Rattle.s80_apply.specs.State.{State};
 ghost use Rattle.s80_apply.specs.System.{IsSystemOf};
 ghost use Rattle.s80_merge.specs.Work.{IsWorked};
 ghost use Rattle.s80_model.specs.Asked.{Asks, AsksHead, AsksMethod, AsksPlain, ask_of_too_long, opens};
 ghost use Rattle.s80_model.specs.declared.item.SessionItem.{SessionItem as ItemOf};
-ghost use Rattle.s80_joining.specs.Theirs.{Comes, ComesBy, HasTaken, IsAt, IsGiven, Takes, Worked, after_ask, after_change, begun_from, is_passed_over};
+ghost use Rattle.s80_joining.specs.Theirs.{Comes, ComesBy, HasTaken, IsAt, IsGiven, Takes, Worked, after_ask, after_change, is_passed_over};
 
 use s80_apply::{System, boot};
 use s80_base::{OutOfMemory, Text};

@@ -1,4 +1,4 @@
-use Rattle.std.proofs.Common.{◌∙◌, sym, ap, not}
+use Rattle.std.proofs.Common.{◌∙◌, ap, not}
 use Rattle.s80_joining.proofs.Taking.{opened}
 use Rattle.s80_joining.proofs.theirs.Theirs.open.Goals as goal
 

@@ -1,8 +1,6 @@
 use Rattle.std.proofs.Common.{◌∙◌, ap, refl, subst, sym}
-use Rattle.s80_chunk.specs.declared.item.Item.TheVariants as items
 use Rattle.s80_form.specs.declared.refusal.Refusal.TheVariants.{Unended as NotEnded}
 use Rattle.s80_model.specs.Asked.{Asks, ask_of_too_long, closes, refuses}
-use Rattle.s80_model.specs.declared.item.SessionItem.{SessionItem}
 use Rattle.s80_model.specs.declared.item.SessionItem.TheVariants.{Chunk}
 use Rattle.s80_model.specs.declared.section.Section.TheVariants.{Top}
 use Rattle.s80_joining.specs.Theirs.{ComesBy, IsGiven}

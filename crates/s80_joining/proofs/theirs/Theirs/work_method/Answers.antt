@@ -1,5 +1,4 @@
 use Rattle.std.proofs.Common.{◌∙◌, ap, sym}
-use Rattle.s80_model.specs.Asked.{AsksMethod, adds_source}
 use Rattle.s80_joining.specs.Theirs.{after_source}
 use Rattle.s80_joining.proofs.Taking.{by_method, method_outside}
 use Rattle.s80_joining.proofs.theirs.Theirs.work_method.Goals as goal

@@ -1,7 +1,7 @@
 use Rattle.std.proofs.Common.{Ok, refl, subst}
 use Rattle.std.proofs.lemmas.Result.{err_from_is_err_and}
 use Rattle.s80_change.specs.declared.change.Change.TheVariants as changes
-use Rattle.s80_model.specs.Asked.{AsksPlain, adds, condenses, evaluates, snapshot_note}
+use Rattle.s80_model.specs.Asked.{AsksPlain, adds, condenses, snapshot_note}
 use Rattle.s80_model.specs.Plain.{IsPlain}
 use Rattle.s80_model.specs.declared.plain.Plain.{Plain}
 use Rattle.s80_joining.proofs.Taking.{by_ask, plain_evaluated, plain_refused}
