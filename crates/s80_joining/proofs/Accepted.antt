@@ -13,7 +13,7 @@ use Rattle.s80_merge.specs.declared.key.Key.{Key}
 use Rattle.s80_merge.specs.declared.planning.MergePlan.{MergePlan}
 use Rattle.s80_merge.specs.declared.planning.PlanFault.TheVariants.{Theirs as RefusesTheirs}
 use Rattle.s80_merge.specs.Merging.{IsFirstRefused, IsPlan}
-use Rattle.s80_merge.proofs.Planned.{accepted_at}
+use Rattle.s80_merge.proofs.lemmas.Planned.{accepted_at}
 use Rattle.s80_model.specs.Asked.{Ask, refuses, adds, evaluates, condenses, opens, refuses_head, adds_source, refuses_source, closes, tells, files, seeks}
 use Rattle.s80_model.specs.Replies.{method_in}
 use Rattle.s80_model.specs.declared.item.SessionItem.{SessionItem}

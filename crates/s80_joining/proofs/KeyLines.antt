@@ -4,7 +4,7 @@ use Rattle.std.specs.Prelude.{slice_get}
 use Rattle.std.proofs.lemmas.Grind.{flat_map-append}
 use Rattle.std.proofs.lemmas.List.{append-nil}
 use Rattle.s80_merge.specs.declared.key.Key.{Key}
-use Rattle.s80_merge.proofs.Working.{take_next}
+use Rattle.s80_merge.proofs.lemmas.Working.{take_next}
 use Rattle.s80_joining.specs.Answer.{conflict_line, conflict_lines}
 
 pub one_line_more : (keys : List Key) (i : ℕ) (key : Key) (text now : List ℕ) → slice_get keys i ≡ Some key → text ≡ conflict_lines (take i keys) → now ≡ text ++ conflict_line key

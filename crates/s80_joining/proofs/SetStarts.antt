@@ -11,7 +11,7 @@ use Rattle.s80_apply.specs.Accept.{accept}
 use Rattle.s80_apply.specs.List.{state_after, state_from, state_of, state_or, AreAccepted, IsAccepted, IsBuilt}
 use Rattle.s80_apply.specs.State.{State, kernel_state}
 use Rattle.s80_fileout.proofs.Leading.{Leads, leads_first}
-use Rattle.s80_merge.proofs.Merged.{accepted_both, accepted_first, accepted_last, from_both}
+use Rattle.s80_merge.proofs.lemmas.Merged.{accepted_both, accepted_first, accepted_last, from_both}
 use Rattle.s80_joining.specs.Parts.{base_of, is_doit, ours_of, up_to_last}
 use Rattle.s80_joining.proofs.SetKept.{AreBefore, before_itself, before_none}
 use Rattle.s80_joining.proofs.SetSteps.{Goes, step}

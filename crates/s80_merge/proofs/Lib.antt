@@ -1,3 +1,4 @@
+pub mod lemmas
 pub mod Members
 pub mod Acts
 pub mod Parts
@@ -5,11 +6,8 @@ pub mod Clear
 pub mod Takes
 pub mod Accepting
 pub mod Sets
-pub mod Merged
 pub mod KeySets
 pub mod KeyOrder
 pub mod LineKeys
-pub mod Working
 pub mod Conflicts
-pub mod Planned
 pub mod OnePlan

@@ -17,7 +17,7 @@ use Rattle.s80_merge.specs.declared.planning.PlanFault.TheVariants.{Memory, Thei
 use Rattle.s80_merge.specs.Merging.{IsFirstRefused, IsPlan}
 use Rattle.s80_merge.specs.Order.{key_cmp, key_total}
 use Rattle.s80_merge.proofs.Members.{here, in_none, later, one_of}
-use Rattle.s80_merge.proofs.Planned.{accepted_at}
+use Rattle.s80_merge.proofs.lemmas.Planned.{accepted_at}
 
 -- ---- keys in order
 

@@ -1,7 +1,7 @@
 use Rattle.std.proofs.Common.{subst}
 use Rattle.s80_apply.specs.List.{AreAccepted, state_of}
 use Rattle.s80_apply.specs.State.{kernel_state}
-use Rattle.s80_merge.proofs.Merged.{accepted_both}
+use Rattle.s80_merge.proofs.lemmas.Merged.{accepted_both}
 use Rattle.list_rows.proofs.merging.conflicts_of.Goals as goal
 
 pub plan-requires : goal.plan-requires

@@ -1,5 +1,5 @@
 use Rattle.s80_apply.specs.State.{kernel_state}
-use Rattle.s80_merge.proofs.Merged.{accepted_first, accepted_last, merge_either_way}
+use Rattle.s80_merge.proofs.lemmas.Merged.{accepted_first, accepted_last, merge_either_way}
 use Rattle.s80_merge.proofs.laws.sets_without_conflicts_merge.Goals as goal
 
 pub returns : goal.returns

@@ -1,7 +1,7 @@
 use Rattle.std.proofs.lemmas.Result.{err_from_is_err_and}
 use Rattle.s80_apply.specs.List.{state_of}
 use Rattle.s80_merge.proofs.Conflicts.{are_conflicts}
-use Rattle.s80_merge.proofs.Planned.{none_merge, not_refused, ours_accepted}
+use Rattle.s80_merge.proofs.lemmas.Planned.{none_merge, not_refused, ours_accepted}
 use Rattle.s80_merge.proofs.planning.plan.Goals as goal
 
 pub returns-in_err-of_ours-clause-plan : goal.returns-in_err-of_ours-clause-plan

@@ -3,7 +3,7 @@ use Rattle.std.proofs.lemmas.List.{take_all}
 use Rattle.std.proofs.lemmas.Result.{err_from_is_err_and}
 use Rattle.s80_class.specs.Table.{Table}
 use Rattle.s80_apply.specs.List.{state_from}
-use Rattle.s80_merge.proofs.Working.{all_noted, broken_off, none_yet, one_more}
+use Rattle.s80_merge.proofs.lemmas.Working.{all_noted, broken_off, none_yet, one_more}
 use Rattle.s80_merge.proofs.set.note_all.Goals as goal
 
 pub loop-i-init : goal.loop-i-init

@@ -2,7 +2,7 @@
 use Rattle.std.proofs.Common.{take}
 use Rattle.s80_apply.specs.State.{State}
 use Rattle.s80_apply.specs.System.{IsSystemOf}
-use Rattle.s80_merge.proofs.Working.{IsSoFar}
+use Rattle.s80_merge.proofs.lemmas.Working.{IsSoFar}
 use Rattle.s80_merge.proofs.set.note_all.Given as goal
 
 abbrev pub invariant-loop-i : goal.invariant-loop-i

@@ -1,5 +1,5 @@
 use Rattle.std.proofs.lemmas.Result.{err_from_is_err_and}
-use Rattle.s80_merge.proofs.Working.{refused_so, worked_so}
+use Rattle.s80_merge.proofs.lemmas.Working.{refused_so, worked_so}
 use Rattle.s80_merge.proofs.set.work.Goals as goal
 
 pub returns-in_err-step : goal.returns-in_err-step

@@ -12,7 +12,7 @@ use Rattle.s80_merge.specs.declared.planning.PlanFault.TheVariants.{Memory, Thei
 use Rattle.s80_merge.specs.Merging.{AreKeys, IsConflict, IsPlan, MergeEitherWay}
 use Rattle.s80_merge.specs.Work.{IsNoted}
 use Rattle.s80_merge.proofs.Members.{in_none}
-use Rattle.s80_merge.proofs.Merged.{accepted_first, accepted_last, merge_either_way}
+use Rattle.s80_merge.proofs.lemmas.Merged.{accepted_first, accepted_last, merge_either_way}
 
 pub accepted_at : (state : State) (cs : List Change) (i : ℕ) (c : Change) → AreAccepted state cs → slice_get cs i ≡ Some c → IsAccepted (accept c (state_from state (take i cs)))
 accepted_at state [] i c all at = absurd (cc)
