@@ -51,4 +51,11 @@ impl Changes {
     {
         &self.changes[i]
     }
+
+    /// The changes, the oldest first. Takes no memory.
+    pub fn into_vec(self) -> Vec<Change>
+        ensures { result.items ≡ self }
+    {
+        self.changes
+    }
 }
