@@ -1,6 +1,6 @@
 //! Reads rows from standard input and prints behind each the text of a file of changes, the shortest list that makes the state of a list of
 //! changes, what a file of one class has, which methods send a message, implement it or refer to a name behind changes, or where two sets of
-//! changes are in conflict. What it is given and what it prints are tables of the repository's tests.
+//! changes are in conflict, and what they make together. What it is given and what it prints are tables of the repository's tests.
 #![tactic(auto)]
 
 mod links;
@@ -28,6 +28,7 @@ fn answer(alloc: Global, word: &str, rest: &str) -> Result<Text> {
         "unimplemented" => links::of_all(alloc, Asked::Unimplemented, rest),
         "unsent" => links::of_all(alloc, Asked::Unsent, rest),
         "conflicts" => merging::conflicts(alloc, rest),
+        "merged" => merging::merged(alloc, rest),
         _ => bail!("no row: {word}"),
     }
 }

@@ -3,8 +3,8 @@ ghost use Rattle.std.specs.Prelude.{◌≡◌, ◌++◌, [], Ok, IfOk};
 ghost use Rattle.s80_apply.specs.List.{IsBuilt, state_of};
 ghost use Rattle.s80_merge.specs.Merging.{IsPlan};
 
-use crate::lists::changes_of;
-use anyhow::{Context, Result, bail};
+use crate::lists::{changes_of, shortest};
+use anyhow::{Context, Result, bail, ensure};
 use s80_base::{Side, Text};
 use s80_change::Changes;
 use s80_merge::{Key, MergePlan, PlanFault, plan};
@@ -13,8 +13,43 @@ use std::alloc::Global;
 
 /// The keys in conflict: the blocks of the base, of our changes and of theirs, with `||` between them.
 pub(crate) fn conflicts(alloc: Global, rest: &str) -> Result<Text> {
+    let (base, ours, theirs) = parts(rest)?;
+    conflicts_of_blocks(alloc, base, ours, theirs)
+}
+
+/// The same of two sets that the base accepts, whichever is ours; and where no key is in conflict, the shortest list of the state that both
+/// orders make.
+pub(crate) fn merged(alloc: Global, rest: &str) -> Result<Text> {
+    let (base, ours, theirs) = parts(rest)?;
+    let keys = conflicts_of_blocks(alloc, base, ours, theirs)?;
+    let turned = conflicts_of_blocks(alloc, base, theirs, ours)?;
+    ensure!(
+        keys.bytes() == turned.bytes(),
+        "the other way round there are other conflicts"
+    );
+    if keys.bytes().is_empty() {
+        return one_state(alloc, base, ours, theirs);
+    }
+    Ok(keys)
+}
+
+fn one_state(alloc: Global, base: &str, ours: &str, theirs: &str) -> Result<Text> {
+    let list = shortest(alloc, &format!(in alloc; "{base}{ours}{theirs}")?)?;
+    let turned = shortest(alloc, &format!(in alloc; "{base}{theirs}{ours}")?)?;
+    ensure!(
+        list.bytes() == turned.bytes(),
+        "the other way round it is another state"
+    );
+    Ok(list)
+}
+
+fn parts(rest: &str) -> Result<(&str, &str, &str)> {
     let (base, rest) = rest.split_once("||").context("no base")?;
     let (ours, theirs) = rest.split_once("||").context("no changes of ours")?;
+    Ok((base, ours, theirs))
+}
+
+fn conflicts_of_blocks(alloc: Global, base: &str, ours: &str, theirs: &str) -> Result<Text> {
     let base = changes_of(alloc, base)?;
     let ours = changes_of(alloc, ours)?;
     let theirs = changes_of(alloc, theirs)?;

@@ -8,8 +8,10 @@ mod keys;
 mod laws;
 mod planning;
 mod set;
+mod working;
 
 pub use key::Key;
 pub use keys::Keys;
 pub use laws::{one_plan, sets_without_conflicts_merge};
 pub use planning::{MergePlan, PlanFault, plan};
+pub use working::{work, work_all};

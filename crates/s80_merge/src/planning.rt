@@ -41,16 +41,15 @@ impl From<OutOfMemory> for PlanFault {
 }
 
 /// Plans to merge two change sets that start from one base. Each is worked from the base. Where no key is a conflict, either set may be worked
-/// behind the other.
+/// behind the other. Where something of the base or of ours is refused, nothing is said.
 pub fn plan(
     alloc: Global,
     base: &Changes,
     ours: &Changes,
     theirs: &Changes,
 ) -> Result<MergePlan, PlanFault>
-    requires { IsBuilt (base.now ++ ours.now) }
-    ensures plan { IsPlan (state_of base.now) ours.now theirs.now result }
-    ensures merges { IfOk result (λ plan. plan.conflicts ≡ [] → MergeEitherWay base.now ours.now theirs.now) }
+    ensures plan { IsBuilt (base.now ++ ours.now) → IsPlan (state_of base.now) ours.now theirs.now result }
+    ensures merges { IsBuilt (base.now ++ ours.now) → IfOk result (λ plan. plan.conflicts ≡ [] → MergeEitherWay base.now ours.now theirs.now) }
 {
     let of_ours = touched_by(alloc, base, ours)?;
     let of_theirs = touched_by(alloc, base, theirs)?;

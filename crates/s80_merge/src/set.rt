@@ -1,14 +1,15 @@
 // Change sets at work: the keys that one writes and uses.
 ghost use Rattle.std.specs.Prelude.{◌≡◌, [], OnOk};
-ghost use Rattle.s80_apply.specs.List.{state_after, state_from, state_of};
+ghost use Rattle.s80_apply.specs.List.{state_from, state_of};
 ghost use Rattle.s80_apply.specs.State.{State};
 ghost use Rattle.s80_apply.specs.System.{IsSystemOf};
-ghost use Rattle.s80_merge.specs.Work.{Gains, IsNoted, IsWorked, IsWorkedAt, is_touched};
+ghost use Rattle.s80_merge.specs.Work.{Gains, IsNoted, IsWorkedAt, is_touched};
 
 use crate::change_keys::{uses, writes};
 use crate::key::Key;
 use crate::key_set::KeySet;
 use crate::planning::PlanFault;
+use crate::working::{work, work_all};
 use s80_apply::{System, boot};
 use s80_base::OutOfMemory;
 use s80_change::{Change, Changes, Refused};
@@ -79,27 +80,6 @@ fn touched_in(
     note_all(alloc, system, changes)
 }
 
-/// Works changes, one after the other. What is refused is left out.
-fn work_all(alloc: Global, system: &mut System, changes: &Changes) -> Result<(), OutOfMemory>
-    ensures { (state : State) → IsSystemOf system.old state → OnOk result (IsSystemOf system.new (state_from state changes.now)) }
-{
-    for i in 0..changes.count() {
-        work_or_leave(alloc, system, changes.at(i))?;
-    }
-    Ok(())
-}
-
-/// Works a change, unless it is refused.
-fn work_or_leave(alloc: Global, system: &mut System, change: &Change) -> Result<(), OutOfMemory>
-    ensures { (state : State) → IsSystemOf system.old state → OnOk result (IsSystemOf system.new (state_after change.now state)) }
-{
-    match work(alloc, system, change) {
-        Ok(()) => Ok(()),
-        Err(Refused::Refusal(_)) => Ok(()),
-        Err(Refused::Memory) => Err(OutOfMemory),
-    }
-}
-
 /// Works changes, one after the other, and notes their keys.
 fn note_all(alloc: Global, system: &mut System, changes: &Changes) -> Result<Touched, PlanFault>
     ensures { (state : State) → IsSystemOf system.old state → IsNoted state changes.now result }
@@ -122,13 +102,4 @@ fn work_at(alloc: Global, system: &mut System, change: &Change, index: u64) -> R
         Err(Refused::Memory) => Err(PlanFault::Memory),
         Err(Refused::Refusal(refusal)) => Err(PlanFault::Theirs(index, refusal)),
     }
-}
-
-/// Works a change, or says why it is refused. Where its source stands is of no matter here.
-fn work(alloc: Global, system: &mut System, change: &Change) -> Result<(), Refused>
-    ensures { (state : State) → IsSystemOf system.old state → IsWorked state change.now system.new result }
-{
-    let step = system.prepare(alloc, change)?;
-    system.install(step, 0);
-    Ok(())
 }

@@ -3,7 +3,7 @@ use Rattle.std.proofs.lemmas.List.{take_all}
 use Rattle.s80_apply.specs.List.{state_from}
 use Rattle.s80_apply.specs.System.{IsSystemOf}
 use Rattle.s80_merge.proofs.lemmas.Working.{from_next}
-use Rattle.s80_merge.proofs.set.work_all.Goals as goal
+use Rattle.s80_merge.proofs.working.work_all.Goals as goal
 
 pub loop-i-preserved : goal.loop-i-preserved
 loop-i-preserved c = λ state is.

@@ -1,7 +1,7 @@
 use Rattle.std.proofs.Common.{Err, subst}
 use Rattle.s80_merge.specs.Work.{IsWorked}
 use Rattle.s80_merge.proofs.lemmas.Working.{left_so}
-use Rattle.s80_merge.proofs.set.work_or_leave.Goals as goal
+use Rattle.s80_merge.proofs.working.work_or_leave.Goals as goal
 
 pub returns-in-Err-Refusal : goal.returns-in-Err-Refusal
 returns-in-Err-Refusal c = λ state is.

@@ -1,6 +1,6 @@
 use Rattle.std.proofs.lemmas.Result.{err_from_is_err_and}
 use Rattle.s80_merge.proofs.lemmas.Working.{refused_so, worked_so}
-use Rattle.s80_merge.proofs.set.work.Goals as goal
+use Rattle.s80_merge.proofs.working.work.Goals as goal
 
 pub returns-in_err-step : goal.returns-in_err-step
 returns-in_err-step c = λ state is.
