@@ -1,3 +1,4 @@
+pub mod lemmas
 mod FormsFit
 mod FiledIn
 mod DoItAsked
@@ -6,6 +7,4 @@ mod FileFiledIn
 mod ClassesFiledIn
 mod LogRead
 mod LogFiledIn
-mod SetKept
-mod SetSteps
 mod SetFolds

@@ -21,7 +21,7 @@ use Rattle.s80_apply.specs.Accept.{accept, accepted, define, len_with, no_method
 use Rattle.s80_apply.proofs.Passing.{few_enough, method_there}
 use Rattle.s80_fileout.proofs.Accepting.{Cases, by_case, with_method}
 use Rattle.s80_fileout.proofs.Cells.{Cell, in_cell, classify_accepted, method_accepted, removal_accepted}
-use Rattle.s80_filing.proofs.SetKept.{AreBefore, AreCells, AreRows, cell_emptied, cells_left, cells_put, cells_taken, commented_before, defining_alike, few_short, giving_alike, is_commented_again, known_alike, name_of, removing_alike, rows_both, rows_commented, rows_defined, rows_full, rows_given, rows_left, rows_put, rows_taken, same_itself, told_other}
+use Rattle.s80_filing.proofs.lemmas.SetKept.{AreBefore, AreCells, AreRows, cell_emptied, cells_left, cells_put, cells_taken, commented_before, defining_alike, few_short, giving_alike, is_commented_again, known_alike, name_of, removing_alike, rows_both, rows_commented, rows_defined, rows_full, rows_given, rows_left, rows_put, rows_taken, same_itself, told_other}
 
 -- behind a change the full state is this one; the short one stays where the change is left out, and else accepts it
 abbrev pub Goes : Bool → Change → List Change → State → State → Type 0

@@ -1,0 +1,3 @@
+pub mod SetKept
+pub mod SetSteps
+pub mod SetShort
