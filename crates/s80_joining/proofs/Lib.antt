@@ -3,6 +3,8 @@ pub mod KeyLines
 pub mod Accepted
 pub mod OneOutcome
 pub mod Adding
-mod SetKept
-mod SetSteps
+pub mod BaseRead
 pub mod SetStarts
+pub mod Selectors
+pub mod LawfulForms
+pub mod LawfulTheirs

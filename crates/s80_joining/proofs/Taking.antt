@@ -32,7 +32,10 @@ use Rattle.s80_model.specs.declared.plain.Plain.TheVariants as plain
 use Rattle.s80_model.specs.Replies.{method_in}
 use Rattle.s80_model.specs.declared.item.SessionItem.{SessionItem}
 use Rattle.s80_model.specs.declared.section.Section.TheVariants as sections
+use Rattle.s80_joining.specs.declared.given.Given.{Given}
+use Rattle.s80_joining.specs.declared.given.Given.TheVariants.{Bad}
 use Rattle.s80_joining.specs.declared.theirs.Theirs.{Theirs}
+use Rattle.s80_joining.specs.Given.{HasCome}
 use Rattle.s80_joining.specs.Theirs.{Become, Comes, ComesBy, HasTaken, IsAt, Takes, Worked, after_ask, after_change, after_source, begun_from, in_section, is_passed_over, refused_in, with_change}
 
 -- ---- items, one more
@@ -66,6 +69,10 @@ pub stays_bad : (before : Result Worked Refusal) (items more : List SessionItem)
 stays_bad (Err other) items more refusal is = is
 stays_bad (Ok worked) [] more refusal is = absurd (let impossible : Err refusal ≡ Ok worked = is in cc)
 stays_bad (Ok worked) (item ∷ items) more refusal (ask, asks, rest) = (ask, asks, stays_bad (after_ask worked ask) items more refusal rest)
+
+pub bad_stays : (given : Given) (refusal : Refusal) (state : State) (items : List SessionItem) (item : SessionItem) → given ≡ Bad refusal → HasCome given state items → HasCome given state (items ++ item ∷ [])
+bad_stays given refusal state items item is come =
+    subst (λ (g : Given). HasCome g state (items ++ item ∷ [])) (sym is) (stays_bad (Ok (begun_from state)) items (item ∷ []) refusal (subst (λ (g : Given). HasCome g state items) is come))
 
 -- ---- what is asked
 

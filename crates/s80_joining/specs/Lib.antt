@@ -2,3 +2,5 @@ pub mod Parts
 pub mod Theirs
 pub mod Outcome
 pub mod Answer
+pub mod Given
+pub mod Base

@@ -64,6 +64,12 @@ abbrev pub joining_asks : List Change → List Change → List Ask
 joining_asks list [] = []
 joining_asks list (change ∷ changes) = adds change ∷ asks_behind (add list change) (joining_asks (list ++ change ∷ []) changes)
 
+-- what it asks
+abbrev pub asks_of : List Change → Outcome → List Ask
+asks_of list (Refused refusal) = []
+asks_of list (Conflicts keys) = []
+asks_of list (Joins theirs) = joining_asks list theirs
+
 abbrev pub list_after_merging : List Change → Outcome → List Change
 list_after_merging list (Refused refusal) = list
 list_after_merging list (Conflicts keys) = list

@@ -1,7 +1,6 @@
 -- Theirs: the changes of the items of an input, worked from a base item by item up to the first that is bad.
-use Rattle.std.specs.Prelude.{◌≡◌, ◌||◌, ◌≤◌, ⊤, Bool, List, [], ◌∷◌, ◌++◌, length, Option, Some, None, Result, Ok, Err, if◌then◌else◌}
-use Rattle.s80_chunk.specs.Chunks.{longest}
-use Rattle.s80_chunk.specs.declared.item.Item.TheVariants as items
+use Rattle.std.specs.Prelude.{◌≡◌, ◌||◌, ⊤, Bool, List, [], ◌∷◌, ◌++◌, Option, Some, None, Result, Ok, Err, if◌then◌else◌}
+use Rattle.s80_chunk.specs.Chunks.{IsSound}
 use Rattle.s80_change.specs.declared.change.Change.{Change}
 use Rattle.s80_change.specs.declared.head.SectionHead.{SectionHead}
 use Rattle.s80_change.specs.Source.{SourceParts}
@@ -88,12 +87,9 @@ Become (Ok worked) (item ∷ items) now = (ask : Ask) × Asks item ask × Become
 abbrev pub AreWorked : State → List SessionItem → Result Worked Refusal → Type 0
 AreWorked state items now = Become (Ok (begun_from state)) items now
 
--- an item of an input: no query, and no text that is too long
+-- an item of an input: no query, and it carries the text of a chunk, or the length of one that is too long
 abbrev pub IsGiven : SessionItem → Type 0
-IsGiven (Chunk (items.Plain text)) = length text ≤ longest
-IsGiven (Chunk (items.Head text)) = length text ≤ longest
-IsGiven (Chunk (items.Method text)) = length text ≤ longest
-IsGiven (Chunk item) = Unit {0}
+IsGiven (Chunk item) = IsSound item
 IsGiven Unended = Unit {0}
 IsGiven (Query query) = ⊥
 

@@ -4,6 +4,7 @@ ghost use Rattle.s80_print.specs.Refusal.{spec_of};
 ghost use Rattle.s80_joining.specs.Answer.{conflict_line, conflict_lines, key_text, merged_line};
 
 use s80_base::{OutOfMemory, Side, Text};
+use s80_form::side_text;
 use s80_merge::{Key, Keys};
 use std::alloc::Global;
 
@@ -68,8 +69,5 @@ fn put_spec(text: &mut Text, name: &Text, side: Side) -> Result<(), OutOfMemory>
     ensures { OnOk result (text.new ≡ text.old ++ spec_of name.now side) }
 {
     text.append(name.bytes())?;
-    match side {
-        Side::Instance => Ok(()),
-        Side::Class => text.append(b" class"),
-    }
+    text.append(side_text(side))
 }

@@ -1,19 +1,19 @@
 // The changes of an input, worked from a base.
 ghost use Rattle.std.specs.Prelude.{◌≡◌, ◌≤◌, ◌<◌, ◌++◌, ◌∷◌, [], List, length, IfOk, OnOk, OnErr};
 ghost use Rattle.s80_chunk.specs.Chunks.{longest};
-ghost use Rattle.s80_apply.specs.List.{state_after, state_from, state_of};
+ghost use Rattle.s80_apply.specs.List.{state_of};
 ghost use Rattle.s80_apply.specs.State.{State};
-ghost use Rattle.s80_apply.specs.System.{IsSystemOf};
-ghost use Rattle.s80_merge.specs.Work.{IsWorked};
 ghost use Rattle.s80_model.specs.Asked.{Asks, AsksHead, AsksMethod, AsksPlain, ask_of_too_long, opens};
 ghost use Rattle.s80_model.specs.declared.item.SessionItem.{SessionItem as ItemOf};
 ghost use Rattle.s80_joining.specs.Theirs.{Comes, ComesBy, HasTaken, IsAt, IsGiven, Takes, Worked, after_ask, after_change, is_passed_over};
 
+use crate::kinds::{is_doit, is_no_changes};
 use s80_apply::{System, boot};
 use s80_base::{OutOfMemory, Text};
 use s80_change::{Change, Changes, HeadFault, SectionHead, Source, head_of, syntax_refusal};
 use s80_chunk::{Item, LONGEST, Role};
 use s80_form::{FitWord, Form, Refusal, Refused};
+use s80_merge::{work, work_all};
 use s80_model::{Plain, Section, SessionItem, method_of, plain_of};
 use std::alloc::Global;
 
@@ -174,39 +174,5 @@ fn too_large(length: u64) -> Refused
 fn is_passed_over(change: &Change) -> bool
     ensures { result ≡ is_passed_over change.now }
 {
-    match change {
-        Change::Form(form) => matches!(form, Form::NoChanges),
-        Change::Method(_) => false,
-        Change::DoIt { .. } => true,
-    }
-}
-
-/// Works changes, one after the other. What is refused is left out.
-fn work_all(alloc: Global, system: &mut System, changes: &Changes) -> Result<(), OutOfMemory>
-    ensures { (state : State) → IsSystemOf system.old state → OnOk result (IsSystemOf system.new (state_from state changes.now)) }
-{
-    for i in 0..changes.count() {
-        work_or_leave(alloc, system, changes.at(i))?;
-    }
-    Ok(())
-}
-
-/// Works a change, unless it is refused.
-fn work_or_leave(alloc: Global, system: &mut System, change: &Change) -> Result<(), OutOfMemory>
-    ensures { (state : State) → IsSystemOf system.old state → OnOk result (IsSystemOf system.new (state_after change.now state)) }
-{
-    match work(alloc, system, change) {
-        Ok(()) => Ok(()),
-        Err(Refused::Refusal(_)) => Ok(()),
-        Err(Refused::Memory) => Err(OutOfMemory),
-    }
-}
-
-/// Works a change, or says why it is refused. Where its source stands is of no matter here.
-fn work(alloc: Global, system: &mut System, change: &Change) -> Result<(), Refused>
-    ensures { (state : State) → IsSystemOf system.old state → IsWorked state change.now system.new result }
-{
-    let step = system.prepare(alloc, change)?;
-    system.install(step, 0);
-    Ok(())
+    is_doit(change) || is_no_changes(change)
 }

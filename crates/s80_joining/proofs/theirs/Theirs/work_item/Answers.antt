@@ -10,17 +10,17 @@ use Rattle.s80_joining.proofs.theirs.Theirs.work_item.Goals as goal
 pub returns-in-Chunk-Plain : goal.returns-in-Chunk-Plain
 returns-in-Chunk-Plain c = λ worked at given.
     let is = c.in-Chunk-Plain.is ∙ ap Chunk c.in-Chunk-Plain.field-0-is in
-    subst (λ i. ComesBy (Asks i) worked c.work_text.new.self c.work_text.result) (sym is) (c.work_text.ensures worked at (subst IsGiven is given))
+    subst (λ i. ComesBy (Asks i) worked c.work_text.new.self c.work_text.result) (sym is) (c.work_text.ensures worked at (subst IsGiven is given).2)
 
 pub returns-in-Chunk-Head : goal.returns-in-Chunk-Head
 returns-in-Chunk-Head c = λ worked at given.
     let is = c.in-Chunk-Head.is ∙ ap Chunk c.in-Chunk-Head.field-0-is in
-    subst (λ i. ComesBy (Asks i) worked c.work_head.new.self c.work_head.result) (sym is) (c.work_head.ensures worked at (subst IsGiven is given))
+    subst (λ i. ComesBy (Asks i) worked c.work_head.new.self c.work_head.result) (sym is) (c.work_head.ensures worked at (subst IsGiven is given).1)
 
 pub returns-in-Chunk-Method : goal.returns-in-Chunk-Method
 returns-in-Chunk-Method c = λ worked at given.
     let is = c.in-Chunk-Method.is ∙ ap Chunk c.in-Chunk-Method.field-0-is in
-    subst (λ i. ComesBy (Asks i) worked c.work_method.new.self c.work_method.result) (sym is) (c.work_method.ensures worked at (subst IsGiven is given))
+    subst (λ i. ComesBy (Asks i) worked c.work_method.new.self c.work_method.result) (sym is) (c.work_method.ensures worked at (subst IsGiven is given).1)
 
 pub returns-in-Chunk-SectionEnd : goal.returns-in-Chunk-SectionEnd
 returns-in-Chunk-SectionEnd c = λ worked at given.
