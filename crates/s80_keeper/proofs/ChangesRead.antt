@@ -1,6 +1,7 @@
 -- Changes that are read at places of their blocks.
-use Rattle.std.proofs.Common.{◌≡◌, ◌∙◌, ℕ, zero, suc, ◌+◌, ◌<◌, List, [], ◌∷◌, ◌++◌, length, take, drop, get_or, map as list_map, slice_get, Some, Result, Ok, Err, refl, sym, ap, subst}
+use Rattle.std.proofs.Common.{◌≡◌, ◌∙◌, ℕ, zero, suc, ◌+◌, ◌<◌, List, [], ◌∷◌, ◌++◌, length, take, drop, get_or, map as list_map, slice_get, Option, Some, None, Result, Ok, Err, refl, sym, ap, subst}
 use Rattle.std.specs.List.{All}
+use Rattle.std.specs.Prelude.{◌↔◌}
 use Rattle.std.proofs.lemmas.List.{take_more}
 use Rattle.std.proofs.lemmas.List.Elements.{All-head, All-tail}
 use Rattle.s80_base.specs.declared.outside.Failed.{Failed}
@@ -35,7 +36,7 @@ module _ (places : List ℕ) (i at : ℕ) (there : slice_get places i ≡ Some a
   pub failed_at : (log : List ℕ) (fault : KeepFault) → IsReadAt log at (Err fault) → AreReadAt log places (Err fault)
   failed_at log faults.Memory read = tt
   failed_at log (faults.Disk failed) read = tt
-  failed_at log (faults.Closed failed) read = absurd read
+  failed_at log (faults.Closed failed) read = tt
   failed_at log (faults.Full count) read = absurd read
   failed_at log (faults.Damaged (NoMark size)) read = absurd read
   failed_at log (faults.Damaged (BadMark value)) read = absurd read
@@ -44,21 +45,31 @@ module _ (places : List ℕ) (i at : ℕ) (there : slice_get places i ≡ Some a
   failed_at log (faults.Damaged (CountDiffers marked found)) read = absurd read
   failed_at log (faults.Damaged (BadBlock place)) read = ((i, there ∙ ap Some (sym read.0)), subst (λ n. BeginsWithNone (drop n log)) (sym read.0) read.1)
 
-  pub placed_at : (T : Type 0) (fault : KeepFault) → IsPlacedAt at (Err fault) → ArePlaced {T = T} places (Err fault)
-  placed_at T faults.Memory placed = tt
-  placed_at T (faults.Disk failed) placed = tt
-  placed_at T (faults.Closed failed) placed = tt
-  placed_at T (faults.Full count) placed = absurd placed
-  placed_at T (faults.Damaged (NoMark size)) placed = absurd placed
-  placed_at T (faults.Damaged (BadMark value)) placed = absurd placed
-  placed_at T (faults.Damaged (LogShort marked found)) placed = absurd placed
-  placed_at T (faults.Damaged (Replay place number)) placed = absurd placed
-  placed_at T (faults.Damaged (CountDiffers marked found)) placed = absurd placed
-  placed_at T (faults.Damaged (BadBlock place)) placed = (i, there ∙ ap Some (sym placed))
+  pub placed_at : (T U : Type 0) (fault : KeepFault) → IsPlacedAt {T = T} at (Err fault) → ArePlaced {T = U} places (Err fault)
+  placed_at T U faults.Memory placed = tt
+  placed_at T U (faults.Disk failed) placed = tt
+  placed_at T U (faults.Closed failed) placed = tt
+  placed_at T U (faults.Full count) placed = absurd placed
+  placed_at T U (faults.Damaged (NoMark size)) placed = absurd placed
+  placed_at T U (faults.Damaged (BadMark value)) placed = absurd placed
+  placed_at T U (faults.Damaged (LogShort marked found)) placed = absurd placed
+  placed_at T U (faults.Damaged (Replay place number)) placed = absurd placed
+  placed_at T U (faults.Damaged (CountDiffers marked found)) placed = absurd placed
+  placed_at T U (faults.Damaged (BadBlock place)) placed = (i, there ∙ ap Some (sym placed))
 
--- the disk wasn't closed
-pub not_closed : (at : ℕ) (fault : KeepFault) (failed : Failed) → IsPlacedAt at (Err fault) → fault ≡ faults.Closed failed → ⊥
-not_closed at fault failed placed is = subst (λ f. IsPlacedAt at (Err f)) is placed
+-- what is answered at a fault, whatever was to be read
+abbrev failed_so : (T : Type 0) → KeepFault → Result T KeepFault
+failed_so T fault = Err fault
+
+fault_same : (T : Type 0) (one other : KeepFault) → failed_so T one ≡ failed_so T other → one ≡ other
+fault_same T one other e = cc
+
+-- no disk is closed that hasn't failed
+pub not_closed : (T U : Type 0) (now keeper : KeeperState) (fault : KeepFault) (failed : Failed) → now ≡ keeper → keeper.fault ≡ None → ((f : Failed) → (failed_so T fault ≡ Err (faults.Closed f)) ↔ (now.fault ≡ Some f)) → failed_so U fault ≡ Err (faults.Closed failed) → ⊥
+not_closed T U now keeper fault failed same calm closed is =
+    let failing : failed_so T fault ≡ failed_so T (faults.Closed failed) = ap (failed_so T) (fault_same U fault (faults.Closed failed) is) in
+    let e : None ≡ Some failed = sym (ap (λ (k : KeeperState). k.fault) same ∙ calm) ∙ (closed failed).0 failing in
+    cc
 
 -- the keeper is left so, whatever was to be read
 pub left_so : (T U : Type 0) (fault : KeepFault) (keeper : KeeperState) → after_reading {T = T} (Err fault) keeper ≡ after_reading {T = U} (Err fault) keeper

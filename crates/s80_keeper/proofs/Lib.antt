@@ -18,6 +18,7 @@ pub mod Pieces
 mod StandingSource
 mod ChangesPlaced
 mod ChangesRead
+mod BlockRead
 mod Elsewhere
 mod Renewed
 mod Written

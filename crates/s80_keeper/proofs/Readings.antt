@@ -35,7 +35,7 @@ compared (x ∷ xs) r (y ∷ ys) s one two e =
 pub blocks_length : (xs more all : List Change) → all ≡ xs ++ more → length (blocks all) ≡ length (blocks xs) + length (blocks more)
 blocks_length xs more all e = ap (λ l. length (blocks l)) e ∙ ap length (flat_map-append block xs more) ∙ length-append (blocks xs) (blocks more)
 
-lawful_after : (xs : List Change) (z : Change) (zs : List Change) → All IsLawful (xs ++ z ∷ zs) → IsLawful z
+pub lawful_after : (xs : List Change) (z : Change) (zs : List Change) → All IsLawful (xs ++ z ∷ zs) → IsLawful z
 lawful_after [] z zs all = All-head IsLawful z zs all
 lawful_after (x ∷ xs) z zs all = lawful_after xs z zs (All-tail IsLawful x (xs ++ z ∷ zs) all)
 

@@ -1,6 +1,7 @@
 -- What reading changes at the places of their blocks answers.
-use Rattle.std.specs.Prelude.{◌≡◌, ℕ, List, [], ◌∷◌, ◌++◌, drop, slice_get, Some, Result, Ok, Err, ⊤}
+use Rattle.std.specs.Prelude.{◌≡◌, ◌+◌, ℕ, List, [], ◌∷◌, ◌++◌, drop, length, slice_get, Some, Result, Ok, Err, ⊤}
 use Rattle.s80_change.specs.declared.change.Change.{Change}
+use Rattle.s80_change.specs.Block.{block}
 use Rattle.s80_change.specs.Blocks.{BeginsWith, BeginsWithNone}
 use Rattle.s80_keeper.specs.declared.keep.KeepFault.{KeepFault}
 use Rattle.s80_keeper.specs.declared.keep.KeepFault.TheVariants as faults
@@ -32,14 +33,14 @@ abbrev pub AreAddedAt : List ℕ → List ℕ → List Change → List Change �
 AreAddedAt bytes places before now (Ok done) = (more : List Change) × (now ≡ before ++ more) × BeginAt bytes places more
 AreAddedAt bytes places before now (Err fault) = AreReadAt bytes places (Err fault)
 
--- the change of which the bytes have a block at this place; or no block begins there
-abbrev pub IsReadAt : List ℕ → ℕ → Result Change KeepFault → Type 0
-IsReadAt bytes at (Ok change) = BeginsWith (drop at bytes) change
+-- the change of which the bytes have a block at this place, with the place behind it; or no block begins there
+abbrev pub IsReadAt : List ℕ → ℕ → Result (Change × ℕ) KeepFault → Type 0
+IsReadAt bytes at (Ok (change, next)) = BeginsWith (drop at bytes) change × (next ≡ at + length (block change))
 IsReadAt bytes at (Err (faults.Damaged (BadBlock place))) = (place ≡ at) × BeginsWithNone (drop at bytes)
 IsReadAt bytes at (Err (faults.Damaged _)) = ⊥
 IsReadAt bytes at (Err faults.Memory) = ⊤
 IsReadAt bytes at (Err (faults.Disk failed)) = ⊤
-IsReadAt bytes at (Err (faults.Closed failed)) = ⊥
+IsReadAt bytes at (Err (faults.Closed failed)) = ⊤
 IsReadAt bytes at (Err (faults.Full count)) = ⊥
 
 -- a damage is told at one of the places, and that the log is full never
@@ -49,10 +50,9 @@ ArePlaced places (Err (faults.Damaged _)) = ⊥
 ArePlaced places (Err (faults.Full count)) = ⊥
 ArePlaced places _ = ⊤
 
--- the same of one place; nor was the disk closed
-abbrev pub IsPlacedAt : ℕ → Result Change KeepFault → Type 0
+-- the same of one place
+abbrev pub IsPlacedAt : {T : Type 0} → ℕ → Result T KeepFault → Type 0
 IsPlacedAt at (Err (faults.Damaged (BadBlock place))) = place ≡ at
 IsPlacedAt at (Err (faults.Damaged _)) = ⊥
 IsPlacedAt at (Err (faults.Full count)) = ⊥
-IsPlacedAt at (Err (faults.Closed failed)) = ⊥
 IsPlacedAt at _ = ⊤

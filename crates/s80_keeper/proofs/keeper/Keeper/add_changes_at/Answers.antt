@@ -3,16 +3,17 @@ use Rattle.std.proofs.lemmas.List.{take_all}
 use Rattle.std.proofs.lemmas.Option.{slice_get-get_or}
 use Rattle.std.proofs.lemmas.Result.{err_from_is_err_and}
 use Rattle.std.specs.Prelude.{Err}
+use Rattle.s80_change.specs.declared.change.Change.{Change}
 use Rattle.s80_change.specs.Blocks.{BeginsWith}
 use Rattle.s80_log.specs.Log.{held_in, log_file}
 use Rattle.s80_keeper.specs.ChangesAt.{BeginAt, IsReadAt}
 use Rattle.s80_keeper.specs.Keeper.{KeeperState}
-use Rattle.s80_keeper.proofs.ChangesRead.{begin_more, failed_at, placed_at}
+use Rattle.s80_keeper.proofs.ChangesRead.{begin_more, failed_at, not_closed, placed_at}
 use Rattle.s80_keeper.proofs.keeper.Keeper.add_changes_at.Goals as goal
-use Rattle.s80_keeper.proofs.keeper.Keeper.add_changes_at.Goals.{After-change_at}
+use Rattle.s80_keeper.proofs.keeper.Keeper.add_changes_at.Goals.{After-block_at}
 
 -- the log reads as at first
-same : (g : _) (c : After-change_at g) → held_in (g.D.Disk.reads c.loop-place.disk) c.loop-place.self.log ≡ held_in (g.D.Disk.reads c.args.disk.now) c.args.self.now.log
+same : (g : _) (c : After-block_at g) → held_in (g.D.Disk.reads c.loop-place.disk) c.loop-place.self.log ≡ held_in (g.D.Disk.reads c.args.disk.now) c.args.self.now.log
 same g c =
     let so_far = c.loop-place.invariant in
     let log = c.args.self.now.log in
@@ -26,7 +27,7 @@ returns-in_err-change-clause-read g c = λ told.
     let fault = c.in_err-change.field-0.0 in
     let there = slice_get-get_or places i 0 c.loop-place-test.true in
     let P : List ℕ → Type 0 = λ l. IsReadAt l (get_or places i 0) (Err fault) in
-    let read = subst P (same g (goal.at.returns-in_err-change-clause-read g c).After-change_at) (c.in_err-change.ensures.read (c.loop-place.invariant.untouched.telling ∙ told)) in
+    let read = subst P (same g (goal.at.returns-in_err-change-clause-read g c).After-block_at) (c.in_err-change.ensures.read (c.loop-place.invariant.untouched.telling ∙ told)) in
     let p = err_from_is_err_and c.from_residual.result c.from_residual.ensures.1 in
     rw (p.1, p.2) (failed_at places i (get_or places i 0) there log fault read)
 
@@ -35,7 +36,12 @@ returns-in_err-change-clause-placed g c =
     let places = c.args.places.now in
     let i = c.loop-place.place-index in
     let p = err_from_is_err_and c.from_residual.result c.from_residual.ensures.1 in
-    rw (p.1, p.2) (placed_at places i (get_or places i 0) (slice_get-get_or places i 0 c.loop-place-test.true) (Unit {0}) c.in_err-change.field-0.0 c.in_err-change.ensures.placed)
+    rw (p.1, p.2) (placed_at places i (get_or places i 0) (slice_get-get_or places i 0 c.loop-place-test.true) (Change × ℕ) (Unit {0}) c.in_err-change.field-0.0 c.in_err-change.ensures.placed)
+
+pub returns-in_err-change-clause-open : goal.returns-in_err-change-clause-open
+returns-in_err-change-clause-open g c = λ failed.
+    let p = err_from_is_err_and c.from_residual.result c.from_residual.ensures.1 in
+    rw (p.1, p.2) (λ is. not_closed (Change × ℕ) (Unit {0}) c.loop-place.self c.args.self.now c.in_err-change.field-0.0 failed c.loop-place.invariant.same c.requires c.in_err-change.ensures.closed is)
 
 pub loop-place-preserved : goal.loop-place-preserved
 loop-place-preserved g c =
@@ -47,7 +53,7 @@ loop-place-preserved g c =
     let Begins : List ℕ → Type 0 = λ l. BeginsWith (drop (get_or places i 0) l) change in
     record {
       read = λ told.
-          let one = subst Begins (same g (goal.at.loop-place-preserved g c).After-change_at) (c.in_ok-change.ensures.read (so_far.untouched.telling ∙ told)) in
+          let one = subst Begins (same g (goal.at.loop-place-preserved g c).After-block_at) (c.in_ok-change.ensures.read (so_far.untouched.telling ∙ told)).0 in
           let before = so_far.read told in (
             before.0 ++ change ∷ [],
             c.in_ok-push.ensures.ok ∙ ap (λ l. l ++ change ∷ []) before.1 ∙ append_assoc c.args.changes.now before.0 (change ∷ []),
