@@ -42,7 +42,7 @@ pub finished_clean : (rest : Rest) (may_leave : Image → Type 0) (now : Shown) 
 finished_clean rest may_leave now session reader was work input before given is h = let P : Rest → Type 0 = λ r. EndsWith r input given in clean_end may_leave now session reader was work input before given (subst P is h)
 
 -- within an item
-unended_items : (input : List ℕ) (given : List Item) (place : ℕ) → EndsWith (rests.Unended place) input given → ItemsOf input (chunks given ++ Unended ∷ [])
+pub unended_items : (input : List ℕ) (given : List Item) (place : ℕ) → EndsWith (rests.Unended place) input given → ItemsOf input (chunks given ++ Unended ∷ [])
 unended_items input given place h = (given, h.0, h.1, inr (λ blank. blank_only h.0 h.2.blank h.2.first h.2.others blank h.2.is_none h.2.whole, refl))
 
 -- what the items before an unended one ask, and what it asks behind them

@@ -52,7 +52,7 @@ use Rattle.s80_session.proofs.lemmas.Elsewhere.{no_mark}
 -- ---- how it ends
 
 -- what broke off ends the work too
-ends_so : (T U : Type 0) (end : SessionEnd) (o : Shown) (session : Session) → StaysKnowing {T = T} (Err end) o session → StaysKnowing {T = U} (Err end) o session
+pub ends_so : (T U : Type 0) (end : SessionEnd) (o : Shown) (session : Session) → StaysKnowing {T = T} (Err end) o session → StaysKnowing {T = U} (Err end) o session
 ends_so T U (ends.Damaged damage) o session h = h
 ends_so T U ends.Memory o session h = tt
 ends_so T U (ends.Read failed) o session h = tt

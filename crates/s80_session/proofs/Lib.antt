@@ -13,6 +13,7 @@ pub mod Fronts
 pub mod Grouped
 pub mod Grouping
 pub mod Holding
+pub mod Joining
 pub mod Knowing
 pub mod Lawful
 pub mod Making
@@ -22,8 +23,11 @@ pub mod OneGroup
 pub mod Reading
 pub mod Stepping
 pub mod Taking
+pub mod TakingIn
 pub mod Telling
 pub mod UnderWay
 pub mod Unmarked
 pub mod Works
 pub mod Seeking
+mod BaseRead
+mod Outcomes

@@ -143,7 +143,7 @@ rest_left bytes piece left input n is = (drop n piece ++ left, is ∙ ap (λ l. 
     cut : piece ≡ take n piece ++ drop n piece
     cut = sym (take_all (n + length piece) piece (omega arith)) ∙ take-add n (length piece) piece ∙ ap (λ l. take n piece ++ l) (take_all (length piece) (drop n piece) (omega (arith, length-drop n piece)))
 
-next_part : (bytes piece : List ℕ) (done count : ℕ) → (bytes ++ take done piece) ++ take count (take (length piece - done) (drop done piece)) ≡ bytes ++ take (done + count) piece
+pub next_part : (bytes piece : List ℕ) (done count : ℕ) → (bytes ++ take done piece) ++ take count (take (length piece - done) (drop done piece)) ≡ bytes ++ take (done + count) piece
 next_part bytes piece done count = append_assoc bytes (take done piece) _ ∙ ap (λ l. bytes ++ (take done piece ++ take count l)) (take_rest piece done) ∙ ap (λ l. bytes ++ l) (sym (take-add done count piece))
 
 module _ {D : Type 0} (moment : D → ℕ) (left_since : D → ℕ → ℕ → Image → Type 0) (may_leave : D → Image → Type 0) (shown : D → Shown) (begun : D) (was : Was) (work : Work) (before bytes : List ℕ) (first : List Item) (piece : List ℕ) where

@@ -10,3 +10,4 @@ pub mod Files
 pub mod Known
 pub mod FiledIn
 pub mod Making
+pub mod Merging

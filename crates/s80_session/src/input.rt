@@ -27,17 +27,21 @@ use std::alloc::Global;
 const INPUT_LIMIT: u64 = 1 << 30;
 
 /// How many bytes are taken at once, and how many bytes of blocks or of replies wait for a flush.
-const GROUP: usize = 65_536;
+pub(crate) const GROUP: usize = 65_536;
 
 /// A buffer of this size.
-fn zeros(alloc: Global, size: usize) -> Result<Vec<u8>, OutOfMemory>
+pub(crate) fn zeros(alloc: Global, size: usize) -> Result<Vec<u8>, OutOfMemory>
     ensures { IfOk result (λ buf. length buf.items ≡ size) }
 {
     Ok(vec![in alloc; 0; size]?)
 }
 
 /// Takes the next piece of the input into the front of a buffer. Says how many bytes it has: none at the end of the input.
-fn take_piece<O: Outside>(buf: &mut [u8], taken: u64, outside: &mut O) -> Result<usize, SessionEnd>
+pub(crate) fn take_piece<O: Outside>(
+    buf: &mut [u8],
+    taken: u64,
+    outside: &mut O,
+) -> Result<usize, SessionEnd>
     requires room { length buf.old ≡ 65536 }
     requires within { taken ≤ input_limit }
     ensures took { (left : List ℕ) → (O.shown outside.old).left ≡ Some left → Takes result (O.shown outside.new) taken buf.new left }

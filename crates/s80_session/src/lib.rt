@@ -1,17 +1,20 @@
 //! A session: it works the items of an input one after another, and answers them in groups, each once what it changes is on the disk.
 #![tactic(auto)]
 
+mod base;
 mod condense;
 mod end;
 mod files;
 mod input;
 mod make;
+mod merge;
 mod outside;
 mod queries;
 mod replies;
 mod reply;
 mod session;
 mod sought;
+mod theirs;
 mod told;
 
 pub use end::SessionEnd;

@@ -7,13 +7,14 @@ ghost use Rattle.std.specs.Io.KnownBytes.{ReadConsumes};
 ghost use Rattle.s80_base.specs.Causes.{HasCause, Rose};
 ghost use Rattle.s80_base.specs.declared.outside.Failed.{Failed};
 ghost use Rattle.s80_change.specs.declared.change.Change.{Change};
-ghost use Rattle.s80_change.specs.Block.{block, log_limit, IsLawful};
+ghost use Rattle.s80_change.specs.Block.{block, blocks, log_limit, IsLawful};
 ghost use Rattle.s80_class.specs.Classes.{Name};
 ghost use Rattle.s80_class.specs.Table.{IsNumberOf};
 ghost use Rattle.s80_disk.specs.declared.disk.FileId.{FileId};
 ghost use Rattle.s80_disk.specs.declared.disk.FileId.TheVariants.{Mark};
 ghost use Rattle.s80_disk.specs.Moments.{LeavesOnly};
 ghost use Rattle.s80_mark.specs.Found.{longer_log};
+ghost use Rattle.s80_keeper.specs.ChangesAt.{IsPlacedAt};
 ghost use Rattle.s80_keeper.specs.Condensing.{AfterCondensing, Condensed, IfReplaced};
 ghost use Rattle.s80_keeper.specs.Renewing.{HasWritten};
 ghost use Rattle.s80_keeper.specs.Keeper.{pending_of, IsSettled, Keeps, Knows};
@@ -31,7 +32,7 @@ ghost use Rattle.s80_session.specs.Putting.{IsAsBefore, PutsFront};
 ghost use Rattle.s80_session.specs.Run.{HasKept, ShownFor};
 
 use s80_base::{Failed, Side, Text};
-use s80_change::Changes;
+use s80_change::{Change, Changes};
 use s80_disk::{Outside, put_output, take_input, time_now};
 use s80_keeper::{KeepFault, Keeper, Prepared, StartFault};
 use std::alloc::Global;
@@ -188,6 +189,33 @@ pub(crate) fn read_source<O: Outside>(
     keeper.source_of(alloc, outside, class, side, selector)
 }
 
+/// The change whose block begins at a place, and the place behind it, read by a keeper. It changes no file, and a crash leaves what it might have
+/// left before.
+pub(crate) fn read_block<O: Outside>(
+    keeper: &mut Keeper,
+    alloc: Global,
+    outside: &mut O,
+    at: u64,
+) -> Result<(Change, u64), KeepFault>
+    ensures block { IsTrue (O.shown outside.old).tells → (before behind : List Change) (change : Change)
+        → Knows (O.shown outside.old).files keeper.old (before ++ change ∷ behind) → at ≡ length (blocks before)
+        → IsThis (change, length (blocks (before ++ change ∷ []))) result }
+    ensures next { IfOk result (λ found. (at < found.1) × (found.1 ≤ keeper.old.log.end)) }
+    ensures placed { IsPlacedAt at result }
+    ensures after { keeper.new ≡ after_reading result keeper.old }
+    ensures closed { (failed : Failed) → (result ≡ Err (KeepFault.Closed failed)) ↔ (keeper.old.fault ≡ Some failed) }
+    ensures images { (c : FileId → List ℕ) → O.may_leave outside.new c → O.may_leave outside.old c }
+    ensures any_moment { LeavesOnly O.moment O.left_since outside.old outside.new
+        (IsAsBefore (O.may_leave outside.old) (O.shown outside.old).told 0) }
+    ensures shown { O.shown outside.new ≡ O.shown outside.old }
+    ensures faults { O.faults outside.new ≡ record (O.faults outside.old) { disk = (O.faults outside.new).disk } }
+    ensures later { (O.faults outside.old).disk ≤ (O.faults outside.new).disk }
+    ensures cause { IfKeepDisk result (λ failed. Rose (O.faults outside.old).disk (O.faults outside.new).disk) }
+    ensures faults_stay { UnlessKeepDisk result ((O.faults outside.new).disk ≡ (O.faults outside.old).disk) }
+{
+    keeper.block_at(alloc, outside, at)
+}
+
 /// The change set, read by a keeper. It changes no file, and a crash leaves what it might have left before.
 pub(crate) fn read_set<O: Outside>(
     keeper: &mut Keeper,
@@ -197,6 +225,7 @@ pub(crate) fn read_set<O: Outside>(
     requires { IsSettled keeper.old }
     ensures set { IsTrue (O.shown outside.old).tells → (changes : List Change) → Knows (O.shown outside.old).files keeper.old changes
         → IsThis (list_map (λ p. p.1) (set_of changes)) result }
+    ensures unfilled { (length : ℕ) → result ≢ Err (KeepFault.Full length) }
     ensures after { keeper.new ≡ after_reading result keeper.old }
     ensures closed { (failed : Failed) → (result ≡ Err (KeepFault.Closed failed)) ↔ (keeper.old.fault ≡ Some failed) }
     ensures images { (c : FileId → List ℕ) → O.may_leave outside.new c → O.may_leave outside.old c }

@@ -1,5 +1,5 @@
 // How an answer is written, and what a fault of the keeper answers.
-ghost use Rattle.std.specs.Prelude.{◌≡◌, ◌++◌, ◌∷◌, [], IfOk};
+ghost use Rattle.std.specs.Prelude.{◌≡◌, ◌≢◌, ◌++◌, ◌∷◌, [], ℕ, Err, IfOk};
 ghost use Rattle.s80_print.specs.Refusal.{refusal_text};
 ghost use Rattle.s80_session.specs.Ends.{refusal_at_fault, reply_to_keeping};
 
@@ -32,6 +32,17 @@ pub(crate) fn refusal_at_fault(fault: KeepFault) -> Result<Refusal, SessionEnd>
         KeepFault::Disk(failed) | KeepFault::Closed(failed) => Err(SessionEnd::Disk(failed)),
         KeepFault::Full(length) => Ok(Refusal::LogFull(length)),
         KeepFault::Damaged(damage) => Err(SessionEnd::Damaged(damage)),
+    }
+}
+
+/// How a fault of reading ends the session.
+pub(crate) fn end_at_fault(fault: KeepFault) -> SessionEnd
+    requires { (length : ℕ) → fault ≢ KeepFault.Full length }
+    ensures { refusal_at_fault fault ≡ Err result }
+{
+    match refusal_at_fault(fault) {
+        Ok(_) => unreachable!(),
+        Err(end) => end,
     }
 }
 

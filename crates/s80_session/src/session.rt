@@ -703,7 +703,7 @@ impl Session {
     }
 
     /// Keeps a change, to be committed later. Says why it is refused, if it is.
-    fn keep<O: Outside>(
+    pub(crate) fn keep<O: Outside>(
         &mut self,
         alloc: Global,
         change: Change,

@@ -1,12 +1,18 @@
-use Rattle.std.proofs.Common.{ap, arith}
+use Rattle.std.proofs.Common.{List, ap, arith}
+use Rattle.s80_change.specs.declared.change.Change.{Change}
 use Rattle.s80_disk.specs.Moments.{Beside}
 use Rattle.s80_disk.proofs.lemmas.Run.{weaker}
 use Rattle.s80_disk.proofs.lemmas.Showing.{but_for_disk, nothing_shown}
+use Rattle.s80_history.specs.History.{set_places}
 use Rattle.s80_session.specs.Putting.{IsAsBefore}
+use Rattle.s80_session.proofs.BaseRead.{never_full}
 use Rattle.s80_session.proofs.outside.read_set.Goals as goal
 
 pub returns-clause-set : goal.returns-clause-set
 returns-clause-set g c = rw (g.met.O.Outside.shown_is c.args.outside.now) c.set_of.ensures.set
+
+pub returns-clause-unfilled : goal.returns-clause-unfilled
+returns-clause-unfilled g c = λ count is. never_full (List Change) (set_places c.args.keeper.now.history) c.set_of.result c.set_of.ensures.placed count is
 
 pub returns-clause-any_moment : goal.returns-clause-any_moment
 returns-clause-any_moment g c =
