@@ -7,7 +7,7 @@
 _st80() {
   COMPREPLY=()
   local IFS=$' \t\n'
-  local commands="run do recover classes browse source versions changes file-out file-out-class file-out-set senders implementors references undeclared unimplemented unsent condense snapshot make"
+  local commands="run do recover classes browse source versions changes file-out file-out-class file-out-set merge senders implementors references undeclared unimplemented unsent condense snapshot make"
   local options="--budget --keep"
   local raw word quote letter current i program folder names wanted="" is_awaited="" is_plain=""
   local -a words=() plain=() offered=()

@@ -7,13 +7,14 @@ use Rattle.s80_line.specs.Line.{IsLine, LineParts}
 use Rattle.s80_line.specs.Shown.{shown}
 use Rattle.s80_model.specs.declared.item.Filed.TheVariants.{All, Class, Set}
 use Rattle.s80_model.specs.declared.item.Query.TheVariants.{Recover, Classes, Browse, Source, Versions, Changes, Condense, FileOut, Senders, Implementors, References, Undeclared, Unimplemented, Unsent, Snapshot}
-use Rattle.s80_program.specs.Command.{Command, Options, Run, Do, Tell, Make, command_word, arguments_of}
+use Rattle.s80_program.specs.Command.{Command, Options, Run, Merge, Do, Tell, Make, command_word, arguments_of}
 use Rattle.s80_program.specs.Words.{AreOf, Asks, options_of}
 
 -- the command of which these are the word and the arguments, if they are those of one
 abbrev command_from : List ℕ → List (List ℕ) → Option Command
 command_from word [] =
     if bytes_eq word (codes "run") then Some Run
+    else (if bytes_eq word (codes "merge") then Some Merge
     else (if bytes_eq word (codes "recover") then Some (Tell Recover)
     else (if bytes_eq word (codes "classes") then Some (Tell Classes)
     else (if bytes_eq word (codes "changes") then Some (Tell Changes)
@@ -22,7 +23,7 @@ command_from word [] =
     else (if bytes_eq word (codes "undeclared") then Some (Tell Undeclared)
     else (if bytes_eq word (codes "unimplemented") then Some (Tell Unimplemented)
     else (if bytes_eq word (codes "unsent") then Some (Tell Unsent)
-    else (if bytes_eq word (codes "condense") then Some (Tell Condense) else Some (Tell Snapshot))))))))))
+    else (if bytes_eq word (codes "condense") then Some (Tell Condense) else Some (Tell Snapshot)))))))))))
 command_from word (name ∷ []) =
     if bytes_eq word (codes "do") then Some (Do name)
     else (if bytes_eq word (codes "file-out-class") then Some (Tell (FileOut (Class name)))
@@ -34,6 +35,7 @@ command_from word (spec ∷ selector ∷ rest) = if bytes_eq word (codes "source
 
 from_words : (command : Command) → command_from (command_word command) (arguments_of command) ≡ Some command
 from_words Run = refl
+from_words Merge = refl
 from_words (Do text) = refl
 from_words (Tell Recover) = refl
 from_words (Tell Classes) = refl

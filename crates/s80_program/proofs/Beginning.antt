@@ -27,7 +27,7 @@ use Rattle.s80_session.specs.Working.{IsAt, Starts, IsSessionStart}
 use Rattle.s80_session.proofs.lemmas.Keeping.{keeps_stands}
 use Rattle.s80_session.proofs.lemmas.Lasting.{keeps_at_start}
 use Rattle.s80_program.specs.declared.status.Status.TheVariants as status
-use Rattle.s80_program.specs.Command.{Job, Takes, Works, Makes}
+use Rattle.s80_program.specs.Command.{Job, Takes, Merges, Works, Makes}
 use Rattle.s80_program.specs.Ending.{IsDiskEnd, status_after}
 use Rattle.s80_program.specs.Leaves.{StartsWith, LeavesFor, KeepsFor, TellsDamage}
 
@@ -71,6 +71,7 @@ lost_at_start Takes (ends.Disk failed) may_leave now work input before is reads 
   taken = taken ∙ ap Some (sym (append-nil before));
   reads = reads;
 }
+lost_at_start Merges (ends.Disk failed) may_leave now work input before is reads left taken = record { list = work.changes; so_far = inl refl; reads = reads; taken = taken }
 lost_at_start (Works item) (ends.Disk failed) may_leave now work input before is reads left taken = (record { taken = taken; list = work.changes; is = inl refl; reads = reads }, left)
 lost_at_start (Makes count) (ends.Disk failed) may_leave now work input before is reads left taken = (record { asks = []; first = none_made work count; reads = reads; taken = taken }, left)
 lost_at_start job ends.Memory may_leave now work input before is reads left taken = absurd is
@@ -86,6 +87,7 @@ no_session Takes ends.Memory may_leave now settings changes input before h left 
   first = ([], inl ([], input, stop refl refl, refl), tt);
   answered = record { stands = h; taken = taken ∙ ap Some (sym (append-nil before)) };
 })
+no_session Merges ends.Memory may_leave now settings changes input before h left taken = record { list = changes; so_far = inl refl; stands = h; taken = taken }
 no_session (Works item) ends.Memory may_leave now settings changes input before h left taken = (inl (record { stands = h; taken = taken ∙ ap Some (sym (append-nil before)) }), left)
 no_session (Makes count) ends.Memory may_leave now settings changes input before h left taken = (record { asks = []; first = none_made (begun settings changes) count; stands = h; taken = taken }, left)
 no_session job (ends.Disk failed) may_leave now settings changes input before h left taken =
@@ -104,6 +106,7 @@ no_memory job may_leave now session settings changes input before at left =
 -- what is kept before the first item
 pub kept_at_start : (job : Job) (work : Work) (input before : List ℕ) (told : ℕ) (c : Image) → HasKept work.changes (length before) told c → KeepsFor job work input before told c
 kept_at_start Takes work input before told c h = keeps_at_start work input before told c h
+kept_at_start Merges work input before told c h = inl h
 kept_at_start (Works item) work input before told c h = inl h
 kept_at_start (Makes count) work input before told c h = inl ([], none_made work count, h)
 

@@ -18,13 +18,14 @@ use Rattle.s80_model.specs.declared.item.Query.TheVariants as queries
 use Rattle.s80_model.specs.Replies.{AsksIn, Work, is_trouble, reply_text, reply_to, work_after}
 use Rattle.s80_session.specs.Session.{Was, keeper_of, troubled_of}
 use Rattle.s80_session.specs.Making.{Made, Makes}
+use Rattle.s80_session.specs.Merging.{Merged, Merges}
 use Rattle.s80_session.specs.Run.{Ends, Finished}
 use Rattle.s80_session.specs.Working.{IsAt, Stepped}
 use Rattle.s80_session.specs.declared.session.Session.{Session}
 use Rattle.s80_session.proofs.lemmas.Keeping.{keeps_stands}
 use Rattle.s80_program.specs.declared.status.Status.TheVariants as status
 use Rattle.s80_program.specs.Ending.{IsDiskEnd, StatusHasReason, status_after}
-use Rattle.s80_program.specs.Leaves.{IsAnswered, ItemLeaves, MakeLeaves, RunLeaves, TellsDamage}
+use Rattle.s80_program.specs.Leaves.{IsAnswered, ItemLeaves, MakeLeaves, MergeLeaves, RunLeaves, TellsDamage}
 
 -- a run that came to its end
 done_so : (may_leave : Image → Type 0) (now : Shown) (troubled : Bool) (ran : Option RanValue) (work : Work) (input before : List ℕ) → Finished may_leave now work input before troubled None ran → RunLeaves (status_after (Ok troubled)) may_leave now work input before
@@ -67,6 +68,26 @@ make_ended T (ends.Write failed) may_leave now was is_now work count before h = 
 make_ended T (ends.Disk failed) may_leave now was is_now work count before h = h
 make_ended T (ends.Damaged damage) may_leave now was is_now work count before h = absurd h
 make_ended T ends.TooLong may_leave now was is_now work count before h = absurd h
+
+-- an input that was merged
+merged_so : (may_leave : Image → Type 0) (now : Shown) (troubled : Bool) (work : Work) (input before : List ℕ) → Merged may_leave now work input before troubled → MergeLeaves (status_after (Ok troubled)) may_leave now work input before
+merged_so may_leave now true work input before h = h
+merged_so may_leave now false work input before h = h
+
+pub merge_done : {T : Type 0} (done : T) (may_leave : Image → Type 0) (now : Shown) (was is_now : Was) (work : Work) (input before : List ℕ) → was.troubled ≡ false → Merges (Ok done) may_leave now was is_now work input before → MergeLeaves (status_after (Ok is_now.troubled)) may_leave now work input before
+merge_done done may_leave now was is_now work input before calm h =
+    let P : Bool → Type 0 = λ b. Merged may_leave now work input before b in
+    let same : is_now.troubled ≡ h.0 = h.1 ∙ ap (λ b. b || h.0) calm in
+    merged_so may_leave now is_now.troubled work input before (subst P (sym same) h.2)
+
+-- merging that broke off
+pub merge_ended : (T : Type 0) (end : SessionEnd) (may_leave : Image → Type 0) (now : Shown) (was is_now : Was) (work : Work) (input before : List ℕ) → Merges {T = T} (Err end) may_leave now was is_now work input before → MergeLeaves (status_after (Err end)) may_leave now work input before
+merge_ended T ends.Memory may_leave now was is_now work input before h = h
+merge_ended T (ends.Read failed) may_leave now was is_now work input before h = h
+merge_ended T (ends.Write failed) may_leave now was is_now work input before h = h
+merge_ended T (ends.Disk failed) may_leave now was is_now work input before h = h
+merge_ended T (ends.Damaged damage) may_leave now was is_now work input before h = absurd h
+merge_ended T ends.TooLong may_leave now was is_now work input before h = h
 
 answered_ask : (may_leave : Image → Type 0) (now : Shown) (session : Session) (work : Work) (ask : Ask) (before : List ℕ) → IsAt may_leave now session (work_after work ask) (before ++ reply_text (reply_to work ask)) → IsAnswered may_leave now work ask before
 answered_ask may_leave now session work ask before h = record {

@@ -1,13 +1,15 @@
 -- The first items of an input are the front of all its items, and so are their replies.
 use Rattle.std.proofs.Common.{All, ◌≡◌, ◌⊎◌, inl, inr, ℕ, ◌≤◌, List, [], ◌∷◌, ◌++◌, length, take, drop, refl, sym, ap, subst, ◌∙◌, Option, Some, None, Bool, true, false, append_assoc, arith, length-append, take-append-drop}
 use Rattle.std.proofs.lemmas.List.{append-nil}
-use Rattle.std.proofs.lemmas.List.Elements.{All-cons, All-nil, All-push, All-same}
+use Rattle.std.proofs.lemmas.List.Elements.{All-cons, All-head, All-nil, All-push, All-same, All-tail}
 use Rattle.s80_chunk.specs.declared.item.Item.{Item}
 use Rattle.s80_chunk.specs.declared.item.Role.TheVariants.{Plain}
-use Rattle.s80_chunk.specs.Chunks.{Reads, IsBlank, item_of}
+use Rattle.s80_chunk.specs.Chunks.{Reads, IsBlank, IsSound, item_of}
 use Rattle.s80_line.specs.Line.{number_of}
 use Rattle.s80_chunk.proofs.lemmas.Reading.{one_reading}
+use Rattle.s80_chunk.proofs.Sound.{reads_sound}
 use Rattle.s80_chunk.proofs.Stopping.{reads_prefix}
+use Rattle.s80_change.specs.declared.change.Change.{Change}
 use Rattle.s80_disk.specs.Image.{Image}
 use Rattle.s80_machine.specs.Came.{RanValue}
 use Rattle.s80_model.specs.declared.item.SessionItem.{SessionItem}
@@ -17,16 +19,22 @@ use Rattle.s80_model.specs.Replies.{AllAsk, AsksIn, Work, reply_to, reply_text, 
 use Rattle.s80_model.specs.Settings.{Settings}
 use Rattle.s80_model.proofs.lemmas.Timed.{chunks_timed}
 use Rattle.s80_disk.specs.Shown.{Shown, Faults}
+use Rattle.s80_joining.specs.declared.outcome.Outcome.{Outcome}
+use Rattle.s80_joining.specs.Answer.{reply_text as merge_text}
+use Rattle.s80_joining.specs.Outcome.{IsOutcome, MergesTo}
+use Rattle.s80_joining.specs.Parts.{base_of, ours_of}
+use Rattle.s80_joining.specs.Theirs.{IsGiven}
 use Rattle.s80_make.specs.declared.tally.Tally.{Tally}
 use Rattle.s80_make.specs.Tally.{CountsAll, made_line, nothing}
 use Rattle.s80_session.specs.Making.{Made, MakeAsks, MakeUntold}
+use Rattle.s80_session.specs.Merging.{InputMergesTo, MergeUntold, Merged}
 use Rattle.s80_session.specs.Run.{chunks, ItemsOf, FirstItemsOf, AsksOf, BrokeOff, FirstAsksOf, WholeAsksOf, Finished, LostDisk, Unanswered, Unevaluated, input_limit}
 use Rattle.s80_session.proofs.Taking.{first_of}
 use Rattle.s80_program.specs.declared.status.Status.{Status}
 use Rattle.s80_program.specs.declared.status.Status.TheVariants as status
-use Rattle.s80_program.specs.Command.{Command, Job, Run, Do, Tell, Make, Takes, Works, Makes, IsTimedJob, behind_separators}
+use Rattle.s80_program.specs.Command.{Command, Job, Run, Merge, Do, Tell, Make, Takes, Merges, Works, Makes, IsTimedJob, behind_separators}
 use Rattle.s80_program.specs.Ending.{NoFault, StatusHasReason, IsWhole}
-use Rattle.s80_program.specs.Leaves.{AllAsksFor, IsAnswered, IsWithin, ItemLeaves, Leaves, LeavesFor, MakeLeaves, PutsFront, RunLeaves, WritesFor}
+use Rattle.s80_program.specs.Leaves.{AllAsksFor, IsAnswered, IsWithin, ItemLeaves, Leaves, LeavesFor, MakeLeaves, MergeLeaves, PutsFront, RunLeaves, WritesFor}
 use Rattle.s80_program.proofs.Again.{OneList, goes_on_asking}
 
 chunks_append : (given more : List Item) → chunks (given ++ more) ≡ chunks given ++ chunks more
@@ -193,26 +201,30 @@ OneMaking = (work : Work) (count : ℕ) (asks others : List Ask) → MakeAsks wo
 abbrev pub OneTally : Type 0
 OneTally = (work : Work) (asks : List Ask) (tally other : Tally) → CountsAll work asks nothing tally → CountsAll work asks nothing other → other ≡ tally
 
+-- the line that is written to it
+abbrev MakeWrites : Work → ℕ → List Ask → List ℕ → Type 0
+MakeWrites work count all bytes = (tally : Tally) × CountsAll work all nothing tally × (bytes ≡ made_line count tally)
+
 -- so the line is one
 same_tally : OneMaking → OneTally → (work : Work) (count : ℕ) (asks all : List Ask) (one other : Tally) → MakeAsks work count asks → MakeAsks work count all → CountsAll work asks nothing one → CountsAll work all nothing other → other ≡ one
 same_tally list tally work count asks all one other h whole counted counts =
     let P : List Ask → Type 0 = λ l. CountsAll work l nothing other in
     tally work asks one other counted (subst P (list work count asks all h whole) counts)
 
-made_front : OneMaking → OneTally → (may_leave : Image → Type 0) (now : Shown) (work : Work) (count : ℕ) (before : List ℕ) (all : List Ask) (bytes : List ℕ) (troubled : Bool) (was ran : Option RanValue) → Made may_leave now work count before troubled was ran → MakeAsks work count all → WritesFor (Makes count) work all bytes → PutsFront now.taken before bytes
+made_front : OneMaking → OneTally → (may_leave : Image → Type 0) (now : Shown) (work : Work) (count : ℕ) (before : List ℕ) (all : List Ask) (bytes : List ℕ) (troubled : Bool) (was ran : Option RanValue) → Made may_leave now work count before troubled was ran → MakeAsks work count all → MakeWrites work count all bytes → PutsFront now.taken before bytes
 made_front list tally may_leave now work count before all bytes troubled was ran h whole (other, counts, is) =
     let line = made_line count h.tally in
     let same = same_tally list tally work count h.asks all h.tally other h.all whole h.counted counts in
     (line, [], h.taken, is ∙ ap (λ t. made_line count t) same ∙ sym (append-nil line))
 
 -- a front of it was put
-untold_front : OneMaking → OneTally → (may_leave : Image → Type 0) (now : Shown) (work : Work) (count : ℕ) (before : List ℕ) (all : List Ask) (bytes : List ℕ) → MakeUntold may_leave now work count before → MakeAsks work count all → WritesFor (Makes count) work all bytes → PutsFront now.taken before bytes
+untold_front : OneMaking → OneTally → (may_leave : Image → Type 0) (now : Shown) (work : Work) (count : ℕ) (before : List ℕ) (all : List Ask) (bytes : List ℕ) → MakeUntold may_leave now work count before → MakeAsks work count all → MakeWrites work count all bytes → PutsFront now.taken before bytes
 untold_front list tally may_leave now work count before all bytes h whole (other, counts, is) =
     let line = made_line count h.tally in
     let same = same_tally list tally work count h.asks all h.tally other h.all whole h.counted counts in
     (take h.told line, drop h.told line, h.taken, is ∙ ap (λ t. made_line count t) same ∙ sym (take-append-drop h.told line))
 
-make_front : OneMaking → OneTally → (s : Status) (may_leave : Image → Type 0) (now : Shown) (work : Work) (count : ℕ) (before : List ℕ) (all : List Ask) (bytes : List ℕ) → MakeLeaves s may_leave now work count before → MakeAsks work count all → WritesFor (Makes count) work all bytes → PutsFront now.taken before bytes
+make_front : OneMaking → OneTally → (s : Status) (may_leave : Image → Type 0) (now : Shown) (work : Work) (count : ℕ) (before : List ℕ) (all : List Ask) (bytes : List ℕ) → MakeLeaves s may_leave now work count before → MakeAsks work count all → MakeWrites work count all bytes → PutsFront now.taken before bytes
 make_front list tally status.Done may_leave now work count before all bytes h whole writes = made_front list tally may_leave now work count before all bytes false None h.0 h.1 whole writes
 make_front list tally status.DoneWithRefusals may_leave now work count before all bytes h whole writes = made_front list tally may_leave now work count before all bytes true None h.0 h.1 whole writes
 make_front list tally status.Usage may_leave now work count before all bytes h whole writes = absurd h
@@ -223,15 +235,66 @@ make_front list tally status.Damaged may_leave now work count before all bytes h
 make_front list tally status.OutOfMemory may_leave now work count before all bytes h whole writes = nothing_put now before bytes h.taken
 make_front list tally status.InputTooLong may_leave now work count before all bytes h whole writes = absurd h
 
+-- ---- where an input is merged
+
+-- merging items comes to one thing
+abbrev pub OneOutcome : Type 0
+OneOutcome = (base ours : List Change) (items : List SessionItem) → All IsGiven items → (one other : Outcome) → IsOutcome base ours items one → IsOutcome base ours items other → one ≡ other
+
+chunks_given : (given : List Item) → All IsSound given → All IsGiven (chunks given)
+chunks_given [] all = All-nil IsGiven
+chunks_given (item ∷ given) all = All-cons IsGiven (Chunk item) (chunks given) (All-head IsSound item given all) (chunks_given given (All-tail IsSound item given all))
+
+-- what an input gives is sound
+items_given : (input : List ℕ) (items : List SessionItem) → ItemsOf input items → All IsGiven items
+items_given input items (given, rest, reading, inl (blank, is)) = All-same IsGiven items (chunks given) is (chunks_given given (reads_sound true false input given rest reading.reads))
+items_given input items (given, rest, reading, inr (not, is)) =
+    All-same IsGiven items (chunks given ++ Unended ∷ []) is (All-push IsGiven (chunks given) Unended (chunks_given given (reads_sound true false input given rest reading.reads)) tt)
+
+-- so merging an input comes to one thing
+same_outcome : OneOutcome → (changes : List Change) (input : List ℕ) (one other : Outcome) → InputMergesTo changes input one → InputMergesTo changes input other → other ≡ one
+same_outcome law changes input one other (items, all, h) (others, whole, k) =
+    let P : List SessionItem → Type 0 = λ l. MergesTo changes l other in
+    law (base_of changes) (ours_of changes) items (items_given input items all) other one (subst P (one_list input others items whole all) k) h
+
+-- the reply that is written to it
+abbrev MergeWrites : Work → List ℕ → List ℕ → Type 0
+MergeWrites work input bytes = (outcome : Outcome) × InputMergesTo work.changes input outcome × (bytes ≡ merge_text work.changes outcome)
+
+merged_front : OneOutcome → (may_leave : Image → Type 0) (now : Shown) (work : Work) (input before bytes : List ℕ) (troubled : Bool) → Merged may_leave now work input before troubled → MergeWrites work input bytes → PutsFront now.taken before bytes
+merged_front law may_leave now work input before bytes troubled h (other, comes, is) =
+    let text = merge_text work.changes h.outcome in
+    let same = same_outcome law work.changes input h.outcome other h.comes comes in
+    (text, [], h.taken, is ∙ ap (λ o. merge_text work.changes o) same ∙ sym (append-nil text))
+
+-- a front of it was put
+half_told_front : OneOutcome → (may_leave : Image → Type 0) (now : Shown) (work : Work) (input before bytes : List ℕ) → MergeUntold may_leave now work input before → MergeWrites work input bytes → PutsFront now.taken before bytes
+half_told_front law may_leave now work input before bytes h (other, comes, is) =
+    let text = merge_text work.changes h.outcome in
+    let same = same_outcome law work.changes input h.outcome other h.comes comes in
+    (take h.told text, drop h.told text, h.taken, is ∙ ap (λ o. merge_text work.changes o) same ∙ sym (take-append-drop h.told text))
+
+merge_front : OneOutcome → (s : Status) (may_leave : Image → Type 0) (now : Shown) (work : Work) (input before bytes : List ℕ) → MergeLeaves s may_leave now work input before → MergeWrites work input bytes → PutsFront now.taken before bytes
+merge_front law status.Done may_leave now work input before bytes h writes = merged_front law may_leave now work input before bytes false h writes
+merge_front law status.DoneWithRefusals may_leave now work input before bytes h writes = merged_front law may_leave now work input before bytes true h writes
+merge_front law status.Usage may_leave now work input before bytes h writes = absurd h
+merge_front law status.ReadFault may_leave now work input before bytes h writes = nothing_put now before bytes h.1.taken
+merge_front law status.WriteFault may_leave now work input before bytes h writes = half_told_front law may_leave now work input before bytes h writes
+merge_front law status.DiskFault may_leave now work input before bytes h writes = nothing_put now before bytes h.taken
+merge_front law status.Damaged may_leave now work input before bytes h writes = absurd h
+merge_front law status.OutOfMemory may_leave now work input before bytes h writes = nothing_put now before bytes h.taken
+merge_front law status.InputTooLong may_leave now work input before bytes h writes = nothing_put now before bytes h.1.taken
+
 -- whatever is worked and the status, a front of all that is written to it was put
-pub front_of : OneList → OneMaking → OneTally → (job : Job) (s : Status) (may_leave : Image → Type 0) (now : Shown) (work : Work) (input before : List ℕ) (all : List Ask) (bytes : List ℕ) → IsTimedJob work.settings job → LeavesFor job s may_leave now work input before → AllAsksFor job work input all → WritesFor job work all bytes → PutsFront now.taken before bytes
-front_of one list tally Takes s may_leave now work input before all bytes timed h whole writes =
+pub front_of : OneList → OneMaking → OneTally → OneOutcome → (job : Job) (s : Status) (may_leave : Image → Type 0) (now : Shown) (work : Work) (input before : List ℕ) (all : List Ask) (bytes : List ℕ) → IsTimedJob work.settings job → LeavesFor job s may_leave now work input before → AllAsksFor job work input all → WritesFor job work input all bytes → PutsFront now.taken before bytes
+front_of one list tally outcome Takes s may_leave now work input before all bytes timed h whole writes =
     let P : List ℕ → Type 0 = λ l. PutsFront now.taken before l in
     subst P (sym writes) (run_front one s may_leave now work input before all h whole)
-front_of one list tally (Works item) s may_leave now work input before all bytes timed h whole writes =
+front_of one list tally outcome Merges s may_leave now work input before all bytes timed h whole writes = merge_front outcome s may_leave now work input before bytes h writes
+front_of one list tally outcome (Works item) s may_leave now work input before all bytes timed h whole writes =
     let P : List ℕ → Type 0 = λ l. PutsFront now.taken before l in
     subst P (sym writes) (item_front one s may_leave now work item before all timed h.0 whole)
-front_of one list tally (Makes count) s may_leave now work input before all bytes timed h whole writes = make_front list tally s may_leave now work count before all bytes h.0 whole writes
+front_of one list tally outcome (Makes count) s may_leave now work input before all bytes timed h whole writes = make_front list tally s may_leave now work count before all bytes h.0 whole writes
 
 longer : (got left : List ℕ) (next : ℕ) (input : List ℕ) → input ≡ got ++ next ∷ left → length got ≡ input_limit → length input ≤ input_limit → ⊥
 longer got left next input is limit within =
@@ -271,8 +334,20 @@ make_whole status.Damaged old new may_leave now work count before h reason none 
 make_whole status.OutOfMemory old new may_leave now work count before h reason none = tt
 make_whole status.InputTooLong old new may_leave now work count before h reason none = absurd h
 
+merge_whole : (s : Status) (old new : Faults) (may_leave : Image → Type 0) (now : Shown) (work : Work) (input before : List ℕ) → MergeLeaves s may_leave now work input before → StatusHasReason old new s → NoFault old new → length input ≤ input_limit → IsWhole s
+merge_whole status.Done old new may_leave now work input before h reason none within = tt
+merge_whole status.DoneWithRefusals old new may_leave now work input before h reason none within = tt
+merge_whole status.Usage old new may_leave now work input before h reason none within = absurd h
+merge_whole status.ReadFault old new may_leave now work input before h reason none within = absurd (none.read reason)
+merge_whole status.WriteFault old new may_leave now work input before h reason none within = absurd (none.write reason)
+merge_whole status.DiskFault old new may_leave now work input before h reason none within = absurd (none.disk reason)
+merge_whole status.Damaged old new may_leave now work input before h reason none within = absurd h
+merge_whole status.OutOfMemory old new may_leave now work input before h reason none within = tt
+merge_whole status.InputTooLong old new may_leave now work input before h reason none within = absurd (longer h.0.got h.0.left h.0.next input h.0.input_is h.0.limit within)
+
 pub whole_without_fault : (command : Command) (s : Status) (old new : Faults) (may_leave : Image → Type 0) (now : Shown) (work : Work) (input before : List ℕ) → Leaves command s may_leave now work input before → StatusHasReason old new s → NoFault old new → IsWithin command input → IsWhole s
 whole_without_fault Run s old new may_leave now work input before h reason none within = run_whole s old new may_leave now work input before h reason none within
+whole_without_fault Merge s old new may_leave now work input before h reason none within = merge_whole s old new may_leave now work input before h reason none within
 whole_without_fault (Do text) s old new may_leave now work input before h reason none within = item_whole s old new may_leave now work (Chunk (item_of Plain (behind_separators text))) before h.0 reason none
 whole_without_fault (Tell query) s old new may_leave now work input before h reason none within = item_whole s old new may_leave now work (Query query) before h.0 reason none
 whole_without_fault (Make count) s old new may_leave now work input before h reason none within = make_whole s old new may_leave now work (number_of count) before h.0 reason none

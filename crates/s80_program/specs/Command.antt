@@ -14,9 +14,11 @@ use Rattle.s80_model.specs.declared.item.SessionItem.TheVariants.{Chunk, Query}
 use Rattle.s80_model.specs.Settings.{Settings}
 use Rattle.s80_session.specs.Files.{IsQuestion}
 
--- to work the items of the input, or one item: the chunk of a text, or what stands beside an input; or to make as many classes as a word says
+-- to work the items of the input, or to merge them as a second change set; or one item: the chunk of a text, or what stands beside an input; or to
+-- make as many classes as a word says
 pub data Command : Type 0 where
   Run : Command
+  Merge : Command
   Do : List ℕ → Command
   Tell : SessionQuery → Command
   Make : List ℕ → Command
@@ -24,6 +26,7 @@ pub data Command : Type 0 where
 -- the word that names a command, and the words behind it
 abbrev pub command_word : Command → List ℕ
 command_word Run = codes "run"
+command_word Merge = codes "merge"
 command_word (Do text) = codes "do"
 command_word (Tell Recover) = codes "recover"
 command_word (Tell Classes) = codes "classes"
@@ -46,6 +49,7 @@ command_word (Make count) = codes "make"
 
 abbrev pub arguments_of : Command → List (List ℕ)
 arguments_of Run = []
+arguments_of Merge = []
 arguments_of (Do text) = text ∷ []
 arguments_of (Tell Recover) = []
 arguments_of (Tell Classes) = []
@@ -73,19 +77,22 @@ behind_separators text = drop (prefix_len is_separator text) text
 -- there is something to do: a number of classes has one to four digits, and is from 1 to 1,000
 abbrev pub IsUseful : Command → Type 0
 IsUseful Run = Unit {0}
+IsUseful Merge = Unit {0}
 IsUseful (Do text) = behind_separators text ≢ []
 IsUseful (Tell query) = Unit {0}
 IsUseful (Make count) = IsTrue (is_number 4 1000 count)
 
--- what a command works: the items of the input, one item, or those of so many classes
+-- what a command works: the items of the input, those as a second change set, one item, or those of so many classes
 pub data Job : Type 0 where
   Takes : Job
+  Merges : Job
   Works : SessionItem → Job
   Makes : ℕ → Job
 
 -- a text is a plain chunk
 abbrev pub job_of : Command → Job
 job_of Run = Takes
+job_of Merge = Merges
 job_of (Do text) = Works (Chunk (item_of Plain (behind_separators text)))
 job_of (Tell query) = Works (Query query)
 job_of (Make count) = Makes (number_of count)
@@ -102,6 +109,7 @@ settings_of options moment = record { budget = options.budget; kept_versions = o
 -- what it asks is one thing: where it files out, the clock tells its seconds
 abbrev pub IsTimedJob : Settings → Job → Type 0
 IsTimedJob settings Takes = Unit {0}
+IsTimedJob settings Merges = Unit {0}
 IsTimedJob settings (Works item) = IsTimed settings item
 IsTimedJob settings (Makes count) = Unit {0}
 
@@ -111,6 +119,7 @@ IsTimedCommand options moment command = IsTimedJob (settings_of options moment) 
 -- it asks for something to be told, and no more
 abbrev pub IsAskingCommand : Command → Type 0
 IsAskingCommand Run = ⊥
+IsAskingCommand Merge = ⊥
 IsAskingCommand (Do text) = ⊥
 IsAskingCommand (Tell query) = IsQuestion query
 IsAskingCommand (Make count) = ⊥

@@ -8,14 +8,18 @@ use Rattle.s80_machine.specs.Came.{RanValue}
 use Rattle.s80_model.specs.declared.item.SessionItem.{SessionItem}
 use Rattle.s80_model.specs.Asked.{Ask, evaluates}
 use Rattle.s80_model.specs.Replies.{AllAsk, AsksIn, Work, begun, is_trouble, replies, reply_text, reply_to, work_after}
+use Rattle.s80_joining.specs.declared.outcome.Outcome.{Outcome}
+use Rattle.s80_joining.specs.Answer.{reply_text as merge_text}
+use Rattle.s80_joining.specs.Outcome.{asks_of}
 use Rattle.s80_make.specs.declared.tally.Tally.{Tally}
 use Rattle.s80_make.specs.Tally.{CountsAll, made_line, nothing}
 use Rattle.s80_session.specs.Making.{Made, MakeAsks, MakeKeeps, MakeLost, MakeStopped, MakeUntold}
+use Rattle.s80_session.specs.Merging.{InputMergesTo, IsCutOff, IsTooLong, IsUnmerged, MergeKeeps, MergeLost, MergeStopped, MergeUntold, Merged}
 use Rattle.s80_session.specs.Run.{HasKept, ShownFor, Answered, Finished, CutOff, TooLong, BrokeOff, Unanswered, Unevaluated, LostDisk, Keeps, AsksOf, input_limit}
 use Rattle.s80_session.specs.Working.{IsLost, IsPast, StepLeaves}
 use Rattle.s80_program.specs.declared.status.Status.{Status}
 use Rattle.s80_program.specs.declared.status.Status.TheVariants as status
-use Rattle.s80_program.specs.Command.{Command, Job, Options, Run, Do, Tell, Make, Takes, Works, Makes, job_of, settings_of}
+use Rattle.s80_program.specs.Command.{Command, Job, Options, Run, Merge, Do, Tell, Make, Takes, Merges, Works, Makes, job_of, settings_of}
 
 -- an outside that tells its contents: what its disk reads stands for this list, this input is left, and these bytes were taken
 pub record StartsWith (may_leave : Image → Type 0) (o : Shown) (changes : List Change) (input before : List ℕ) : Type 0 where
@@ -78,9 +82,22 @@ MakeLeaves status.Damaged may_leave now work count before = ⊥
 MakeLeaves status.OutOfMemory may_leave now work count before = MakeStopped may_leave now work count before
 MakeLeaves status.InputTooLong may_leave now work count before = ⊥
 
--- what a command leaves, by the status: a run works the input, and each other command takes none
+-- what is left where the input is merged as a second change set, by the status
+abbrev pub MergeLeaves : Status → (Image → Type 0) → Shown → Work → List ℕ → List ℕ → Type 0
+MergeLeaves status.Done may_leave now work input before = Merged may_leave now work input before false
+MergeLeaves status.DoneWithRefusals may_leave now work input before = Merged may_leave now work input before true
+MergeLeaves status.Usage may_leave now work input before = ⊥
+MergeLeaves status.ReadFault may_leave now work input before = IsCutOff now input × IsUnmerged may_leave now work before
+MergeLeaves status.WriteFault may_leave now work input before = MergeUntold may_leave now work input before
+MergeLeaves status.DiskFault may_leave now work input before = MergeLost may_leave now work input before
+MergeLeaves status.Damaged may_leave now work input before = ⊥
+MergeLeaves status.OutOfMemory may_leave now work input before = MergeStopped may_leave now work input before
+MergeLeaves status.InputTooLong may_leave now work input before = IsTooLong now input × IsUnmerged may_leave now work before
+
+-- what a command leaves, by the status: a run works the input, a merge merges it, and each other command takes none
 abbrev pub LeavesFor : Job → Status → (Image → Type 0) → Shown → Work → List ℕ → List ℕ → Type 0
 LeavesFor Takes status may_leave now work input before = RunLeaves status may_leave now work input before
+LeavesFor Merges status may_leave now work input before = MergeLeaves status may_leave now work input before
 LeavesFor (Works item) status may_leave now work input before = ItemLeaves status may_leave now work item before × (now.left ≡ Some input)
 LeavesFor (Makes count) status may_leave now work input before = MakeLeaves status may_leave now work count before × (now.left ≡ Some input)
 
@@ -91,6 +108,7 @@ Leaves command = LeavesFor (job_of command)
 -- whose reply is among the bytes told
 abbrev pub KeepsFor : Job → Work → List ℕ → List ℕ → ℕ → Image → Type 0
 KeepsFor Takes work input before told c = Keeps work input before told c
+KeepsFor Merges work input before told c = MergeKeeps work input before told c
 KeepsFor (Works item) work input before told c = StepLeaves work before item told c
 KeepsFor (Makes count) work input before told c = MakeKeeps work count before told c
 
@@ -101,22 +119,24 @@ CommandKeeps command = KeepsFor (job_of command)
 abbrev pub KilledKeeps : Command → Work → List Change → List ℕ → List ℕ → ℕ → Image → Type 0
 KilledKeeps command work was input before told c = HasKept was (length before) told c ⊎ CommandKeeps command work input before told c
 
--- all that a command asks
+-- all that a command asks: a merge asks to add the changes that it comes to, up to the first that is refused
 abbrev pub AllAsksFor : Job → Work → List ℕ → List Ask → Type 0
 AllAsksFor Takes work input all = AsksOf work input all
+AllAsksFor Merges work input all = (outcome : Outcome) × InputMergesTo work.changes input outcome × (all ≡ asks_of work.changes outcome)
 AllAsksFor (Works item) work input all = AllAsk work (item ∷ []) all
 AllAsksFor (Makes count) work input all = MakeAsks work count all
 
 abbrev pub AllAsks : Command → Work → List ℕ → List Ask → Type 0
 AllAsks command = AllAsksFor (job_of command)
 
--- the bytes that are written to all that is asked: the replies, or where classes are made one line for all of it
-abbrev pub WritesFor : Job → Work → List Ask → List ℕ → Type 0
-WritesFor Takes work all bytes = bytes ≡ replies work all
-WritesFor (Works item) work all bytes = bytes ≡ replies work all
-WritesFor (Makes count) work all bytes = (tally : Tally) × CountsAll work all nothing tally × (bytes ≡ made_line count tally)
+-- the bytes that are written to all that is asked: the replies, or where classes are made or an input is merged one reply to all of it
+abbrev pub WritesFor : Job → Work → List ℕ → List Ask → List ℕ → Type 0
+WritesFor Takes work input all bytes = bytes ≡ replies work all
+WritesFor Merges work input all bytes = (outcome : Outcome) × InputMergesTo work.changes input outcome × (bytes ≡ merge_text work.changes outcome)
+WritesFor (Works item) work input all bytes = bytes ≡ replies work all
+WritesFor (Makes count) work input all bytes = (tally : Tally) × CountsAll work all nothing tally × (bytes ≡ made_line count tally)
 
-abbrev pub Writes : Command → Work → List Ask → List ℕ → Type 0
+abbrev pub Writes : Command → Work → List ℕ → List Ask → List ℕ → Type 0
 Writes command = WritesFor (job_of command)
 
 -- a front of these bytes was put behind those before
@@ -126,6 +146,7 @@ PutsFront taken before bytes = (put more : List ℕ) × (taken ≡ Some (before 
 -- the input isn't too long for the command
 abbrev pub IsWithin : Command → List ℕ → Type 0
 IsWithin Run input = length input ≤ input_limit
+IsWithin Merge input = length input ≤ input_limit
 IsWithin (Do text) input = Unit {0}
 IsWithin (Tell query) input = Unit {0}
 IsWithin (Make count) input = Unit {0}

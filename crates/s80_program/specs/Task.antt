@@ -3,10 +3,11 @@ use Rattle.s80_model.specs.declared.item.Filed.TheVariants.{All, Class, Set}
 use Rattle.s80_model.specs.declared.item.Query.TheVariants.{Recover, Classes, Browse, Source, Versions, Changes, Condense, FileOut, Senders, Implementors, References, Undeclared, Unimplemented, Unsent, Snapshot}
 use Rattle.s80_program.specs.declared.words.Task.{Task}
 use Rattle.s80_program.specs.declared.words.Task.TheVariants as tasks
-use Rattle.s80_program.specs.Command.{Command, Run, Do, Tell, Make}
+use Rattle.s80_program.specs.Command.{Command, Run, Merge, Do, Tell, Make}
 
 abbrev pub command_of : Task → Command
 command_of tasks.Run = Run
+command_of tasks.Merge = Merge
 command_of (tasks.Do text) = Do text.now
 command_of tasks.Recover = Tell Recover
 command_of tasks.Classes = Tell Classes

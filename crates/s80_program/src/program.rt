@@ -18,11 +18,12 @@ ghost use Rattle.s80_session.specs.Run.{Keeps, ShownFor};
 ghost use Rattle.s80_session.specs.Session.{last_run_of, troubled_of, IsResting};
 ghost use Rattle.s80_session.specs.Working.{IsAt, IsReadable, StepLeaves};
 ghost use Rattle.s80_program.specs.Ending.{IsDiskEnd, IsUnread, NoFault, StatusHasReason, status_after, IsWhole};
-ghost use Rattle.s80_program.specs.Leaves.{StartsWith, Leaves, RunLeaves, ItemLeaves, MakeLeaves, CommandKeeps, KilledKeeps, AllAsks, IsWithin, PutsFront, Writes, TellsDamage, beginning};
+ghost use Rattle.s80_program.specs.Leaves.{StartsWith, Leaves, RunLeaves, ItemLeaves, MakeLeaves, MergeLeaves, CommandKeeps, KilledKeeps, AllAsks, IsWithin, PutsFront, Writes, TellsDamage, beginning};
 ghost use Rattle.s80_program.specs.Command.{Command, Options, IsAskingCommand, IsTimedCommand, IsUseful, behind_separators, job_of};
 ghost use Rattle.s80_program.specs.Words.{Asks, options_in};
 ghost use Rattle.s80_line.specs.Line.{is_number, number_of};
 ghost use Rattle.s80_session.specs.Making.{MakeKeeps};
+ghost use Rattle.s80_session.specs.Merging.{MergeKeeps};
 ghost use Rattle.s80_program.specs.Job.{SuitsJob, shown_job};
 ghost use Rattle.s80_program.specs.Task.{command_of};
 
@@ -32,6 +33,7 @@ use crate::words::{DIGITS, MOST, Task, behind_separators, task_of};
 use s80_base::{OutOfMemory, Text};
 use s80_chunk::{Item, Role};
 use s80_disk::Outside;
+use s80_joining::merging_has_one_outcome;
 use s80_line::{Line, number_in, read_line};
 use s80_make::{make_has_one_line, text_item};
 use s80_model::{Filed, Query, SessionItem, one_ask};
@@ -44,7 +46,8 @@ use std::alloc::Global;
 /// `versions SPEC SELECTOR` all that it has been, `changes` lists the change set, `recover` says how much there is, and `snapshot` keeps a note.
 /// `file-out`, `file-out-class NAME` and `file-out-set` write all classes, one and the change set as a file that `run` takes. `condense` has a
 /// list take the place of the folder's that makes the same classes and methods, and has as many of the newest versions of each method as `--keep`
-/// says. `make N` makes N classes, to try the folder at size, and writes one line.
+/// says. `make N` makes N classes, to try the folder at size, and writes one line. `merge` takes the input as a second change set that starts from
+/// where the folder's own does, and writes where the two are in conflict, or adds its changes.
 pub fn st80<O: Outside>(alloc: Global, words: &[Text], outside: &mut O) -> Status
     // Bad usage is answered exactly where the words ask for nothing, and then the outside isn't called.
     ensures usage { result ≡ Status.Usage
@@ -83,7 +86,7 @@ pub fn st80<O: Outside>(alloc: Global, words: &[Text], outside: &mut O) -> Statu
         → StartsWith (O.may_leave outside.old) (O.shown outside.old) changes input before
         → IsTimedCommand options (O.shown outside.old).seconds command
         → AllAsks command (beginning options (O.shown outside.old).seconds changes) input asks
-        → (bytes : List ℕ) → Writes command (beginning options (O.shown outside.old).seconds changes) asks bytes
+        → (bytes : List ℕ) → Writes command (beginning options (O.shown outside.old).seconds changes) input asks bytes
         → PutsFront (O.shown outside.new).taken before bytes }
 
     // With no fault and an input within the limit it comes to the end, or is out of memory.
@@ -112,6 +115,7 @@ pub fn st80<O: Outside>(alloc: Global, words: &[Text], outside: &mut O) -> Statu
 {
     one_ask();
     make_has_one_line();
+    merging_has_one_outcome();
     let Ok(line) = read_line(alloc, words) else {
         return Status::OutOfMemory;
     };
@@ -196,6 +200,7 @@ fn do_task<O: Outside>(
 {
     match job_of(alloc, task)? {
         Job::Takes => run_input(session, alloc, outside),
+        Job::Merges => merge_input(session, alloc, outside),
         Job::Works(item) => answer_item(session, alloc, item, outside),
         Job::Makes(classes) => make_classes(session, alloc, classes, outside),
     }
@@ -205,6 +210,8 @@ fn do_task<O: Outside>(
 enum Job {
     /// The items of the input.
     Takes,
+    /// The items of the input, as a second change set.
+    Merges,
     /// One item.
     Works(SessionItem),
     /// The items of so many classes.
@@ -219,6 +226,7 @@ fn job_of(alloc: Global, task: Task<'_>) -> Result<Job, OutOfMemory>
 {
     let query = match task {
         Task::Run => return Ok(Job::Takes),
+        Task::Merge => return Ok(Job::Merges),
         Task::Do(text) => return Ok(Job::Works(SessionItem::Chunk(chunk_of(alloc, text)?))),
         Task::Make(count) => return Ok(Job::Makes(count_of(count))),
         Task::Recover => Query::Recover,
@@ -279,6 +287,26 @@ fn run_input<O: Outside>(
     ensures counts { SourceCounts (O.faults outside.old) (O.faults outside.new) result }
 {
     session.run_items(alloc, outside)?;
+    Ok(session.troubled())
+}
+
+/// Merges the input, a second change set. Says whether something was refused, or there are conflicts.
+fn merge_input<O: Outside>(
+    session: &mut Session,
+    alloc: Global,
+    outside: &mut O,
+) -> Result<bool, SessionEnd>
+    requires resting { IsResting session.old }
+    ensures worked { (options : Options) (changes : List Change) (input before : List ℕ) → (O.shown outside.old).left ≡ Some input → troubled_of session.old ≡ false
+        → IsAt (O.may_leave outside.old) (O.shown outside.old) session.old (beginning options (O.shown outside.old).seconds changes) before
+        → MergeLeaves (status_after result) (O.may_leave outside.new) (O.shown outside.new) (beginning options (O.shown outside.old).seconds changes) input before }
+    ensures any_moment { (options : Options) (changes : List Change) (input before : List ℕ) → (O.shown outside.old).left ≡ Some input
+        → IsAt (O.may_leave outside.old) (O.shown outside.old) session.old (beginning options (O.shown outside.old).seconds changes) before
+        → LeavesOnly O.moment O.left_since outside.old outside.new (MergeKeeps (beginning options (O.shown outside.old).seconds changes) input before) }
+    ensures sound { IsTrue (O.shown outside.old).tells → IsKnowing (O.shown outside.old) session.old → MeetsNoDamage result }
+    ensures counts { SourceCounts (O.faults outside.old) (O.faults outside.new) result }
+{
+    session.merge(alloc, outside)?;
     Ok(session.troubled())
 }
 

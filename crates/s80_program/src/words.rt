@@ -13,6 +13,8 @@ use s80_line::number_in;
 pub(crate) enum Task<'w> {
     /// Works the chunks of the input.
     Run,
+    /// Merges the chunks of the input, a second change set.
+    Merge,
     /// Works this text as a chunk.
     Do(&'w Text),
     /// Says how much there is in the folder.
@@ -61,6 +63,9 @@ fn task_alone(word: &Text) -> Option<Task<'static>>
     let bytes = word.bytes();
     if bytes == b"run".as_slice() {
         return Some(Task::Run);
+    }
+    if bytes == b"merge".as_slice() {
+        return Some(Task::Merge);
     }
     if bytes == b"recover".as_slice() {
         return Some(Task::Recover);

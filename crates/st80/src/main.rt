@@ -16,6 +16,7 @@ use fault::{predicate, subject};
 pub use places::Telling;
 pub use progress::Seen;
 pub use real::RealOutside;
+use s80_base::Text;
 pub use s80_disk::Failure;
 pub use s80_program::{Status, st80};
 use std::env;
@@ -27,7 +28,7 @@ use words::words_of;
 fn telling(rt: &HostRuntime) -> Telling {
     let is_seen = rt.stderr().is_terminal();
     if is_seen && rt.stdin().is_terminal() {
-        Telling::Prompts
+        Telling::PlacesAndPrompts
     } else if is_seen || env::var(rt, "ST80_EXPLAIN").is_ok() {
         Telling::Places
     } else {
@@ -47,12 +48,25 @@ fn seen(rt: &HostRuntime) -> Option<Seen> {
     })
 }
 
+/// Whether all of the input is answered by one reply, which has no place in it.
+fn answers_as_a_whole(words: &[Text]) -> bool {
+    match words.last() {
+        Some(word) => word.bytes() == b"merge".as_slice(),
+        None => false,
+    }
+}
+
 /// Runs on the standard streams and the machine's files. Says what failed first of the folder, too.
 fn run(rt: HostRuntime, telling: Telling) -> (Status, Option<Failure>) {
     let seen = seen(&rt);
     match words_of(rt.alloc(), env::args(&rt)) {
         Ok(words) => {
             let alloc = rt.alloc();
+            let telling = if answers_as_a_whole(&words) {
+                telling.without_places()
+            } else {
+                telling
+            };
             let mut outside = RealOutside::make(rt, telling, seen);
             let status = st80(alloc, &words, &mut outside);
             outside.clear_progress();
@@ -66,7 +80,7 @@ fn run(rt: HostRuntime, telling: Telling) -> (Status, Option<Failure>) {
 fn explain(rt: &HostRuntime, status: Status, failure: Option<Failure>) {
     if status == Status::Usage {
         let _ = eprintln!(rt;
-            "st80: COMMAND is run, do TEXT, recover, classes, browse N, source SPEC S, versions SPEC S, changes, file-out, file-out-class N, file-out-set, senders S, implementors S, references N, undeclared, unimplemented, unsent, condense, snapshot or make N; man st80 tells more"
+            "st80: COMMAND is run, do TEXT, recover, classes, browse N, source SPEC S, versions SPEC S, changes, file-out, file-out-class N, file-out-set, merge, senders S, implementors S, references N, undeclared, unimplemented, unsent, condense, snapshot or make N; man st80 tells more"
         );
     }
     if let (Status::DiskFault, Some(failure)) = (status, failure) {

@@ -18,8 +18,20 @@ pub enum Telling {
     Nothing,
     /// The place of each item that is refused or stopped.
     Places,
-    /// Places, and prompts to somebody who types.
+    /// Prompts to somebody who types.
     Prompts,
+    /// Places and prompts.
+    PlacesAndPrompts,
+}
+
+impl Telling {
+    /// The same, but for places.
+    pub(crate) fn without_places(self) -> Telling {
+        match self {
+            Telling::Nothing | Telling::Places => Telling::Nothing,
+            Telling::Prompts | Telling::PlacesAndPrompts => Telling::Prompts,
+        }
+    }
 }
 
 /// What is told of an item that is refused or stopped.
@@ -119,12 +131,14 @@ pub(crate) struct Places {
     is_due: bool,
     /// How many items ended.
     count: u64,
+    /// Places are told.
+    tells: bool,
     /// A line is asked for by a prompt.
     prompts: bool,
 }
 
 impl Places {
-    pub(crate) fn make(alloc: Global, prompts: bool) -> Places {
+    pub(crate) fn make(alloc: Global, tells: bool, prompts: bool) -> Places {
         Places {
             now: Place::first(),
             item: Item::at(alloc, Place::first()),
@@ -133,6 +147,7 @@ impl Places {
             ended: Item::at(alloc, Place::first()),
             is_due: false,
             count: 0,
+            tells,
             prompts,
         }
     }
@@ -204,7 +219,7 @@ impl Places {
     /// The last line of a reply with its place, if it is a refusal or a stop of an item whose place isn't told yet.
     pub(crate) fn told<'r>(&mut self, reply: &'r [u8]) -> Option<Told<'r>> {
         let line = last_line(reply);
-        if !self.is_due || !is_trouble(line) {
+        if !self.tells || !self.is_due || !is_trouble(line) {
             return None;
         }
         self.is_due = false;

@@ -31,8 +31,9 @@ impl Sight {
         };
         let places = match telling {
             Telling::Nothing => None,
-            Telling::Places => Some(Places::make(alloc, false)),
-            Telling::Prompts => Some(Places::make(alloc, true)),
+            Telling::Places => Some(Places::make(alloc, true, false)),
+            Telling::Prompts => Some(Places::make(alloc, false, true)),
+            Telling::PlacesAndPrompts => Some(Places::make(alloc, true, true)),
         };
         Sight { places, progress }
     }

@@ -8,7 +8,7 @@ use Rattle.s80_program.specs.Ending.{status_after}
 use Rattle.s80_program.specs.Job.{shown_job}
 use Rattle.s80_program.specs.Leaves.{KeepsFor, LeavesFor, beginning}
 use Rattle.s80_program.specs.Task.{command_of}
-use Rattle.s80_program.proofs.Asking.{item_asks, no_making, no_run}
+use Rattle.s80_program.proofs.Asking.{item_asks, no_making, no_merging, no_run}
 use Rattle.s80_program.proofs.Beginning.{no_memory, session_begins}
 use Rattle.s80_program.proofs.program.do_task.Goals as goal
 
@@ -30,6 +30,16 @@ pub returns-in-Takes-clause-any_moment : goal.returns-in-Takes-clause-any_moment
 returns-in-Takes-clause-any_moment g c = λ options changes input before left at.
     let P : Job → Type 0 = λ j. LeavesOnly g.O.Disk.moment g.O.Disk.left_since c.args.outside.now c.run_input.new.outside (KeepsFor j (beginning options (g.O.Outside.shown c.args.outside.now).seconds changes) input before) in
     subst P (ap shown_job (sym c.in-Takes.is) ∙ c.in_ok-job_of.ensures.job) (c.run_input.ensures.any_moment options changes input before left at)
+
+pub returns-in-Merges-clause-worked : goal.returns-in-Merges-clause-worked
+returns-in-Merges-clause-worked g c = λ options changes input before left calm no_last at.
+    let P : Job → Type 0 = λ j. LeavesFor j (status_after c.merge_input.result) (g.O.Disk.may_leave c.merge_input.new.outside) (g.O.Outside.shown c.merge_input.new.outside) (beginning options (g.O.Outside.shown c.args.outside.now).seconds changes) input before in
+    subst P (ap shown_job (sym c.in-Merges.is) ∙ c.in_ok-job_of.ensures.job) (c.merge_input.ensures.worked options changes input before left calm at)
+
+pub returns-in-Merges-clause-any_moment : goal.returns-in-Merges-clause-any_moment
+returns-in-Merges-clause-any_moment g c = λ options changes input before left at.
+    let P : Job → Type 0 = λ j. LeavesOnly g.O.Disk.moment g.O.Disk.left_since c.args.outside.now c.merge_input.new.outside (KeepsFor j (beginning options (g.O.Outside.shown c.args.outside.now).seconds changes) input before) in
+    subst P (ap shown_job (sym c.in-Merges.is) ∙ c.in_ok-job_of.ensures.job) (c.merge_input.ensures.any_moment options changes input before left at)
 
 pub returns-in-Works-clause-worked : goal.returns-in-Works-clause-worked
 returns-in-Works-clause-worked g c = λ options changes input before left calm no_last at.
@@ -53,6 +63,9 @@ returns-in-Makes-clause-any_moment g c = λ options changes input before left at
 
 pub returns-in-Takes-clause-asked : goal.returns-in-Takes-clause-asked
 returns-in-Takes-clause-asked g c = λ asks. absurd (no_run (command_of c.args.task) (sym c.in_ok-job_of.ensures.job ∙ ap shown_job c.in-Takes.is) asks)
+
+pub returns-in-Merges-clause-asked : goal.returns-in-Merges-clause-asked
+returns-in-Merges-clause-asked g c = λ asks. absurd (no_merging (command_of c.args.task) (sym c.in_ok-job_of.ensures.job ∙ ap shown_job c.in-Merges.is) asks)
 
 pub returns-in-Works-clause-asked : goal.returns-in-Works-clause-asked
 returns-in-Works-clause-asked g c = λ asks. c.answer_item.ensures.asked (item_asks (command_of c.args.task) c.in-Works.item (sym c.in_ok-job_of.ensures.job ∙ ap shown_job c.in-Works.is) asks)

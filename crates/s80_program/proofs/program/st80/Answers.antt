@@ -75,7 +75,7 @@ returns-in-Some-task_of-clause-killed g c = λ options command changes was input
 
 pub returns-in-Some-task_of-clause-front : goal.returns-in-Some-task_of-clause-front
 returns-in-Some-task_of-clause-front g c = λ options command changes input before asks asked start timed all bytes writes.
-    front_of c.one_ask.ensures.all c.make_has_one_line.ensures.asks c.make_has_one_line.ensures.tally (job_of command) (status_after c.work.result) (g.O.Disk.may_leave c.work.new.outside) (g.O.Outside.shown c.work.new.outside) (beginning options (g.O.Outside.shown c.args.outside.now).seconds changes) input before asks bytes timed (done g (goal.at.returns-in-Some-task_of-clause-front g c).After-work options command changes input before asked start) all writes
+    front_of c.one_ask.ensures.all c.make_has_one_line.ensures.asks c.make_has_one_line.ensures.tally c.merging_has_one_outcome.ensures (job_of command) (status_after c.work.result) (g.O.Disk.may_leave c.work.new.outside) (g.O.Outside.shown c.work.new.outside) (beginning options (g.O.Outside.shown c.args.outside.now).seconds changes) input before asks bytes timed (done g (goal.at.returns-in-Some-task_of-clause-front g c).After-work options command changes input before asked start) all writes
 
 pub returns-in-Some-task_of-clause-complete : goal.returns-in-Some-task_of-clause-complete
 returns-in-Some-task_of-clause-complete g c = λ options command changes input before asked start within none.
