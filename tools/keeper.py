@@ -412,6 +412,65 @@ def versions(changes, name, side, selector):
     return [change.put for change in changes if change.word == "method" and change.place() == (name, side, selector)]
 
 
+# ---- merging
+
+# The kinds of keys, in the order in which conflicts are told.
+KEYS = ["class", "definition", "class-variables", "comment", "method"]
+# The change that writes a key of its class alone.
+WRITES = {"class-variables": "class-variables", "comment": "comment"}
+
+
+def is_command(item):
+    """Whether it asks to condense, of which a merge takes no notice."""
+    try:
+        change = form_of(parse_doit(item.text)) if item.kind == "plain" and len(item.text) <= LONGEST else None
+    except Fault:
+        return False
+    return bool(change) and change.word == "condense"
+
+
+def base_of(changes):
+    """The changes of a list that a merge starts from: those up to and with the last that begins a set, without doIts."""
+    last = max((at + 1 for at, change in enumerate(changes) if change.word == "noChanges"), default=0)
+    return [change for change in changes[:last] if change.word not in ("doIt", "snapshot")]
+
+
+def keys_of(state, change):
+    """The keys that a change writes, and those that it uses, as it is worked in this state."""
+    name, side, selector = change.place()
+    own = {("class", name)}
+    if change.word == "define":
+        above = {(kind, other) for other in state.names_above(change.put.superclass) for kind in ("class", "definition")}
+        is_there = name in state.classes
+        return {("definition", name)} | (set() if is_there else own), above | (own if is_there else set())
+    if change.word == "remove-class":
+        return own | {("definition", name)}, own
+    if change.word in WRITES:
+        return {(WRITES[change.word], name)}, own
+    return {("method", name, side, selector)}, own
+
+
+def all_keys(state, changes):
+    """The keys that changes write and use, worked one after another."""
+    written, used = set(), set()
+    for change in changes:
+        writes, uses = keys_of(state, change)
+        written, used, state = written | writes, used | uses, state.after(change)
+    return written, used
+
+
+def conflicts_of(base, ours, theirs):
+    """The keys that one of two lists of changes writes, and the other writes or uses, both worked from one state; in their order."""
+    (written, used), (written_there, used_there) = all_keys(base, ours), all_keys(base, theirs)
+    found = written & (written_there | used_there) | written_there & used
+    return sorted(found, key=lambda key: (KEYS.index(key[0]), key[1], *(SIDES.index(word) if word in SIDES else word for word in key[2:])))
+
+
+def conflict_line(key):
+    of = spec(key[1], key[2]) + b" " + key[3] if key[0] == "method" else key[1]
+    return b"conflict " + key[0].encode() + b" " + of + b"\n"
+
+
 # ---- files of changes
 
 # The first line of such a file, by its moment, for which a word stands in what the model tells.
@@ -586,6 +645,57 @@ class Keeper:
             return [refused(work, b"11 too many methods %d" % count)] + too_large(work, text)
         return [accepted(work, Change("method", head.name, head.side, selector, (head.category, text)))] + too_large(work, text)
 
+    # -- merging
+
+    def merged(self, work, items):
+        """How a merge of these items may be answered, as a list of ways. Behind the reply of each stand the works that it goes through."""
+        state = self.kernel
+        for change in base_of(work.changes):
+            state = state.after(change)
+        theirs, refusal, may_be_large = self.theirs(state, items)
+        ways = [Merged(TooLarge(), True, [work])] if may_be_large else []
+        if refusal:
+            return [Merged(refusal, True, [work]), *ways]
+        conflicts = conflicts_of(state, change_set(work.changes), theirs)
+        if conflicts:
+            return [Merged(b"".join(map(conflict_line, conflicts)), True, [work]), *ways]
+        return [self.joined(work, theirs), *ways]
+
+    def theirs(self, state, items):
+        """The changes of the items, worked from a state; or the refusal of the first that is bad; and whether one up to there may be too large."""
+        work, changes, may_be_large = Work(state), [], False
+        for item in items:
+            if is_command(item):
+                continue
+            way, *others = self.ways(work, item)
+            may_be_large |= any(isinstance(other.reply, TooLarge) for other in others)
+            if isinstance(way.reply, bytes) and way.reply.startswith(b"refused "):
+                return changes, way.reply, may_be_large
+            if way.work.changes == work.changes:
+                work = way.work
+            elif way.work.changes[-1].word not in ("doIt", "snapshot", "noChanges"):
+                work = way.work
+                changes.append(work.changes[-1])
+        return changes, None, may_be_large
+
+    def joined(self, work, theirs):
+        """All of these changes are added, up to the first that is refused."""
+        works = [work]
+        for change in theirs:
+            refusal = self.refusal_behind(works[-1].state, change)
+            if refusal:
+                return Merged(merged_line(len(works) - 1) + b"refused " + refusal + b"\n", True, works)
+            works.append(works[-1].kept(change))
+        return Merged(merged_line(len(theirs)), False, works)
+
+    def refusal_behind(self, state, change):
+        if change.word != "method":
+            return refusal_of(state, self.kernel, change)
+        if change.name not in state.classes:
+            return b"4 unknown class " + change.name
+        count = len(state.side(change.name, change.side).keys() | {change.selector})
+        return b"11 too many methods %d" % count if count > METHODS else None
+
     # -- queries
 
     def told(self, work, command, *words):
@@ -676,6 +786,21 @@ class Keeper:
             return None, b"4 unknown class " + name
         told = tell(work.state.side(name, side).get(selector), versions(work.changes, name, side, selector))
         return (None, b"10 no selector " + named + b" " + selector) if told is None else told
+
+
+class Merged(NamedTuple):
+    """A reply to a merge, or its pattern; whether it is trouble; and the works before and behind each change that it adds."""
+
+    reply: object
+    is_trouble: bool
+    works: list
+
+    def fits(self, told):
+        return Way.fits(self, told)
+
+
+def merged_line(count):
+    return b"merged %d changes\n" % count
 
 
 class TooLarge:

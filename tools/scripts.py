@@ -6,6 +6,7 @@ from keeper import NOTE, spec, spell
 from trials import Command
 
 NAMES = [b"A", b"B", b"C", b"Dd"]
+KERNEL = [b"Object", b"Integer"]
 SELECTORS = [b"one", b"two", b"take:", b"from:to:", b"%", b"bump"]
 CATEGORIES = [b"accessing", b"it's", b"", b"a!b", b"more of it"]
 KINDS = [b"subclass:"] * 5 + [b"variableSubclass:", b"variableByteSubclass:", b"variableWordSubclass:"]
@@ -370,16 +371,34 @@ def seeking(chance):
     return Command(("references", chance.choice(WORDS * 2 + [b"Object", b"String"] + ODD_NAMES)))
 
 
+def other_set(chance):
+    """A few pieces of a change set that somebody else may have made: of kernel classes, which are there in any base, and of others."""
+    kinds = {
+        "comment": lambda: spell(loose(chance, *comment(chance, chance.choice(KERNEL)))) + b"\n",
+        "method": lambda: method(chance, chance.choice(KERNEL), chance.choice(SELECTORS), chance.choice([(), (b"class",)])),
+        "definition": lambda: spell(simple_definition(chance, chance.choice(NAMES), b"Object")) + b"\n",
+        "passed over": lambda: spell(chance.choice([doit(chance), b"Smalltalk " + chance.choice([b"noChanges", b"snapshot", b"condenseChanges"])])) + b"\n",
+        "tale": lambda: tale(chance),
+        "anything": lambda: chunks(chance, 1),
+    }
+    return b"".join(kinds[kind]() for kind in chance.choices([*kinds], [3, 4, 2, 2, 2, 1], k=chance.randint(0, 4)))
+
+
 def file_in(chance):
-    """A long file-in of several groups: a class, and many of its methods below a long category, each of which has it in its block."""
+    """A long file-in of several groups: many methods of a class below a long category, each of which has it in its block. Of a merge they are
+    of a kernel class."""
     name, category = chance.choice(NAMES), b"c" * chance.randint(300, 900)
+    word = chance.choice(["run", "merge"])
+    first, name = (simple_definition(chance, name) + b"!\n", name) if word == "run" else (b"", b"Object")
     methods = b"".join(b"m%d ^%d!\n" % (number, number) for number in range(chance.randint(150, 300)))
-    return Command(("run",), simple_definition(chance, name) + b"!\n!%s methodsFor: %s!\n%s !\n3 + 4!\n" % (name, quote(category), methods))
+    return Command((word,), first + b"!%s methodsFor: %s!\n%s !\n3 + 4!\n" % (name, quote(category), methods))
 
 
 def command(chance, size):
     """Any of them; a run of at most so many pieces."""
-    kind = chance.randrange(9)
+    kind = chance.randrange(10)
+    if kind == 9:
+        return Command(("merge",), other_set(chance) + chance.choice([b""] * 8 + [b"3 + 4", b"!A"]))
     if kind < 3:
         return Command(("run",), chunks(chance, chance.randint(0, size)) + chance.choice([b""] * 4 + [b"3 + 4", b"!A"]))
     if kind < 5:

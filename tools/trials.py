@@ -68,7 +68,7 @@ class Command(NamedTuple):
 
     def items(self):
         """The items that it works, or None where it asks something."""
-        if self.words[0] == "run":
+        if self.takes_input():
             return items_of(self.text)
         if self.words[0] == "condense":
             return [Item("condense")]
@@ -76,6 +76,9 @@ class Command(NamedTuple):
             return made_items(int(self.words[1])) + [Item("condense")]
         texts = {"do": self.words[-1], "snapshot": b"Smalltalk snapshot"}
         return [Item("plain", texts[self.words[0]].lstrip(SEPARATORS))] if self.words[0] in texts else None
+
+    def takes_input(self):
+        return self.words[0] in ("run", "merge")
 
     def works_items(self):
         return self.items() is not None
@@ -87,7 +90,9 @@ class Course:
 
     def __init__(self, keeper, work, command):
         self.works, self.told = [work._replace(section=None)], [b""]
-        self.is_trouble = False
+        self.is_trouble, self.is_merge = False, command.words[0] == "merge"
+        if self.is_merge:
+            return self.merge(keeper, command)
         items = command.items()
         if items is None:
             reply, self.is_trouble = keeper.told(work, *command.words)
@@ -104,6 +109,17 @@ class Course:
             self.told[-1] = made_line(int(command.words[1]), replies)
         self.outcome = Outcome(int(self.is_trouble), self.told[-1], b"")
 
+    def merge(self, keeper, command):
+        """All is written behind the last change that is added."""
+        merged = keeper.merged(self.works[0], command.items())[0]
+        self.works = [*merged.works, merged.works[-1]]
+        self.told = [b""] * len(merged.works) + [merged.reply]
+        self.is_trouble = merged.is_trouble
+        self.outcome = Outcome(int(self.is_trouble), merged.reply, b"")
+
+    def adds_nothing(self):
+        return self.works[-1].age == self.works[0].age
+
     def kinds(self):
         """What is counted of each reply that isn't empty."""
         return [kind_of(told[len(before) :]) for before, told in zip(self.told, self.told[1:]) if told != before]
@@ -119,13 +135,15 @@ class Course:
 
     def may_follow(self, out):
         """The lists for which a folder may stand where the run broke off behind these bytes: none is lost, and a group may be kept."""
+        if self.is_merge and out:
+            return by_log(self.works[-1:])
         least = self.answered(out)
         return by_log(self.works[next(at for at, work in enumerate(self.works) if work is least) :])
 
 
 def kind_of(reply):
     """What is counted of a reply: its number, and the kind of fault or limit."""
-    found = re.match(rb"refused (?:2 [a-z-]+|3 too large [a-z]+|11 too many [a-z-]+( variables)?|[0-9]+)|ok$", reply)
+    found = re.match(rb"merged|conflict|refused (?:2 [a-z-]+|3 too large [a-z]+|11 too many [a-z-]+( variables)?|[0-9]+)|ok$", reply)
     return found[0].decode() if found else "answers and stops"
 
 

@@ -91,8 +91,10 @@ pub(crate) fn planned(
     Ok(disk)
 }
 
-/// The words of a program that works its input, and of one that condenses.
+/// The words of a program that works its input, of one that merges it, and of one that condenses.
 pub(crate) const RUN: &str = "st80|F|run";
+
+pub(crate) const MERGE: &str = "st80|F|merge";
 
 pub(crate) const CONDENSE: &str = "st80|F|condense";
 

@@ -2,8 +2,8 @@
 ghost use Rattle.s80_session.specs.Session.{IsResting};
 
 use crate::disks::{
-    CONDENSE, Input, RUN, Ran, SECONDS, contents, empty, file_named, found, long, planned, run,
-    words,
+    CONDENSE, Input, MERGE, RUN, Ran, SECONDS, contents, empty, file_named, found, long, planned,
+    run, words,
 };
 use crate::stops::stops;
 use crate::sweeps::{crashes_of, faults, killed, sweep, sweep_again};
@@ -27,6 +27,8 @@ pub(crate) struct Trial {
     room: usize,
     /// How many bytes a take gives at most, where it gives some.
     piece: usize,
+    /// The words of the program where rows stop it, or let calls of it fail.
+    asked: &'static str,
     /// Which calls on the disk fail.
     plan: FaultPlan,
     /// Which takes fail, by number from 1.
@@ -56,6 +58,15 @@ fn plan_of(text: &str) -> Result<FaultPlan> {
         Some(("one", number)) => Ok(FaultPlan::One(number.parse()?)),
         Some(("from", number)) => Ok(FaultPlan::From(number.parse()?)),
         _ => bail!("no plan: {text}"),
+    }
+}
+
+/// The words of a program that takes an input so.
+fn asked_by(word: &str) -> Result<&'static str> {
+    match word {
+        "run" => Ok(RUN),
+        "merge" => Ok(MERGE),
+        _ => bail!("no input is taken by it: {word}"),
     }
 }
 
@@ -110,6 +121,7 @@ impl Trial {
             disk: empty(alloc, room, FaultPlan::Never)?,
             room,
             piece: 4096,
+            asked: RUN,
             plan: FaultPlan::Never,
             takes: Vec::new(alloc),
             puts: Vec::new(alloc),
@@ -130,6 +142,9 @@ impl Trial {
             }
             "piece" => {
                 self.piece = number(rest)?.0 as usize;
+            }
+            "by" => {
+                self.asked = asked_by(rest)?;
             }
             "takes" => {
                 self.takes = numbers(alloc, rest)?;
@@ -154,6 +169,7 @@ impl Trial {
     fn shown(&mut self, alloc: Global, word: &str, rest: &str) -> Result<Text> {
         match word {
             "run" => self.run(alloc, RUN, rest),
+            "merge" => self.run(alloc, MERGE, rest),
             "do"
             | "classes"
             | "browse"
@@ -215,7 +231,7 @@ impl Trial {
     /// An input, given in pieces of the size that the rows set.
     fn input(&self, alloc: Global, spelled: &str) -> Result<Input> {
         Ok(Input {
-            words: RUN,
+            words: self.asked,
             text: bytes::read(alloc, spelled)?,
             piece: self.piece,
         })
@@ -246,7 +262,7 @@ impl Trial {
         self.end(alloc, ran)
     }
 
-    /// Works a text that repeats a piece: how often, what is done with it (`run`, `do` or a file's name), and its front, the piece and
+    /// Works a text that repeats a piece: how often, what is done with it (`run`, `merge`, `do` or a file's name), and its front, the piece and
     /// its end, parted by `|`.
     fn repeat(&mut self, alloc: Global, rest: &str) -> Result<Text> {
         let (count, rest) = number(rest)?;
@@ -254,6 +270,7 @@ impl Trial {
         let text = repeated(alloc, count, spelled)?;
         match place {
             "run" => self.run_words(alloc, &words(alloc, RUN)?, &text),
+            "merge" => self.run_words(alloc, &words(alloc, MERGE)?, &text),
             "do" => {
                 let mut asked = words(alloc, "st80|F|do")?;
                 asked.push(text)?;
@@ -266,11 +283,11 @@ impl Trial {
         }
     }
 
-    /// Runs the program on so many spaces.
+    /// Runs the program on so many spaces, by the words that take the input.
     fn spaces(&mut self, alloc: Global, count: u64) -> Result<Text> {
         let disk = planned(alloc, &self.disk, self.room, self.plan)?;
         let source = RepeatSource::make(b' ', count);
-        let ran = run(alloc, disk, source, &self.puts, &words(alloc, RUN)?)?;
+        let ran = run(alloc, disk, source, &self.puts, &words(alloc, self.asked)?)?;
         self.end(alloc, ran)
     }
 
