@@ -26,9 +26,10 @@ use Rattle.s80_method.specs.Code.{IsMethodCode}
 use Rattle.s80_method.specs.Shape.{bindings_in, bindings_of, own_variables, shape_of, variables_in}
 use Rattle.s80_apply.specs.declared.step.Placed.{Placed}
 use Rattle.s80_apply.specs.declared.step.PlacedMethod.{PlacedMethod}
+use Rattle.s80_apply.specs.declared.step.SourcePlace.{SourcePlace}
 use Rattle.s80_apply.specs.Entries.{Entry}
 use Rattle.s80_apply.specs.Codes.{AreCodes, HasCode, HasCodeAt, HaveSources}
-use Rattle.s80_apply.specs.System.{CanPut, CanPutMethod, ClassifiesMethod, HasClass, HasComment, HasMethod, HasNumber, IsRecompiled, LosesClass, LosesMethod, SystemState, moved, put, put_at_number, with_dictionaries, with_entry}
+use Rattle.s80_apply.specs.System.{CanPut, CanPutMethod, ClassifiesMethod, HasClass, HasComment, HasMethod, HasNumber, HasSourceAt, IsRecompiled, LosesClass, LosesMethod, SystemState, at_place, moved, put, put_at_number, with_dictionaries, with_entry}
 use Rattle.s80_apply.specs.Method.{TakesPlace}
 use Rattle.s80_apply.proofs.Defined.{line_of, no_lineage}
 use Rattle.s80_apply.proofs.Places.{IsFound, IsLast, IsPlace, among, apart, found_after, found_before, last_of, newly, still}
@@ -95,6 +96,13 @@ pub codes_classified : (before now : SystemState) (number : ℕ) (side : Side) (
     → AreCodes before.table before.methods → ClassifiesMethod before number side selector category now → AreCodes now.table now.methods
 codes_classified before now number side selector category entry there codes has =
     let again : Entry = record entry { category = category } in
+    subst (λ (t : Table). AreCodes t now.methods) (sym has.table)
+    (codes_put before.table before.methods now.methods number side selector again (same_code before.table number side selector entry again refl refl (codes number side selector entry there)) (has.methods entry there) codes)
+
+pub codes_placed : (before now : SystemState) (number : ℕ) (side : Side) (selector : List ℕ) (place : SourcePlace) (entry : Entry) → map.get (methods_at before.methods number side) selector ≡ Some entry
+    → AreCodes before.table before.methods → HasSourceAt before number side selector place now → AreCodes now.table now.methods
+codes_placed before now number side selector place entry there codes has =
+    let again : Entry = at_place place entry in
     subst (λ (t : Table). AreCodes t now.methods) (sym has.table)
     (codes_put before.table before.methods now.methods number side selector again (same_code before.table number side selector entry again refl refl (codes number side selector entry there)) (has.methods entry there) codes)
 

@@ -17,13 +17,14 @@ use Rattle.s80_class.proofs.lemmas.Removed.{left_inherited, left_len, left_row, 
 use Rattle.s80_class.proofs.lemmas.Walks.{same_name}
 use Rattle.s80_apply.specs.declared.step.Placed.{Placed}
 use Rattle.s80_apply.specs.declared.step.PlacedMethod.{PlacedMethod}
+use Rattle.s80_apply.specs.declared.step.SourcePlace.{SourcePlace}
 use Rattle.s80_apply.specs.Accept.{unknown_name}
 use Rattle.s80_apply.specs.Entries.{Entry}
 use Rattle.s80_apply.specs.Codes.{HaveSources}
 use Rattle.s80_apply.specs.Limits.{IsWithin}
 use Rattle.s80_apply.specs.List.{AreOfList}
-use Rattle.s80_apply.specs.System.{CanPut, CanPutMethod, CanTakeClass, ClassifiesMethod, HasClass, HasClassAt, HasComment, HasMethod, HasMethodAt, HaveRoom, IsSoundSystem, LosesClass, LosesMethod, SystemState, put, put_all, put_at_number, with_dictionaries, with_entry}
-use Rattle.s80_apply.proofs.Codes.{classes_put, codes_classified, codes_commented, codes_stay, codes_taken, codes_with_class, codes_with_method, codes_without_class}
+use Rattle.s80_apply.specs.System.{CanPut, CanPutMethod, CanTakeClass, ClassifiesMethod, HasClass, HasClassAt, HasComment, HasMethod, HasMethodAt, HasSourceAt, HaveRoom, IsSoundSystem, LosesClass, LosesMethod, SystemState, at_place, put, put_all, put_at_number, with_dictionaries, with_entry}
+use Rattle.s80_apply.proofs.Codes.{classes_put, codes_classified, codes_commented, codes_placed, codes_stay, codes_taken, codes_with_class, codes_with_method, codes_without_class}
 use Rattle.s80_apply.proofs.Passing.{removal_accepted}
 use Rattle.s80_apply.proofs.Places.{put_over_at, put_same, some_same}
 use Rattle.s80_apply.proofs.lemmas.Lists.{of_list_commented, of_list_removed}
@@ -84,6 +85,15 @@ sound_classified before now number side selector category at sound has = record 
   codes = codes_classified before now number side selector category at.entry at.there sound.codes has;
 }
 
+pub sound_placed : (before now : SystemState) (number : ℕ) (side : Side) (selector : List ℕ) (place : SourcePlace) → HasMethodAt before number side selector → IsSoundSystem before → HasSourceAt before number side selector place now → IsSoundSystem now
+sound_placed before now number side selector place at sound has = record {
+  of_list = subst (λ (t : Table). AreOfList t.classes) (sym has.table) sound.of_list;
+  valid = subst (λ (t : Table). IsValid t.classes) (sym has.table) sound.valid;
+  within = subst (λ (t : Table). IsWithin t.classes) (sym has.table) sound.within;
+  dictionaries = has.count ∙ sound.dictionaries ∙ ap (λ (t : Table). length t.names) (sym has.table);
+  codes = codes_placed before now number side selector place at.entry at.there sound.codes has;
+}
+
 -- a source stands behind the beginning of its block
 pub method_is_put : (before : SystemState) (placed : PlacedMethod) (at : ℕ) (after : MethodsValue Entry)
     → ((n : ℕ) (s : Side) → methods_at after n s ≡ put_at (methods_at before.methods) placed.number placed.side placed.selector (record placed.entry { position = placed.entry.position + at }) n s)
@@ -109,6 +119,22 @@ method_is_classified before number side selector category entry middle after the
       ∙ ap (λ (d : Methods Entry). cond (is_place number side n s) (map.insert d selector (record entry { category = category })) d) (taken n s)
       ∙ put_over_at (methods_at before.methods) number side selector (record entry { category = category }) n s
       ∙ ap (λ (e : Entry). put_at (methods_at before.methods) number side selector (record e { category = category }) n s) same;
+  count = again ∙ count;
+}
+
+-- the method is taken away, and put again with the place
+pub source_is_placed : (before : SystemState) (number : ℕ) (side : Side) (selector : List ℕ) (place : SourcePlace) (entry : Entry) (middle after : MethodsValue Entry) → map.get (methods_at before.methods number side) selector ≡ Some entry
+    → ((n : ℕ) (s : Side) → methods_at middle n s ≡ taken_at (methods_at before.methods) number side selector n s) → length middle.sides ≡ length before.methods.sides
+    → ((n : ℕ) (s : Side) → methods_at after n s ≡ put_at (methods_at middle) number side selector (at_place place entry) n s) → length after.sides ≡ length middle.sides
+    → HasSourceAt before number side selector place (record { table = before.table; methods = after })
+source_is_placed before number side selector place entry middle after there taken count put again = record {
+  table = refl;
+  methods = λ x is n s.
+      let same : entry ≡ x = some_same entry x (sym there ∙ is) in
+      put n s
+      ∙ ap (λ (d : Methods Entry). cond (is_place number side n s) (map.insert d selector (at_place place entry)) d) (taken n s)
+      ∙ put_over_at (methods_at before.methods) number side selector (at_place place entry) n s
+      ∙ ap (λ (e : Entry). put_at (methods_at before.methods) number side selector (at_place place e) n s) same;
   count = again ∙ count;
 }
 

@@ -1,5 +1,5 @@
 -- A system at work: what a step does to it.
-use Rattle.std.specs.Prelude.{◌≡◌, ◌⊎◌, true, ◌<◌, ◌≤◌, ◌-◌, ◌+◌, ◌++◌, ℕ, List, [], ◌∷◌, length, slice_get, slice_set, nat_eq, cond, Option, Some, None, Result, Ok, Err, IfOk, ⊤}
+use Rattle.std.specs.Prelude.{◌≡◌, ◌⊎◌, Bool, true, false, ◌<◌, ◌≤◌, ◌-◌, ◌+◌, ◌++◌, ℕ, List, [], ◌∷◌, length, slice_get, slice_set, nat_eq, cond, Option, Some, None, Result, Ok, Err, IfOk, ⊤}
 use Rattle.std.specs.FinMap as map
 use Rattle.s80_base.specs.declared.names.Side.{Side}
 use Rattle.s80_dict.specs.Dict.{Methods, HasRoom}
@@ -14,6 +14,7 @@ use Rattle.s80_class.specs.Classes.{Name, ClassRow, Classes, IsValid, change_row
 use Rattle.s80_class.specs.Table.{Table, IsNumberOf, IsSuperclass, IsAbove, row_of}
 use Rattle.s80_apply.specs.declared.step.Placed.{Placed}
 use Rattle.s80_apply.specs.declared.step.PlacedMethod.{PlacedMethod}
+use Rattle.s80_apply.specs.declared.step.SourcePlace.{SourcePlace}
 use Rattle.s80_apply.specs.declared.step.Step.{Step}
 use Rattle.s80_apply.specs.declared.step.Step.TheVariants as steps
 use Rattle.s80_apply.specs.State.{State, StateOf}
@@ -188,6 +189,28 @@ pub record ClassifiesMethod (before : SystemState) (number : ℕ) (side : Side) 
   pub methods : (entry : Entry) → map.get (methods_at before.methods number side) selector ≡ Some entry
       → (n : ℕ) (s : Side) → methods_at now.methods n s ≡ put_at (methods_at before.methods) number side selector (record entry { category = category }) n s
   pub count : length now.methods.sides ≡ length before.methods.sides
+
+-- a method whose source stands at this place
+abbrev pub at_place : SourcePlace → Entry → Entry
+at_place place entry = record entry { from_kernel = place.from_kernel; position = place.position; length = place.length }
+
+-- this is the system with the source of the method at this place
+pub record HasSourceAt (before : SystemState) (number : ℕ) (side : Side) (selector : List ℕ) (place : SourcePlace) (now : SystemState) : Type 0 where
+  pub table : now.table ≡ before.table
+  pub methods : (entry : Entry) → map.get (methods_at before.methods number side) selector ≡ Some entry
+      → (n : ℕ) (s : Side) → methods_at now.methods n s ≡ put_at (methods_at before.methods) number side selector (at_place place entry) n s
+  pub count : length now.methods.sides ≡ length before.methods.sides
+
+-- there is no class of this name, or it has no method of this selector on this side
+abbrev pub LacksMethod : SystemState → Name → Side → List ℕ → Type 0
+LacksMethod system name side selector =
+    (map.get system.table.classes name ≡ None) ⊎ ((number : ℕ) × HasNumber system name number × (map.get (methods_at system.methods number side) selector ≡ None))
+
+-- the method is there, and its source stands at this place now; or it isn't there, and nothing is changed
+abbrev pub SetsSourcePlace : SystemState → Name → Side → List ℕ → SourcePlace → SystemState → Bool → Type 0
+SetsSourcePlace before name side selector place now true =
+    (number : ℕ) × HasNumber before name number × HasMethodAt before number side selector × HasSourceAt before number side selector place now
+SetsSourcePlace before name side selector place now false = LacksMethod before name side selector × (now ≡ before)
 
 -- a class that is there and may be removed
 pub record CanTakeClass (system : SystemState) (number : ℕ) : Type 0 where

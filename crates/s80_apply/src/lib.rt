@@ -23,5 +23,5 @@ pub use laws::{
     accepted_forms_are_lawful, classes_are_named, places_are_of_the_state, sources_stand,
 };
 pub use method::is_kernel_method;
-pub use step::{Placed, PlacedMethod, Step};
+pub use step::{Placed, PlacedMethod, SourcePlace, Step};
 pub use system::System;

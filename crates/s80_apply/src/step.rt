@@ -4,6 +4,14 @@ use s80_class::ClassEntry;
 use s80_dict::MethodEntry;
 use s80_verify::Verified;
 
+/// Where the source of a method stands, spelled as a chunk without its mark: in the kernel's text or in the log, from which byte on, and how many bytes.
+#[derive(Clone, Copy, Debug, PartialEq, Eq)]
+pub struct SourcePlace {
+    pub from_kernel: bool,
+    pub position: u64,
+    pub length: u64,
+}
+
 /// An entry that is to be put among the classes.
 #[derive(Debug, Drop)]
 pub struct Placed {

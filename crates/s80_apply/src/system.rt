@@ -10,7 +10,7 @@ ghost use Rattle.s80_form.specs.Name.{is_name};
 ghost use Rattle.s80_apply.specs.Accept.{define, refusal_of, refusal_of_class_vars};
 ghost use Rattle.s80_apply.specs.List.{AreOfList};
 ghost use Rattle.s80_apply.specs.Codes.{AreCodes};
-ghost use Rattle.s80_apply.specs.System.{CanPut, CanPutMethod, CanTakeClass, ClassifiesMethod, FindsClass, FindsMethod, HasClass, HasClassAt, HasComment, HasDictionaryRoom, HasMethod, HasMethodAt, HasNumber, HaveRoom, IsInstalled, IsPrepared, IsReady, IsSoundSystem, LosesClass, LosesMethod, MayPut, Places, Stays, offset_of, put_all, put_at_number, with_dictionaries, with_entry};
+ghost use Rattle.s80_apply.specs.System.{CanPut, CanPutMethod, CanTakeClass, ClassifiesMethod, FindsClass, FindsMethod, HasClass, HasClassAt, HasComment, HasDictionaryRoom, HasMethod, HasMethodAt, HasNumber, HasSourceAt, HaveRoom, IsInstalled, IsPrepared, IsReady, IsSoundSystem, LacksMethod, LosesClass, LosesMethod, MayPut, Places, SetsSourcePlace, Stays, offset_of, put_all, put_at_number, with_dictionaries, with_entry};
 
 use crate::checks::{
     bad_name, bad_name_among, cycle, duplicate, duplicate_among, has_subclasses, kernel_class,
@@ -19,7 +19,7 @@ use crate::checks::{
 use crate::entry::{class_named, defined_entry, with_class_side_vars};
 use crate::method::placed_method;
 use crate::recompile::placed_again;
-use crate::step::{Placed, PlacedMethod, Step};
+use crate::step::{Placed, PlacedMethod, SourcePlace, Step};
 use s80_base::{Names, OutOfMemory, Side, Text};
 use s80_change::{Change, Method};
 use s80_class::{ClassEntry, ClassTable};
@@ -402,6 +402,62 @@ impl System {
         ensures { LosesMethod self.old number side selector.now self.new }
     {
         self.methods.remove(number, side, selector);
+    }
+
+    /// Says that the source of a method stands at this place, and not behind the beginning of a block; answers whether the method is there. Takes no
+    /// memory.
+    pub fn set_source_place(
+        &mut self,
+        class_name: &Text,
+        side: Side,
+        selector: &Text,
+        place: SourcePlace,
+    ) -> bool
+        ensures { SetsSourcePlace self.old class_name.now side selector.now place self.new result }
+    {
+        match self.find_with_method(class_name, side, selector) {
+            Some(number) => {
+                self.place_source(number, side, selector, place);
+                true
+            }
+            None => false,
+        }
+    }
+
+    /// The number of the class of this name, if it has a method of this selector on this side.
+    fn find_with_method(&self, name: &Text, side: Side, selector: &Text) -> Option<u32>
+        ensures { MatchOption result (LacksMethod self.now name.now side selector.now)
+            (λ number. HasNumber self.now name.now number × HasMethodAt self.now number side selector.now) }
+    {
+        match self.find(name) {
+            Some(number) => self.with_method(name, number, side, selector),
+            None => None,
+        }
+    }
+
+    /// The number of a class, which has this name, if it has a method of this selector on this side.
+    fn with_method(&self, name: &Text, number: u32, side: Side, selector: &Text) -> Option<u32>
+        requires { HasNumber self.now name.now number }
+        ensures { MatchOption result (LacksMethod self.now name.now side selector.now)
+            (λ n. HasNumber self.now name.now n × HasMethodAt self.now n side selector.now) }
+    {
+        match self.methods.dict(number, side).get(selector) {
+            Some(_) => Some(number),
+            None => None,
+        }
+    }
+
+    /// Puts a method again, whose source stands at this place.
+    fn place_source(&mut self, number: u32, side: Side, selector: &Text, place: SourcePlace)
+        requires { HasMethodAt self.old number side selector.now }
+        ensures { HasSourceAt self.old number side selector.now place self.new }
+    {
+        if let Some(mut entry) = self.methods.remove(number, side, selector) {
+            entry.from_kernel = place.from_kernel;
+            entry.position = place.position;
+            entry.length = place.length;
+            self.methods.insert(number, side, selector, entry);
+        }
     }
 
     /// Gives a method another category.
