@@ -38,3 +38,4 @@ mod Made
 mod FiledOn
 mod OneMoment
 mod Systems
+mod ClassesMade

@@ -20,10 +20,10 @@ use Rattle.s80_apply.proofs.Extents.{alone_extent}
 use Rattle.s80_apply.proofs.LastingWithin.{AreWithin}
 use Rattle.s80_apply.proofs.Looked.{under_absent}
 use Rattle.s80_fileout.specs.Condensed.{class_vars_of, comment_of, definition_of, of_own_class}
+use Rattle.s80_fileout.specs.Lawful.{IsOwnRow}
 use Rattle.s80_fileout.proofs.Keyed.{by_bytes, get_put_here, get_put_other, no_longer, put_twice}
 use Rattle.s80_fileout.proofs.Leading.{Leads, leads_first, leads_one, leads_then}
 use Rattle.s80_fileout.proofs.Cells.{few_above}
-use Rattle.s80_fileout.proofs.OwnRows.{IsOwnRow}
 
 -- each class of these is one of those
 abbrev pub AreAmong : Classes → Classes → Type 0

@@ -14,11 +14,11 @@ use Rattle.s80_apply.proofs.Defined.{head_row, line_of, valid_defined}
 use Rattle.s80_apply.proofs.LastingKernel.{Stands, has_row, kernel_line}
 use Rattle.s80_apply.proofs.LastingWithin.{AreWithin}
 use Rattle.s80_fileout.specs.Condensed.{is_own_at, of_own_class, own_part, up_to}
+use Rattle.s80_fileout.specs.Lawful.{AreOwn, IsOwnRow}
 use Rattle.s80_fileout.proofs.Elements.{IsIn}
 use Rattle.s80_fileout.proofs.Keyed.{by_bytes, by_found, entries_apart, entry_got, get_put_here, get_put_other, got_entry, no_value, one_value, same_named}
 use Rattle.s80_fileout.proofs.Leading.{AllStepped, Leads, Stepped, leads_keyed, leads_then, leads_weaker}
 use Rattle.s80_fileout.proofs.KernelCells.{kernel_class_there, there_kernel_class}
-use Rattle.s80_fileout.proofs.OwnRows.{AreOwn, IsOwnRow}
 use Rattle.s80_fileout.proofs.OwnClass.{AreAmong, leads_class, over}
 
 equal_told : (n m : ℕ) → (n == m) ≡ true → n ≡ m

@@ -21,22 +21,9 @@ use Rattle.s80_apply.proofs.LastingLists.{in_each_list}
 use Rattle.s80_apply.proofs.Passing.{few_enough, none_first}
 use Rattle.s80_apply.proofs.Refusing.{accepted_where}
 use Rattle.s80_fileout.specs.Condensed.{definition_of}
+use Rattle.s80_fileout.specs.Lawful.{AreOwn, IsOwnRow}
 use Rattle.s80_fileout.proofs.Keyed.{by_bytes, by_found, get_put_here, get_put_other, get_taken_here, get_taken_other, no_value, one_value}
 use Rattle.s80_fileout.proofs.KernelCells.{there_kernel_class}
-
--- its names are lawful, none stands twice in a list, and its lists aren't too long
-pub record IsOwnRow (name : Name) (row : ClassRow) : Type 0 where
-  pub superclass : Name
-  pub above : row.superclass ≡ Some superclass
-  pub named : bad_name (definition_of name row superclass) ≡ None
-  pub single : duplicate (definition_of name row superclass) ≡ None
-  pub class_vars : length row.class_vars ≤ 256
-  pub pools : length row.pools ≤ 256
-  pub side_named : option_map BadName (find (λ word. not (is_name word)) row.class_side_vars) ≡ None
-  pub side_single : option_map Duplicate (first_again [] row.class_side_vars) ≡ None
-
-abbrev pub AreOwn : Classes → Type 0
-AreOwn classes = (name : Name) (row : ClassRow) → map.get classes name ≡ Some row → is_kernel_class name ≡ false → IsOwnRow name row
 
 -- ---- what was accepted
 

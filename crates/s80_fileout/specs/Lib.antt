@@ -3,3 +3,4 @@ pub mod Order
 pub mod Moment
 pub mod FileText
 pub mod Items
+pub mod Lawful

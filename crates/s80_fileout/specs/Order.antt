@@ -1,5 +1,5 @@
 -- Classes and methods in the order in which a condensed list has them, and what makes each.
-use Rattle.std.specs.Prelude.{◌≡◌, ◌≤◌, ℕ, List, [], ◌∷◌, ◌++◌, Bool, false, Option, Some, None, Ok, length, map as list_map, if◌then◌else◌}
+use Rattle.std.specs.Prelude.{◌≡◌, ◌≤◌, ℕ, List, [], ◌∷◌, ◌++◌, not, Bool, false, Option, Some, None, Ok, length, map as list_map, if◌then◌else◌}
 use Rattle.std.specs.List.{filter, flat_map}
 use Rattle.std.specs.Str.{bytes_eq}
 use Rattle.std.specs.FinMap as map
@@ -16,7 +16,7 @@ use Rattle.s80_class.specs.Table.{Table, IsSuperclass, row_of}
 use Rattle.s80_history.specs.Lists.{MethodName}
 use Rattle.s80_apply.specs.Entries.{Entry}
 use Rattle.s80_apply.specs.State.{MethodRow, State, on_class_side}
-use Rattle.s80_fileout.specs.declared.order.OwnClass.{OwnClass}
+use Rattle.s80_fileout.specs.declared.order.RankedClass.{RankedClass}
 use Rattle.s80_fileout.specs.declared.methods.ListedMethod.{ListedMethod}
 use Rattle.s80_fileout.specs.Condensed.{by_category, classified, is_own_at, kernel_category, last_category, newest, of_kernel_class, of_own_class, up_to}
 
@@ -40,10 +40,14 @@ abbrev pub class_made : State → Name → List Change
 class_made state name = if is_kernel_class name then kernel_class state name else own_class state.classes name
 
 -- a class with its depth
-abbrev pub ranked_class : Classes → Name → OwnClass
+abbrev pub ranked_class : Classes → Name → RankedClass
 ranked_class classes name = record { depth = length (lineage classes name); class_name = name }
 
--- those of one's own in their order
+-- those of one's own in byte order of their names
+abbrev pub own_in_order : Classes → List RankedClass
+own_in_order classes = list_map (ranked_class classes) (filter (λ name. not (is_kernel_class name)) (map.keys classes))
+
+-- and in the order in which they are made
 abbrev pub own_names : Classes → List Name
 own_names classes = flat_map (λ depth. filter (is_own_at classes depth) (map.keys classes)) (up_to (map.len classes))
 

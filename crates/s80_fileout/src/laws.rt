@@ -8,12 +8,13 @@ ghost use Rattle.s80_change.specs.declared.change.Change.TheVariants.{Form};
 ghost use Rattle.s80_change.specs.Block.{IsLawful};
 ghost use Rattle.s80_history.specs.Lists.{MethodName, set_of, versions_of};
 ghost use Rattle.s80_apply.specs.List.{AreAccepted, IsBuilt, state_of};
-ghost use Rattle.s80_apply.specs.State.{MethodRow, kernel_state};
+ghost use Rattle.s80_apply.specs.State.{MethodRow, State, kernel_state};
 ghost use Rattle.s80_fileout.specs.Condensed.{canon, filed, kept, kernel_part, own_part};
 ghost use Rattle.s80_fileout.specs.FileText.{IsFile, IsFileAt};
 ghost use Rattle.s80_fileout.specs.Items.{IsReadAs, IsShort};
+ghost use Rattle.s80_fileout.specs.Lawful.{AreLawfulClasses, MakesClasses};
 ghost use Rattle.s80_fileout.specs.Moment.{IsMoment};
-ghost use Rattle.s80_fileout.specs.Order.{all_methods, of_listed};
+ghost use Rattle.s80_fileout.specs.Order.{all_methods, kernel_class, of_listed, own_class, own_names};
 
 use s80_apply::kernel_sources_fit;
 use s80_change::sources_have_selectors;
@@ -71,4 +72,16 @@ pub fn a_file_is_read_again()
 pub fn there_is_one_moment()
     ensures moment { (seconds : ℕ) (one other : List ℕ) → IsMoment seconds one → IsMoment seconds other → other ≡ one }
     ensures file { (changes : List Change) (seconds : ℕ) (one other : List ℕ) → IsFile changes seconds one → IsFile changes seconds other → other ≡ one }
+{}
+
+/// Classes that are lawful are made of the kernel's, whatever methods a state has: what makes them is accepted, and leaves of the kernel's methods those at
+/// whose places the state has some.
+pub fn lawful_classes_are_made()
+    ensures { (state : State) → AreLawfulClasses state.classes → MakesClasses state }
+{}
+
+/// They are made class by class: those of the kernel in byte order of their names, and then those of one's own, each behind its superclass.
+pub fn classes_are_made_in_order()
+    ensures kernel { (state : State) → kernel_part state ≡ flat_map (kernel_class state) (map.keys state.classes) }
+    ensures own { (state : State) → own_part state ≡ flat_map (own_class state.classes) (own_names state.classes) }
 {}

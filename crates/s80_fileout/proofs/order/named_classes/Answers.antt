@@ -2,7 +2,7 @@ use Rattle.std.proofs.Common.{◌≡◌, ◌∙◌, ◌≤◌, ◌++◌, [], ◌
 use Rattle.std.specs.Prelude.{slice_get}
 use Rattle.std.specs.FinMap as finmap
 use Rattle.s80_kernel.specs.Rows.{is_kernel_class}
-use Rattle.s80_fileout.specs.declared.order.OwnClass.{OwnClass}
+use Rattle.s80_fileout.specs.declared.order.RankedClass.{RankedClass}
 use Rattle.s80_fileout.specs.Order.{ranked_class}
 use Rattle.s80_fileout.proofs.Owned.{class_added, class_piece, class_pieces, is_own}
 use Rattle.s80_fileout.proofs.Pieces.{none_passes, one_passes, pieces_added}
@@ -22,8 +22,8 @@ loop-i-preserved c =
     (elim c.if-not-is_kernel_class.branch [
       | then-not-is_kernel_class+in_ok-ranked_class+in_ok-push w ↦
           one_passes (is_own name) made now new (ap not (tested ∙ w.if-not-is_kernel_class.true))
-          (ap (λ (v : Vec OwnClass Global). v.items) w.own-is ∙ w.in_ok-push.ensures.items ∙ ap (λ (x : OwnClass). now ++ x ∷ []) w.in_ok-ranked_class.ensures)
-      | else-not-is_kernel_class w ↦ none_passes (is_own name) made now new (ap not (tested ∙ w.if-not-is_kernel_class.false)) (ap (λ (v : Vec OwnClass Global). v.items) w.own-is)
+          (ap (λ (v : Vec RankedClass Global). v.items) w.own-is ∙ w.in_ok-push.ensures.items ∙ ap (λ (x : RankedClass). now ++ x ∷ []) w.in_ok-ranked_class.ensures)
+      | else-not-is_kernel_class w ↦ none_passes (is_own name) made now new (ap not (tested ∙ w.if-not-is_kernel_class.false)) (ap (λ (v : Vec RankedClass Global). v.items) w.own-is)
     ])
 
 pub returns : goal.returns
