@@ -1,5 +1,5 @@
 -- A disk that stands for a list, while a commit is made of it.
-use Rattle.std.proofs.Common.{◌≡◌, inl, inr, ⊎_elim, ℕ, Bool, List, length, take, Some, refl, sym, ap, ◌∙◌, arith}
+use Rattle.std.proofs.Common.{◌≡◌, ◌≤◌, inl, inr, ⊎_elim, ℕ, Bool, List, length, take, Some, refl, sym, ap, ◌∙◌, arith}
 use Rattle.s80_change.specs.declared.change.Change.{Change}
 use Rattle.s80_disk.specs.declared.disk.FileId.{FileId}
 use Rattle.s80_disk.specs.declared.disk.FileId.TheVariants.{Mark}
@@ -11,7 +11,7 @@ use Rattle.s80_mark.specs.Mark.{valid_mark}
 use Rattle.s80_mark.specs.Commit.{CanCommit, HasEither}
 use Rattle.s80_log.specs.Log.{LogEnd, log_file}
 use Rattle.s80_log.specs.Standing.{marked_part, FilesStandFor, ReadsFor}
-use Rattle.s80_log.specs.Commit.{next_mark, fresh_mark, Holds, HoldsBeside, Carries, Takes, LeavesBeside, ReadForEither, StandForEither}
+use Rattle.s80_log.specs.Commit.{next_mark, imaged_mark, fresh_mark, Holds, HoldsBeside, Carries, Takes, LeavesBeside, ReadForEither, StandForEither}
 use Rattle.s80_log.proofs.Files.{log_is_no_mark, stands_on}
 
 -- from one disk, and another that reads the same and of which a crash leaves no more
@@ -164,6 +164,19 @@ takes_next tells reads may_leave log mark kept all count holds counts =
     record {
       follows = refl;
       numbers = record { log = omega (arith, holds.named, numbers.log); image = numbers.image; format = inr refl };
+      named = refl;
+      reached = refl;
+      counted = counts;
+    }
+
+-- so does the one that names an image
+pub takes_imaged : (tells : Bool) (reads : Image) (may_leave : Image → Type 0) (log : LogEnd) (mark : MarkState) (kept all : List Change) (count image size : ℕ) → image ≤ 1 → Holds tells reads may_leave log mark kept all → count ≡ length all
+    → Takes log all mark (imaged_mark mark log count image size)
+takes_imaged tells reads may_leave log mark kept all count image size number holds counts =
+    let numbers = holds.stands.files.numbers in
+    record {
+      follows = refl;
+      numbers = record { log = omega (arith, holds.named, numbers.log); image = inl number; format = inr refl };
       named = refl;
       reached = refl;
       counted = counts;

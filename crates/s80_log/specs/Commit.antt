@@ -21,6 +21,14 @@ next_mark mark log count = record mark {
   count = count;
 }
 
+-- the same, and it names the image of this number, which has so many bytes and is that of all of the log's changes
+abbrev pub imaged_mark : MarkState → LogEnd → ℕ → ℕ → ℕ → MarkState
+imaged_mark mark log count image size = record (next_mark mark log count) {
+  image = image;
+  image_length = size;
+  image_position = log.end;
+}
+
 -- the mark after this one, by which this log counts alone, to its end and with so many changes; no image is named
 abbrev pub fresh_mark : MarkState → LogEnd → ℕ → MarkState
 fresh_mark mark log count = record (next_mark mark log count) {

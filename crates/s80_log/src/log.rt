@@ -13,7 +13,7 @@ ghost use Rattle.s80_mark.specs.Mark.{format_two, valid_mark};
 ghost use Rattle.s80_mark.specs.Commit.{CanCommit, HasEither};
 ghost use Rattle.s80_log.specs.Log.{log_file};
 ghost use Rattle.s80_log.specs.Standing.{FilesStandFor, StandsFor};
-ghost use Rattle.s80_log.specs.Commit.{next_mark, fresh_mark, Holds, HoldsBeside, Carries, Takes, LeavesBeside, ReadForEither, StandForEither};
+ghost use Rattle.s80_log.specs.Commit.{next_mark, imaged_mark, fresh_mark, Holds, HoldsBeside, Carries, Takes, LeavesBeside, ReadForEither, StandForEither};
 ghost use Rattle.s80_log.specs.Faults.{IfLogDisk, UnlessLogDisk};
 
 use s80_base::{Failed, Text};
@@ -251,6 +251,68 @@ impl Log {
         ensures named { IfErr result (λ e. (e.call ≡ Read) ⊎ (e.call ≡ Write) ⊎ (e.call ≡ Sync)) }
     {
         let next = self.mark_after(mark, count);
+        self.commit_by(disk, mark, &next)
+    }
+
+    /// The same, with a mark that names the image of this number, which has so many bytes and is that of all of the log's changes.
+    pub fn commit_with_image<D: Disk>(
+        &mut self,
+        disk: &mut D,
+        mark: &mut MarkState,
+        count: u64,
+        image: u8,
+        image_length: u64,
+    ) -> Result<(), Failed>
+        requires { image ≤ 1 }
+        ensures mark { MatchResult result (λ _. mark.new ≡ imaged_mark mark.old self.old count image image_length) (λ _. mark.new ≡ mark.old) }
+        ensures same { self.new ≡ self.old }
+
+        // From a disk that stands for the list kept so far, a crash at any moment, and one now, leaves files that stand for it or for
+        // the list of all that was appended; after Ok the disk stands for that.
+        ensures committed { (kept all : List Change)
+            → Holds (D.tells disk.old) (D.reads disk.old) (D.may_leave disk.old) self.old mark.old kept all → count ≡ length all
+            → OnOk result (Holds (D.tells disk.new) (D.reads disk.new) (D.may_leave disk.new) self.new mark.new all all) }
+        ensures stands { (kept all : List Change)
+            → Holds (D.tells disk.old) (D.reads disk.old) (D.may_leave disk.old) self.old mark.old kept all → count ≡ length all
+            → LeavesOnly D.moment D.left_since disk.old disk.new
+            (LeavesBeside (D.may_leave disk.old) (D.beside disk.old).told (log_file self.old.number)
+            (StandForEither mark.old kept (imaged_mark mark.old self.old count image image_length) all)) }
+        ensures left { (kept all : List Change) (c : FileId → List ℕ)
+            → Holds (D.tells disk.old) (D.reads disk.old) (D.may_leave disk.old) self.old mark.old kept all → count ≡ length all
+            → D.may_leave disk.new c
+            → LeavesBeside (D.may_leave disk.old) (D.beside disk.old).told (log_file self.old.number)
+            (StandForEither mark.old kept (imaged_mark mark.old self.old count image image_length) all) (D.beside disk.new).told c }
+        // Also where a call failed, the disk goes on to read for the one list or for the other.
+        ensures reads { (kept all : List Change)
+            → Holds (D.tells disk.old) (D.reads disk.old) (D.may_leave disk.old) self.old mark.old kept all → count ≡ length all
+            → ReadForEither (D.tells disk.new) (D.reads disk.new) (D.may_leave disk.new) mark.old kept
+            (imaged_mark mark.old self.old count image image_length) all }
+
+        // Whatever the log holds, a crash leaves the old mark or the next, and the other files as it might have left them before.
+        ensures any_moment { LeavesOnly D.moment D.left_since disk.old disk.new
+            (HasEither (D.tells disk.old) (D.reads disk.old) (D.may_leave disk.old) (D.beside disk.old).told mark.old
+            (imaged_mark mark.old self.old count image image_length)) }
+        ensures crash { (c : FileId → List ℕ) → D.may_leave disk.new c
+            → HasEither (D.tells disk.old) (D.reads disk.old) (D.may_leave disk.old) (D.beside disk.old).told mark.old
+            (imaged_mark mark.old self.old count image image_length) (D.beside disk.new).told c }
+        ensures valid { CanCommit (D.tells disk.old) (D.reads disk.old) (D.may_leave disk.old) mark.old
+            (imaged_mark mark.old self.old count image image_length)
+            → OnOk result (valid_mark (D.reads disk.new Mark) ≡ Some mark.new) }
+        ensures durable { OnOk result (Only Mark (D.reads disk.new Mark) (D.may_leave disk.new)
+            × Only (log_file self.old.number) (D.reads disk.new (log_file self.old.number)) (D.may_leave disk.new)) }
+        ensures others { (other : FileId) → other ≢ Mark → D.reads disk.new other ≡ D.reads disk.old other }
+        ensures tells { D.tells disk.new ≡ D.tells disk.old }
+        ensures beside { D.beside disk.new ≡ D.beside disk.old }
+        ensures cause { HasCause (D.disk_faults disk.old) (D.disk_faults disk.new) result }
+        ensures named { IfErr result (λ e. (e.call ≡ Read) ⊎ (e.call ≡ Write) ⊎ (e.call ≡ Sync)) }
+    {
+        let position = self.length();
+        let next = MarkState {
+            image,
+            image_length,
+            image_position: position,
+            ..self.mark_after(mark, count)
+        };
         self.commit_by(disk, mark, &next)
     }
 
