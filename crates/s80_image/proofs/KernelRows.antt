@@ -1,6 +1,7 @@
 -- The row of a class of the kernel.
 use Rattle.std.proofs.Common.{◌≡◌, ℕ, Bool, true, false, cond, List, [], ◌∷◌, map, Option, Some, None, refl, ap, ◌∙◌}
-use Rattle.std.specs.Prelude.{find, option_map}
+use Rattle.std.specs.Prelude.{find, option_map, ◌||◌}
+use Rattle.std.specs.List.{list_any}
 use Rattle.std.specs.Str.{bytes_eq}
 use Rattle.s80_kernel.specs.declared.rows.KernelClass.{KernelClass}
 use Rattle.s80_kernel.specs.Rows.{kernel_rows, row_of}
@@ -22,3 +23,10 @@ pub row_found : {X : Type 0} (held : X → KernelClass) (o : Option X) (rows : L
 row_found held o rows name e rows_are =
     through held o (find (λ row. bytes_eq row.name.now name) rows) e
     ∙ find_of_map row_of (λ row. bytes_eq row.name name) rows ∙ ap (find (λ row. bytes_eq row.name name)) rows_are
+
+any_of_map : {X Y : Type 0} (f : X → Y) (p : Y → Bool) (xs : List X) → list_any (λ x. p (f x)) xs ≡ list_any p (map f xs)
+any_of_map f p [] = refl
+any_of_map f p (x ∷ xs) = ap (λ b. p (f x) || b) (any_of_map f p xs)
+
+pub any_row : (p : List ℕ → Bool) (rows : List KernelClass) → map row_of rows ≡ kernel_rows → list_any (λ row. p row.name.now) rows ≡ list_any (λ row. p row.name) kernel_rows
+any_row p rows rows_are = any_of_map row_of (λ row. p row.name) rows ∙ ap (list_any (λ row. p row.name)) rows_are

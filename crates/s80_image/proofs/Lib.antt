@@ -9,4 +9,11 @@ pub mod Verifying
 pub mod Wholes
 pub mod Tables
 pub mod Spelled
+pub mod Listed
 pub mod Decoded
+pub mod ByName
+pub mod Linked
+pub mod FirstWrong
+pub mod Wrongs
+pub mod LawfulImages
+pub mod InOrder

@@ -9,7 +9,7 @@ use Rattle.std.proofs.lemmas.Option.{slice_get-get_or}
 value : {A : Type 0} (x y : A) → Some x ≡ Some y → x ≡ y
 value x y e = cc
 
-next : (names : List (List ℕ)) (i : ℕ) (x : List ℕ) → i < length names → slice_get names i ≡ Some x → drop i names ≡ x ∷ drop (i + 1) names
+pub next : (names : List (List ℕ)) (i : ℕ) (x : List ℕ) → i < length names → slice_get names i ≡ Some x → drop i names ≡ x ∷ drop (i + 1) names
 next names i x within e =
     drop_more names i x within ∙ ap (λ y. y ∷ drop (i + 1) names) (value (get_or names i x) x (sym (slice_get-get_or names i x within) ∙ e))
 

@@ -24,7 +24,7 @@ use Rattle.s80_image.specs.Methods.{MethodView, frame, method, method_behind, me
 use Rattle.s80_image.specs.Classes.{ClassView, class, class_behind, class_of, classes, classes_of, heading, kind, kind_number, inst_vars_given, kernel_row, may_stand, none_given, names, variables}
 use Rattle.s80_image.specs.History.{VersionsView, all_versions, all_versions_of, change_set, noted, noted_behind, noted_kind, noted_kind_number, noted_side, versions, versions_behind, versions_of}
 
-one_by_one : {A : Type 0} (member : List A → Format A) (plain : A → List ℕ) → ((before : List A) (x : A) → (member before).spell x ≡ plain x) → (before xs : List A) → spelled member before xs ≡ flat_map plain xs
+pub one_by_one : {A : Type 0} (member : List A → Format A) (plain : A → List ℕ) → ((before : List A) (x : A) → (member before).spell x ≡ plain x) → (before xs : List A) → spelled member before xs ≡ flat_map plain xs
 one_by_one member plain same before [] = refl
 one_by_one member plain same before (x ∷ xs) = ap₂ (λ (a b : List ℕ). a ++ b) (same before x) (one_by_one member plain same (before ++ x ∷ []) xs) ∙ sym (flat_map-cons plain x xs)
 
@@ -40,7 +40,7 @@ pub frame_spelled : (es : List Entry) → frame.spell (map entry_of es) ≡ to_b
 unfolding frame entry
 frame_spelled es = counted (λ _. entry) entry_bytes entry_of (λ _ _. refl) es
 
-method_alike : (last : Option Name) (m : MethodView) → (method last).spell m ≡ (method None).spell m
+pub method_alike : (last : Option Name) (m : MethodView) → (method last).spell m ≡ (method None).spell m
 unfolding method method_heading
 method_alike last m = refl
 
@@ -76,7 +76,7 @@ heading_alike : (last : Option Name) (h : ClassHeading) → (heading last).spell
 unfolding heading kind
 heading_alike last h = refl
 
-class_alike : (last : Option Name) (c : ClassView) → (class last).spell c ≡ (class None).spell c
+pub class_alike : (last : Option Name) (c : ClassView) → (class last).spell c ≡ (class None).spell c
 unfolding class
 class_alike last c = rw (heading_alike last c.heading) refl
 
@@ -84,11 +84,15 @@ pub classes_spelled : (cs : List ImageClass) → classes.spell (classes_of cs) �
 unfolding classes
 classes_spelled cs = counted class_behind (class None).spell class_of (λ before c. class_alike _ c) cs
 
+pub views_spelled : (cs : List ClassView) → classes.spell cs ≡ to_be_bytes w32 (length cs) ++ flat_map (class None).spell cs
+unfolding classes
+views_spelled cs = ap (λ b. to_be_bytes w32 (length cs) ++ b) (one_by_one class_behind (class None).spell (λ before c. class_alike _ c) [] cs)
+
 pub noted_parts : (m : Noted) → (noted None).spell m ≡ to_be_bytes w64 m.at ++ (noted_kind_number m.kind ∷ [] ++ (text.spell m.class_name ++ (side.spell m.side ++ text.spell m.selector)))
 unfolding noted noted_kind noted_side
 noted_parts m = refl
 
-noted_alike : (last : Option ℕ) (m : Noted) → (noted last).spell m ≡ (noted None).spell m
+pub noted_alike : (last : Option ℕ) (m : Noted) → (noted last).spell m ≡ (noted None).spell m
 unfolding noted
 noted_alike last m = refl
 
@@ -99,7 +103,7 @@ change_set_spelled ms = ap (λ b. to_be_bytes w32 (length ms) ++ b) (one_by_one 
 pub places_spelled : (ps : List ℕ) → places.spell ps ≡ to_be_bytes w32 (length ps) ++ flat_map word64.spell ps
 places_spelled ps = ap (λ b. to_be_bytes w32 (length ps) ++ b) (one_by_one (λ before. place_above (last_of before)) word64.spell (λ _ _. refl) [] ps)
 
-versions_alike : (last : _) (v : VersionsView) → (versions last).spell v ≡ (versions None).spell v
+pub versions_alike : (last : _) (v : VersionsView) → (versions last).spell v ≡ (versions None).spell v
 unfolding versions
 versions_alike last v = refl
 

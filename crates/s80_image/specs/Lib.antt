@@ -5,4 +5,8 @@ pub mod Methods
 pub mod Classes
 pub mod History
 pub mod Image
+pub mod Spelling
 pub mod Answers
+pub mod Together
+pub mod Definable
+pub mod Superclasses

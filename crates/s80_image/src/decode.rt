@@ -197,9 +197,8 @@ fn placed(size: u64, fault: ImageFault) -> ImageFault
     }
 }
 
-/// The image that bytes spell, each of whose fields is lawful and each of whose codes is verified. What is asked of all classes together
-/// isn't looked at.
-pub fn decode_fields(alloc: Global, bytes: &[u8]) -> Result<Image, ImageFault>
+/// The image that bytes spell, each of whose fields is lawful by itself and each of whose codes is verified.
+pub(crate) fn decode_fields(alloc: Global, bytes: &[u8]) -> Result<Image, ImageFault>
     // What is answered, in the order of the bytes: the image, the first unlawful field, or the first code that isn't verified.
     ensures exact { Answers view_of result (decoded bytes.now) (image_met bytes.now) }
     // What is read is lawful, and spelled so.

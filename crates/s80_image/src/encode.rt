@@ -1,15 +1,16 @@
 // The bytes of an image.
-ghost use Rattle.std.specs.Prelude.{◌≡◌, ◌++◌, ◌∷◌, [], None, IfOk, OnOk};
+ghost use Rattle.std.specs.Prelude.{◌≡◌, ◌<◌, ◌^◌, ◌++◌, ◌∷◌, [], length, None, IfOk, OnOk};
 ghost use Rattle.std.specs.Int.{w32, to_be_bytes};
 ghost use Rattle.s80_base.specs.Literal.{kind_number, literal_of, literals_of};
 ghost use Rattle.s80_code.specs.Entries.{entries_of, entry_of};
 ghost use Rattle.s80_image.specs.Format.{text as text_format, word32, word64};
 ghost use Rattle.s80_image.specs.Parts.{flag as flag_format, places as places_format, side as side_format, source};
 ghost use Rattle.s80_image.specs.Literals.{count_of, entry_bytes, kept_number, literal_bytes, literals_bytes};
-ghost use Rattle.s80_image.specs.Methods.{code as code_format, code_of, frame as frame_format, method as method_format, method_heading as method_heading_format, method_of, methods as methods_format, methods_of};
+ghost use Rattle.s80_image.specs.Methods.{code as code_format, code_of, frame as frame_format, method as method_format, method_heading as method_heading_format, methods as methods_format, methods_of};
 ghost use Rattle.s80_image.specs.Classes.{class as class_format, class_of, classes as classes_format, classes_of, heading as heading_format, kind_number as class_kind_number, names as names_format, variables as variables_format};
 ghost use Rattle.s80_image.specs.History.{all_versions, all_versions_of, change_set, noted as noted_format, noted_kind_number, versions as versions_format, versions_of};
-ghost use Rattle.s80_image.specs.Image.{contents, image_bytes, view_of};
+ghost use Rattle.s80_image.specs.Image.{image_bytes, view_of};
+ghost use Rattle.s80_image.specs.Spelling.{head_bytes};
 
 use crate::image::{
     ClassHeading, ClassVariables, Image, ImageClass, ImageMethod, MethodHeading, MethodVersions,
@@ -36,9 +37,10 @@ fn put_word64(out: &mut Vec<u8>, number: u64) -> Result<(), OutOfMemory>
     Ok(())
 }
 
-/// The length of a text or a list. No memory holds one of 2^32 members, which the format couldn't spell.
-fn put_count(out: &mut Vec<u8>, count: usize) -> Result<(), OutOfMemory>
-    ensures { OnOk result (out.new.items ≡ out.old.items ++ to_be_bytes w32 count) }
+/// Adds the length of a text or a list. One of 2^32 members, which the format couldn't spell, counts as want of memory.
+pub fn put_count(out: &mut Vec<u8>, count: usize) -> Result<(), OutOfMemory>
+    ensures bytes { OnOk result (out.new.items ≡ out.old.items ++ to_be_bytes w32 count) }
+    ensures short { OnOk result (count < 2 ^ 32) }
 {
     if count > u32::MAX as usize {
         return Err(OutOfMemory);
@@ -46,7 +48,7 @@ fn put_count(out: &mut Vec<u8>, count: usize) -> Result<(), OutOfMemory>
     put_word32(out, count as u32)
 }
 
-fn put_text(out: &mut Vec<u8>, text: &[u8]) -> Result<(), OutOfMemory>
+pub(crate) fn put_text(out: &mut Vec<u8>, text: &[u8]) -> Result<(), OutOfMemory>
     ensures { OnOk result (out.new.items ≡ out.old.items ++ text_format.spell text.now) }
 {
     put_count(out, text.len())?;
@@ -209,7 +211,7 @@ fn put_code(out: &mut Vec<u8>, code: &Code) -> Result<(), OutOfMemory>
     put_text(out, code.bytes.bytes())
 }
 
-fn put_texts(out: &mut Vec<u8>, one: &Text, other: &Text) -> Result<(), OutOfMemory>
+pub(crate) fn put_texts(out: &mut Vec<u8>, one: &Text, other: &Text) -> Result<(), OutOfMemory>
     ensures { OnOk result (out.new.items ≡ out.old.items ++ (text_format.spell one.now ++ text_format.spell other.now)) }
 {
     put_text(out, one.bytes())?;
@@ -232,12 +234,17 @@ fn put_method_heading(out: &mut Vec<u8>, heading: &MethodHeading) -> Result<(), 
     Ok(())
 }
 
+/// Adds a method: what an image has of it, and its code.
 #[tactic(auto, unfolding(crate::specs::Methods::method))]
-fn put_method(out: &mut Vec<u8>, method: &ImageMethod) -> Result<(), OutOfMemory>
-    ensures { OnOk result (out.new.items ≡ out.old.items ++ (method_format None).spell (method_of method.now)) }
+pub fn put_method(
+    out: &mut Vec<u8>,
+    heading: &MethodHeading,
+    code: &Code,
+) -> Result<(), OutOfMemory>
+    ensures { OnOk result (out.new.items ≡ out.old.items ++ (method_format None).spell (record { heading = heading.now; code = code_of code.now })) }
 {
-    put_method_heading(out, &method.heading)?;
-    put_code(out, method.code.code())
+    put_method_heading(out, heading)?;
+    put_code(out, code)
 }
 
 fn put_methods(out: &mut Vec<u8>, methods: &[ImageMethod]) -> Result<(), OutOfMemory>
@@ -245,14 +252,14 @@ fn put_methods(out: &mut Vec<u8>, methods: &[ImageMethod]) -> Result<(), OutOfMe
 {
     put_count(out, methods.len())?;
     for method in methods {
-        put_method(out, method)?;
+        put_method(out, &method.heading, method.code.code())?;
     }
     Ok(())
 }
 
 // ---- classes
 
-fn kind_number(kind: Kind) -> u8
+pub(crate) fn kind_number(kind: Kind) -> u8
     ensures { result ≡ class_kind_number kind }
 {
     match kind {
@@ -263,7 +270,7 @@ fn kind_number(kind: Kind) -> u8
     }
 }
 
-fn put_names(out: &mut Vec<u8>, names: &Names) -> Result<(), OutOfMemory>
+pub(crate) fn put_names(out: &mut Vec<u8>, names: &Names) -> Result<(), OutOfMemory>
     ensures { OnOk result (out.new.items ≡ out.old.items ++ (names_format 0 None).spell names.now) }
 {
     put_count(out, names.count())?;
@@ -273,7 +280,11 @@ fn put_names(out: &mut Vec<u8>, names: &Names) -> Result<(), OutOfMemory>
     Ok(())
 }
 
-fn put_both_names(out: &mut Vec<u8>, one: &Names, other: &Names) -> Result<(), OutOfMemory>
+pub(crate) fn put_both_names(
+    out: &mut Vec<u8>,
+    one: &Names,
+    other: &Names,
+) -> Result<(), OutOfMemory>
     ensures { OnOk result (out.new.items ≡ out.old.items ++ ((names_format 0 None).spell one.now ++ (names_format 0 None).spell other.now)) }
 {
     put_names(out, one)?;
@@ -288,7 +299,8 @@ fn put_variables(out: &mut Vec<u8>, variables: &ClassVariables) -> Result<(), Ou
     Ok(())
 }
 
-fn put_heading(out: &mut Vec<u8>, heading: &ClassHeading) -> Result<(), OutOfMemory>
+/// Adds what an image has of a class beside its methods, which stand behind it: those of instances, then those of the class.
+pub fn put_class_heading(out: &mut Vec<u8>, heading: &ClassHeading) -> Result<(), OutOfMemory>
     ensures { OnOk result (out.new.items ≡ out.old.items ++ (heading_format None).spell heading.now) }
 {
     put_texts(out, &heading.name, &heading.superclass)?;
@@ -302,12 +314,12 @@ fn put_heading(out: &mut Vec<u8>, heading: &ClassHeading) -> Result<(), OutOfMem
 fn put_class(out: &mut Vec<u8>, class: &ImageClass) -> Result<(), OutOfMemory>
     ensures { OnOk result (out.new.items ≡ out.old.items ++ (class_format None).spell (class_of class.now)) }
 {
-    put_heading(out, &class.heading)?;
+    put_class_heading(out, &class.heading)?;
     put_methods(out, &class.instance_methods)?;
     put_methods(out, &class.class_methods)
 }
 
-fn put_classes(out: &mut Vec<u8>, classes: &[ImageClass]) -> Result<(), OutOfMemory>
+pub(crate) fn put_classes(out: &mut Vec<u8>, classes: &[ImageClass]) -> Result<(), OutOfMemory>
     ensures { OnOk result (out.new.items ≡ out.old.items ++ classes_format.spell (classes_of classes.now)) }
 {
     put_count(out, classes.len())?;
@@ -342,7 +354,8 @@ fn put_name(out: &mut Vec<u8>, class: &Text, side: Side, selector: &Text) -> Res
     put_text(out, selector.bytes())
 }
 
-fn put_noted(out: &mut Vec<u8>, noted: &Noted) -> Result<(), OutOfMemory>
+/// Adds a member of the change set.
+pub fn put_noted(out: &mut Vec<u8>, noted: &Noted) -> Result<(), OutOfMemory>
     ensures { OnOk result (out.new.items ≡ out.old.items ++ (noted_format None).spell noted.now) }
 {
     put_word64(out, noted.at)?;
@@ -362,7 +375,8 @@ fn put_change_set(out: &mut Vec<u8>, set: &[Noted]) -> Result<(), OutOfMemory>
 }
 
 fn put_places(out: &mut Vec<u8>, places: &[u64]) -> Result<(), OutOfMemory>
-    ensures { OnOk result (out.new.items ≡ out.old.items ++ places_format.spell places.now) }
+    ensures bytes { OnOk result (out.new.items ≡ out.old.items ++ places_format.spell places.now) }
+    ensures short { OnOk result (length places.now < 2 ^ 32) }
 {
     put_count(out, places.len())?;
     for place in places {
@@ -371,9 +385,11 @@ fn put_places(out: &mut Vec<u8>, places: &[u64]) -> Result<(), OutOfMemory>
     Ok(())
 }
 
+/// Adds the versions of a method. So many as the format couldn't count are answered as want of memory.
 #[tactic(auto, unfolding(crate::specs::History::versions))]
-fn put_versions(out: &mut Vec<u8>, versions: &MethodVersions) -> Result<(), OutOfMemory>
-    ensures { OnOk result (out.new.items ≡ out.old.items ++ (versions_format None).spell (versions_of versions.now)) }
+pub fn put_versions(out: &mut Vec<u8>, versions: &MethodVersions) -> Result<(), OutOfMemory>
+    ensures bytes { OnOk result (out.new.items ≡ out.old.items ++ (versions_format None).spell (versions_of versions.now)) }
+    ensures short { OnOk result (length versions.now.places.items < 2 ^ 32) }
 {
     put_name(out, &versions.class_name, versions.side, &versions.selector)?;
     put_places(out, &versions.places)
@@ -389,23 +405,32 @@ fn put_all_versions(out: &mut Vec<u8>, all: &[MethodVersions]) -> Result<(), Out
     Ok(())
 }
 
-#[tactic(auto, unfolding(crate::specs::Image::contents))]
-fn put_contents(out: &mut Vec<u8>, image: &Image) -> Result<(), OutOfMemory>
-    ensures { OnOk result (out.new.items ≡ out.old.items ++ contents.spell (view_of image.now)) }
+fn put_lists(out: &mut Vec<u8>, image: &Image) -> Result<(), OutOfMemory>
+    ensures { OnOk result (out.new.items ≡ out.old.items
+        ++ (classes_format.spell (view_of image.now).classes ++ (change_set.spell (view_of image.now).change_set ++ all_versions.spell (view_of image.now).versions))) }
 {
-    put_word64(out, image.count)?;
     put_classes(out, &image.classes)?;
     put_change_set(out, &image.change_set)?;
     put_all_versions(out, &image.versions)
 }
 
-/// The one spelling of an image, whose bytes `decode_fields` reads again.
-#[tactic(auto, unfolding(crate::specs::Image::image_format))]
+// ---- images
+
+/// Adds what stands before the lists of an image: the bytes `S80I`, the number of the format, and how many changes there are.
+pub fn put_head(out: &mut Vec<u8>, count: u64) -> Result<(), OutOfMemory>
+    ensures { OnOk result (out.new.items ≡ out.old.items ++ head_bytes count) }
+{
+    out.extend_from_slice(b"S80I\x01")?;
+    put_word64(out, count)
+}
+
+/// The one spelling of an image, whose bytes `decode_image` reads again.
+#[tactic(auto, unfolding(crate::specs::Image::contents, crate::specs::Image::image_format))]
 pub fn encode_image(alloc: Global, image: &Image) -> Result<Text, OutOfMemory>
     ensures { IfOk result (λ text. text ≡ image_bytes (view_of image.now)) }
 {
     let mut out = Vec::new(alloc);
-    out.extend_from_slice(b"S80I\x01")?;
-    put_contents(&mut out, image)?;
+    put_head(&mut out, image.count)?;
+    put_lists(&mut out, image)?;
     Ok(Text::from_vec(out))
 }

@@ -92,3 +92,13 @@ impl<T: Drop> From<AllocFailed<T>> for ImageFault {
         ImageFault::Memory
     }
 }
+
+impl From<OutOfMemory> for ImageFault {
+    ghost use Rattle.s80_image.specs.declared.fault.ImageFault.TheVariants as faults;
+
+    ghost from_gives = { λ _ fault. fault ≡ faults.Memory };
+
+    fn from(_: OutOfMemory) -> Self {
+        ImageFault::Memory
+    }
+}

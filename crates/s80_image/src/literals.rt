@@ -12,6 +12,9 @@ use s80_base::{Literal, Literals, NumberKind, Text};
 use s80_code::Entry;
 use std::alloc::Global;
 
+/// How deep arrays may stand in one another: each level takes from the stack. Those of a method's source are nested 64 levels deep at most.
+const LEVELS: u32 = 1_024;
+
 fn signed(bytes: &[u8]) -> Result<(i32, &[u8]), ReadError>
     ensures { Gives (λ x. (x.0, x.1.now)) result (signed.read bytes.now) }
 {
@@ -78,40 +81,53 @@ fn plain_literal(alloc: Global, tag: u8, bytes: &[u8]) -> Result<(Literal, &[u8]
     }
 }
 
-/// A literal, with its tag before it.
+/// A literal, with its tag before it, and with so many levels left for arrays.
 #[cycle(literal)]
-fn literal(alloc: Global, bytes: &[u8]) -> Result<(Literal, &[u8]), ReadError>
+fn literal(alloc: Global, levels: u32, bytes: &[u8]) -> Result<(Literal, &[u8]), ReadError>
     ensures given { (most : ℕ) → length bytes.now < most → Gives (λ x. (literal_of x.0, x.1.now)) result (literal_at most bytes.now) }
     ensures shorter { IfOk result (λ x. length x.1.now < length bytes.now) }
 {
     let (tag, rest) = byte_to(8, bytes)?;
-    literal_behind(alloc, tag, rest)
+    literal_behind(alloc, levels, tag, rest)
 }
 
 /// A literal behind its tag.
 #[cycle(literal)]
-fn literal_behind(alloc: Global, tag: u8, bytes: &[u8]) -> Result<(Literal, &[u8]), ReadError>
+fn literal_behind(
+    alloc: Global,
+    levels: u32,
+    tag: u8,
+    bytes: &[u8],
+) -> Result<(Literal, &[u8]), ReadError>
     ensures given { (most : ℕ) → length bytes.now ≤ most → Gives (λ x. (literal_of x.0, x.1.now)) result (literal_behind (literal_at most) tag bytes.now) }
     ensures shorter { IfOk result (λ x. length x.1.now ≤ length bytes.now) }
 {
     if tag != 4 {
         return plain_literal(alloc, tag, bytes);
     }
+    if levels == 0 {
+        return Err(ReadError::Memory);
+    }
     let (count, rest) = word32(bytes)?;
-    let (items, rest) = elements(alloc, count, rest)?;
+    let (items, rest) = elements(alloc, levels - 1, count, rest)?;
     Ok((array_of(items), rest))
 }
 
 /// So many elements of an array.
 #[cycle(literal)]
-fn elements(alloc: Global, count: u32, bytes: &[u8]) -> Result<(Literals, &[u8]), ReadError>
+fn elements(
+    alloc: Global,
+    levels: u32,
+    count: u32,
+    bytes: &[u8],
+) -> Result<(Literals, &[u8]), ReadError>
     ensures given { (most : ℕ) → length bytes.now < most → Gives (λ x. (literals_of x.0, x.1.now)) result (elements (literal_at most) no_literals count bytes.now) }
     ensures shorter { IfOk result (λ x. length x.1.now ≤ length bytes.now) }
 {
     let mut items = Literals::empty(alloc);
     let mut rest = bytes;
     for _ in 0..count {
-        let (item, after) = literal(alloc, rest)?;
+        let (item, after) = literal(alloc, levels, rest)?;
         items.push(item)?;
         rest = after;
     }
@@ -143,7 +159,7 @@ fn entry_behind(alloc: Global, tag: u8, bytes: &[u8]) -> Result<(Entry, &[u8]), 
             Ok((Entry::Extension(number), rest))
         }
         _ => {
-            let (literal, rest) = literal_behind(alloc, tag, bytes)?;
+            let (literal, rest) = literal_behind(alloc, LEVELS, tag, bytes)?;
             Ok((Entry::Const(literal), rest))
         }
     }
