@@ -2,6 +2,8 @@
 use Rattle.std.proofs.Common.{◌≡◌, ◌∙◌, Bool, true, false, refl, sym, ap, List, Option, None, is_some}
 use Rattle.std.specs.Prelude.{if◌then◌else◌}
 use Rattle.std.specs.FinMap as map
+use Rattle.s80_base.specs.declared.names.Side.{Side}
+use Rattle.s80_class.specs.Classes.{Name, Classes}
 use Rattle.s80_apply.specs.List.{AreAccepted, state_from}
 use Rattle.s80_apply.specs.State.{MethodRow, State, kernel_state}
 use Rattle.s80_apply.specs.System.{IsSystemOf, SystemState}

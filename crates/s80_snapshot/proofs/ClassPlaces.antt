@@ -1,5 +1,5 @@
 -- The classes of an image by their names and places, and how many stand above each.
-use Rattle.std.proofs.Common.{◌≡◌, ◌≢◌, ◌∙◌, ◌+◌, ◌-◌, ◌≤◌, ◌<◌, ℕ, suc, zero, Bool, cond, true, false, refl, sym, ap, List, [], ◌∷◌, Option, Some, None, length, map as list_map, option_map, slice_get, get_or, true≢false, arith}
+use Rattle.std.proofs.Common.{◌≡◌, ◌≢◌, ◌∙◌, ◌+◌, ◌-◌, ◌≤◌, ◌<◌, ℕ, suc, zero, Bool, cond, true, false, refl, sym, ap, subst, List, [], ◌∷◌, Option, Some, None, length, map as list_map, option_map, slice_get, get_or, true≢false, arith}
 use Rattle.std.specs.Prelude.{option_and_then}
 use Rattle.std.specs.List.{AllByRecursion}
 use Rattle.std.specs.List.Sorted.{IsPartitionPoint, IsPartitionedBy, IsStrictlySortedBy}
@@ -13,10 +13,10 @@ use Rattle.std.specs.FinMap as map
 use Rattle.std.specs.Str.{bytes_eq}
 use Rattle.s80_class.specs.Classes.{Name, Classes, ClassRow, lineage, then_up, upwards}
 use Rattle.s80_image.specs.declared.image.ImageClass.{ImageClass}
-use Rattle.s80_image.specs.Classes.{ClassView, classes_of}
+use Rattle.s80_image.specs.Classes.{ClassView, class_of, classes_of}
 use Rattle.s80_image.specs.Together.{classes_by_name, row_of, superclass_of}
 use Rattle.s80_snapshot.specs.Resuming.{climbed, names_of, place_above, place_in, superclass_place}
-use Rattle.s80_snapshot.proofs.ImageMaps.{by_found, entries_are, got_at, got_one, keys_are, one_value, order, other_bytes, unlike}
+use Rattle.s80_snapshot.proofs.ImageMaps.{apart, by_bytes, by_found, entries_are, got_at, got_one, keys_are, no_value, one_value, order, other_bytes, same_bytes, unlike}
 
 abbrev name_of : ClassView → Name
 name_of c = c.heading.name

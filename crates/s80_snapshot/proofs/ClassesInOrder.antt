@@ -1,18 +1,20 @@
 -- The classes of a lawful image are such as definitions, comments and class-side variables could have made.
-use Rattle.std.proofs.Common.{◌≡◌, ◌∙◌, ◌++◌, ◌&&◌, ◌||◌, not, Bool, cond, true, false, refl, sym, ap, List, [], ◌∷◌, Option, Some, None, map as list_map, option_map, codes, find, true≢false}
+use Rattle.std.proofs.Common.{◌≡◌, ◌∙◌, ◌≤◌, ◌++◌, ◌&&◌, ◌||◌, not, ℕ, Bool, cond, true, false, refl, sym, ap, subst, List, [], ◌∷◌, Option, Some, None, length, map as list_map, option_map, codes, find, true≢false}
 use Rattle.std.specs.FinMap as map
 use Rattle.std.specs.FinMap.Entries.{find as find_entry}
 use Rattle.std.specs.List.{list_any}
 use Rattle.std.specs.Str.{bytes_eq}
+use Rattle.std.specs.Ordering.{eq_by_cmp}
 use Rattle.std.specs.Cmp.Lexicographic.{nat_list_cmp_total, texts_ties}
 use Rattle.s80_kernel.specs.Rows.{KernelRow, is_kernel_class, kernel_rows}
-use Rattle.s80_form.specs.Name.{is_name}
+use Rattle.s80_form.specs.Name.{is_class_name, is_name}
 use Rattle.s80_form.specs.Definition.{split_names}
 use Rattle.s80_form.specs.declared.refusal.Refusal.TheVariants.{BadName, Duplicate}
 use Rattle.s80_syntax.specs.Word.{has_name}
 use Rattle.s80_class.specs.Classes.{Name, ClassRow, Classes, with_comment}
-use Rattle.s80_apply.specs.Accept.{first_again, first_some}
+use Rattle.s80_apply.specs.Accept.{bad_name, duplicate, first_again, first_some}
 use Rattle.s80_apply.specs.Kernel.{kernel_classes, kernel_row as row_in_kernel, superclass_of as above_in_kernel}
+use Rattle.s80_fileout.specs.Condensed.{definition_of}
 use Rattle.s80_fileout.specs.Lawful.{AreLawfulClasses, IsOwnRow}
 use Rattle.s80_image.specs.Classes.{kernel_row}
 use Rattle.s80_image.specs.Definable.{AreInOrder, IsDefinable, are_new, row_of_kernel}

@@ -1,33 +1,39 @@
 -- A system that has all methods of an image is what resuming answers; and what else it may answer.
-use Rattle.std.proofs.Common.{◌≡◌, ◌∙◌, ◌<◌, ◌≤◌, ◌+◌, ◌++◌, ℕ, suc, zero, refl, sym, ap, subst, List, [], ◌∷◌, Some, None, is_some, option_map, unwrap_or, length, map as list_map, slice_get, arith}
+use Rattle.std.proofs.Common.{◌≡◌, ◌∙◌, ◌<◌, ◌≤◌, ◌+◌, ◌++◌, ℕ, suc, zero, Bool, IsTrue, true, false, refl, sym, ap, subst, List, [], ◌∷◌, Option, Some, None, is_some, option_map, unwrap_or, length, map as list_map, slice_get, true≢false, arith}
 use Rattle.std.specs.Prelude.{filter}
 use Rattle.std.specs.FinMap as map
-use Rattle.std.specs.List.{flat_map}
+use Rattle.std.specs.List.{AllByRecursion, flat_map}
+use Rattle.std.specs.List.Sorted.{IsStrictlySortedBy}
 use Rattle.s80_base.specs.declared.names.Side.{Side}
 use Rattle.s80_base.specs.declared.names.Side.TheVariants.{Instance, Class}
+use Rattle.s80_dict.specs.Dict.{Methods}
 use Rattle.s80_dict.specs.Table.{methods_at}
 use Rattle.s80_class.specs.Classes.{Name, Classes, ClassRow}
 use Rattle.s80_class.specs.Table.{IsNumberOf}
 use Rattle.s80_code.specs.declared.code.Code.{Code}
 use Rattle.s80_method.specs.Code.{IsMethodCode}
 use Rattle.s80_apply.specs.Entries.{Entry, row_in, state_row}
+use Rattle.s80_apply.specs.State.{MethodRow, StateOf}
 use Rattle.s80_apply.specs.System.{IsSystemBy, SystemState}
 use Rattle.s80_image.specs.declared.image.ClassHeading.{ClassHeading}
 use Rattle.s80_image.specs.Classes.{ClassView}
-use Rattle.s80_image.specs.Methods.{code_of}
+use Rattle.s80_image.specs.Methods.{MethodView, code_of}
 use Rattle.s80_image.specs.Together.{classes_by_name, row_of, superclass_of}
 use Rattle.s80_snapshot.specs.Pictured.{CodedRow, CodedState, class_view, classes_view, coded_row, heading_view, method_view, methods_view, sources_of, sources_on}
-use Rattle.s80_snapshot.specs.Resuming.{AreOrdered, IsOnWay, Sourced, coded_row_of, coded_state, is_on, outline, placed_row_of, selector_of, with_sources}
-use Rattle.s80_snapshot.specs.Sources.{AreEachs, AreSourcesOf, ImagedMethod, IsResumed, IsSourceOf, imaged_methods}
+use Rattle.s80_snapshot.specs.Resuming.{AreOrdered, IsOnWay, Sourced, coded_row_of, coded_state, is_on, names_of, outline, placed_row_of, selector_of, with_sources}
+use Rattle.s80_snapshot.specs.Sources.{AreEachs, AreSourcesOf, ImagedMethod, IsResumed, IsSourceOf, imaged_methods, methods_on}
 use Rattle.s80_snapshot.proofs.ClassPlaces.{class_entries, class_got}
 use Rattle.s80_snapshot.proofs.Grouping.{group, groups_are_all, imaged, imaged_at, on_side, stood_at}
-use Rattle.s80_snapshot.proofs.ImageMaps.{by_found, contained, entries_are, entries_by, got_one, no_value, one_named, one_value, order, same_named, seen}
+use Rattle.s80_snapshot.proofs.ImageMaps.{by_found, contained, entries_are, entries_by, found_one, got_one, no_such, no_value, one_named, one_value, order, same_named, seen}
 use Rattle.s80_snapshot.proofs.OnePut.{found_entry}
 use Rattle.s80_snapshot.proofs.OnWay.{coded_at, firsts_are, method_at, on_is, pairs_on, pairs_sorted, seconds_are, sourced_at}
 use Rattle.s80_snapshot.proofs.PiecesAdded.{at_each, map_apart, map_of_map, pieces_of_map, same_map, same_pieces}
 use Rattle.s80_snapshot.proofs.SameCodes.{HaveOneCode, HaveOneTree, one_code_of}
 
 -- ---- as the image has them
+
+view_of_row : (p : Sourced) → method_view (selector_of p.0, coded_row_of p) ≡ p.0.method
+view_of_row p = refl
 
 same_superclass : (name : Name) → unwrap_or (superclass_of name) [] ≡ name
 same_superclass [] = refl

@@ -15,7 +15,7 @@ use Rattle.s80_class.specs.Classes.{Name, ClassRow, Classes, lineage, then_up, u
 use Rattle.s80_apply.specs.State.{State}
 use Rattle.s80_fileout.specs.Condensed.{class_vars_of, comment_of, defined, definition_of, filed, for_classes, for_methods, is_own_at, kernel_part, of_kernel_class, of_method, of_own_class, own_part, removals, up_to}
 use Rattle.s80_base.specs.declared.names.Side.TheVariants.{Instance, Class}
-use Rattle.s80_snapshot.proofs.NamedMaps.{no_value}
+use Rattle.s80_snapshot.proofs.lemmas.NamedMaps.{no_value}
 use Rattle.s80_snapshot.proofs.InLists.{IsIn, all_in, in_back, in_entries, in_flat, in_front}
 
 -- a class that isn't the kernel's

@@ -21,7 +21,7 @@ use Rattle.s80_change.specs.Check.{IsCheckOf}
 use Rattle.s80_class.specs.Classes.{Name, ClassRow}
 use Rattle.s80_apply.specs.State.{MethodRow, State, on_class_side}
 use Rattle.s80_fileout.specs.Condensed.{as_change, by_category, categories, classified, filed, for_methods, kernel_category, kernel_part, of_method, over_kernels, own_part}
-use Rattle.s80_snapshot.proofs.NamedMaps.{Text}
+use Rattle.s80_snapshot.proofs.lemmas.NamedMaps.{Text}
 use Rattle.s80_snapshot.proofs.InLists.{IsIn, all_in, in_back, in_entries, in_filtered, in_flat, in_keys, in_keys_of, in_mapped}
 
 -- a method whose source is lawful, and whose category is brief

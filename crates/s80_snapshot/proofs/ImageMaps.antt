@@ -1,5 +1,5 @@
 -- Finite maps by names: what is found when one is put, how many there are, and lists of entries in order.
-use Rattle.std.proofs.Common.{◌≡◌, ◌≢◌, ◌≤◌, ◌-◌, ◌∙◌, ◌&&◌, ◌||◌, ◌∷◌, ℕ, zero, suc, Bool, T, cond, true, false, refl, sym, ap, subst, List, [], length, map as list_map, Option, Some, None, is_some, option_map, slice_get, true≢false, arith}
+use Rattle.std.proofs.Common.{◌≡◌, ◌≢◌, ◌≤◌, ◌-◌, ◌+◌, ◌∙◌, ◌&&◌, ◌||◌, ◌∷◌, ℕ, zero, suc, Bool, T, cond, true, false, refl, sym, ap, subst, List, [], length, map as list_map, Option, Some, None, is_some, option_map, slice_get, true≢false, arith}
 use Rattle.std.specs.Str.{bytes_eq}
 use Rattle.std.specs.List.{AllByRecursion, list_any}
 use Rattle.std.specs.List.Sorted.{IsStrictlySortedBy}
@@ -25,6 +25,10 @@ order = slice_cmp nat_cmp
 first_of : (a b : Bool) → T (a && b) → T a
 first_of true b h = tt
 first_of false b h = h
+
+second_of : (a b : Bool) → T (a && b) → T b
+second_of true b h = h
+second_of false b h = absurd h
 
 pub same_bytes : (x : Text) → bytes_eq x x ≡ true
 same_bytes x = (bytes_decides x x).1 refl
@@ -64,6 +68,9 @@ one_named o a b first second = let both : Some (Some a) ≡ Some (Some b) = sym 
 
 pub no_value : {V P : Type 0} (o : Option V) (v : V) → o ≡ None → o ≡ Some v → P
 no_value o v none some = absurd (let bad : None ≡ Some v = sym none ∙ some in cc)
+
+pub no_such : {V P : Type 0} (o : Option V) → o ≡ None → is_some o ≡ true → P
+no_such o none some = absurd (true≢false (sym some ∙ ap is_some none))
 
 pub contained : {V : Type 0} (o : Option V) → is_some o ≡ true → (v : V) × (o ≡ Some v)
 contained None has = absurd (true≢false (sym has))

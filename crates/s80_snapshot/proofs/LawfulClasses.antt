@@ -29,7 +29,7 @@ use Rattle.s80_image.specs.Methods.{code, code_of, methods}
 use Rattle.s80_image.specs.Parts.{is_above}
 use Rattle.s80_snapshot.specs.OfList.{IsImageOf}
 use Rattle.s80_snapshot.specs.Pictured.{CodedRow, CodedState, class_view, classes_view, heading_view, method_view, methods_view}
-use Rattle.s80_snapshot.proofs.NamedMaps.{Text, each_holds}
+use Rattle.s80_snapshot.proofs.lemmas.NamedMaps.{Text, each_holds}
 use Rattle.s80_snapshot.proofs.BriefTrees.{method_brief}
 use Rattle.s80_snapshot.proofs.FiledMethods.{IsSourced}
 use Rattle.s80_snapshot.proofs.LawfulCodes.{CodeLaws, code_lawful, code_verified}

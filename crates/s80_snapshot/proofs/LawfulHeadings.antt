@@ -22,7 +22,7 @@ use Rattle.s80_image.specs.Format.{Format, pair, text, text_where}
 use Rattle.s80_image.specs.Parts.{is_above}
 use Rattle.s80_image.specs.declared.image.ClassVariables.{ClassVariables}
 use Rattle.s80_snapshot.specs.Pictured.{heading_view}
-use Rattle.s80_snapshot.proofs.NamedMaps.{Text, by_text}
+use Rattle.s80_snapshot.proofs.lemmas.NamedMaps.{Text, by_text}
 use Rattle.s80_snapshot.proofs.GoodEntries.{IsGoodClass, IsGoodWord}
 use Rattle.s80_snapshot.proofs.PassingFormats.{AllPass, Passes, both_true, list_passes, pair_passes, text_passes, text_where_passes, within}
 

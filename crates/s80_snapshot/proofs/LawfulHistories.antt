@@ -29,7 +29,7 @@ use Rattle.s80_snapshot.proofs.LawfulEntries.{class_passes, side_passes}
 use Rattle.s80_snapshot.proofs.ListedChanges.{AreListed, IsFitNoted, IsGoodMethod, filter_listed, set_listed}
 use Rattle.s80_snapshot.proofs.PassingFormats.{Passes, below, both_true, list_passes, pair_passes, such_passes, text_where_passes, word64_passes}
 use Rattle.s80_snapshot.proofs.PassingLists.{Chain, chain_pass}
-use Rattle.s80_snapshot.proofs.SameViews.{heads, tails}
+use Rattle.s80_snapshot.proofs.lemmas.SameViews.{heads, tails}
 
 -- ---- places
 

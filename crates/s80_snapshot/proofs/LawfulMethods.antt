@@ -11,7 +11,7 @@ use Rattle.s80_image.specs.Format.{pair, text, text_where, word64}
 use Rattle.s80_image.specs.Methods.{MethodView, code, method, method_behind, method_heading, method_limit, methods}
 use Rattle.s80_image.specs.Parts.{is_above, is_selector, source}
 use Rattle.s80_snapshot.specs.Pictured.{CodedRow, method_view, methods_view}
-use Rattle.s80_snapshot.proofs.NamedMaps.{Text, each_holds}
+use Rattle.s80_snapshot.proofs.lemmas.NamedMaps.{Text, each_holds}
 use Rattle.s80_snapshot.proofs.LawfulEntries.{source_passes}
 use Rattle.s80_snapshot.proofs.PassingFormats.{Passes, both_true, list_passes, pair_passes, text_passes, text_where_passes, within, word64_passes}
 use Rattle.s80_snapshot.proofs.PassingLists.{sorted_pass}

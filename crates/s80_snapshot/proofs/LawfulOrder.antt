@@ -1,5 +1,5 @@
 -- The classes of a lawful image are in byte order of their names, and the methods of each in that of their selectors.
-use Rattle.std.proofs.Common.{◌≡◌, ◌∙◌, ◌≤◌, ◌+◌, ◌-◌, ◌^◌, ◌++◌, ◌&&◌, ℕ, suc, Bool, true, false, refl, sym, ap, subst, List, [], ◌∷◌, Option, Some, None, length, map as list_map, option_map, nat_le, nat_lt, slice_get, true≢false, arith}
+use Rattle.std.proofs.Common.{◌≡◌, ◌∙◌, ◌≤◌, ◌+◌, ◌-◌, ◌^◌, ◌++◌, ◌&&◌, ℕ, suc, zero, Bool, true, false, refl, sym, ap, subst, List, [], ◌∷◌, Option, Some, None, length, map as list_map, option_map, nat_le, nat_lt, slice_get, true≢false, arith}
 use Rattle.std.proofs.lemmas.Bool.Decides.{nat_tests}
 use Rattle.std.specs.List.{AllByRecursion}
 use Rattle.std.specs.List.Sorted.{IsStrictlySortedBy}
@@ -9,6 +9,7 @@ use Rattle.std.specs.declared.cmp.Ordering.TheVariants.{Less, Equal, Greater}
 use Rattle.std.specs.Cmp.Lexicographic.{nat_list_cmp_total}
 use Rattle.s80_form.specs.Name.{is_class_name}
 use Rattle.s80_image.specs.declared.image.ClassHeading.{ClassHeading}
+use Rattle.s80_image.specs.declared.image.MethodHeading.{MethodHeading}
 use Rattle.s80_image.specs.Format.{Format, are_lawful, text, word64}
 use Rattle.s80_image.specs.Parts.{Name, is_above, is_selector, last_of}
 use Rattle.s80_image.specs.Methods.{MethodView, code, method, method_behind, method_heading, method_limit, methods}
@@ -17,7 +18,7 @@ use Rattle.s80_image.specs.Definable.{AreInOrder}
 use Rattle.s80_image.specs.History.{all_versions, change_set}
 use Rattle.s80_image.specs.Image.{HasLawfulFields, ImageView, contents, image_format}
 use Rattle.s80_image.specs.Together.{classes_by_name}
-use Rattle.s80_snapshot.specs.Resuming.{AreListed, AreOrdered}
+use Rattle.s80_snapshot.specs.Resuming.{AreListed, AreOrdered, names_of, selectors_of}
 use Rattle.s80_snapshot.proofs.ImageMaps.{order}
 
 of_both : (a b : Bool) → (a && b) ≡ true → (a ≡ true) × (b ≡ true)

@@ -1,3 +1,4 @@
+pub mod lemmas
 mod Mapped
 mod Shown
 mod Pictures
@@ -5,9 +6,6 @@ mod Remembered
 mod Pieces
 mod Put
 mod Restoring
-mod NamedMaps
-mod SameViews
-mod ResumedState
 mod InLists
 mod FiledMethods
 mod ListSources

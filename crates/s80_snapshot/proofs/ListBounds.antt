@@ -9,7 +9,7 @@ use Rattle.s80_apply.proofs.LastingWithin.{within_last}
 use Rattle.s80_fileout.specs.Lawful.{AreOwn}
 use Rattle.s80_fileout.proofs.Held.{held_last}
 use Rattle.s80_fileout.proofs.OwnRows.{few_last, own_last}
-use Rattle.s80_snapshot.proofs.NamedMaps.{Text}
+use Rattle.s80_snapshot.proofs.lemmas.NamedMaps.{Text}
 
 pub record KeepsBounds (changes : List Change) : Type 0 where
   pub count : map.len (classes_of changes) ≤ 65536

@@ -26,7 +26,7 @@ use Rattle.s80_apply.specs.Placed.{PlacedRow}
 use Rattle.s80_fileout.specs.Condensed.{filed}
 use Rattle.s80_fileout.specs.Lawful.{IsOwnRow}
 use Rattle.s80_image.specs.Classes.{kernel_row}
-use Rattle.s80_snapshot.proofs.NamedMaps.{no_value, one_value}
+use Rattle.s80_snapshot.proofs.lemmas.NamedMaps.{no_value, one_value}
 use Rattle.s80_snapshot.proofs.FiledClasses.{comment_brief, own_brief}
 use Rattle.s80_snapshot.proofs.GoodEntries.{AreGoodBindings, IsGoodClass, IsGoodWord}
 use Rattle.s80_snapshot.proofs.LawfulHeadings.{HasHeading, IsFitRow, kernel_got, kernel_named, own_row}

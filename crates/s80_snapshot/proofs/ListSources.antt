@@ -17,10 +17,10 @@ use Rattle.s80_image.specs.Together.{classes_by_name}
 use Rattle.s80_snapshot.specs.OfList.{IsImageOf}
 use Rattle.s80_snapshot.specs.Pictured.{CodedRow, CodedState, class_view, method_view, methods_view, sources_of, sources_on}
 use Rattle.s80_snapshot.specs.Sources.{AreEachs, AreSourcesOf, ImagedMethod, IsSourceOf, imaged_methods, methods_on}
-use Rattle.s80_snapshot.proofs.NamedMaps.{Text, each_holds}
-use Rattle.s80_snapshot.proofs.SameViews.{IsAbove, by_name_again}
+use Rattle.s80_snapshot.proofs.lemmas.NamedMaps.{Text, each_holds}
+use Rattle.s80_snapshot.proofs.lemmas.SameViews.{IsAbove, by_name_again}
 use Rattle.s80_snapshot.proofs.FiledMethods.{IsSourced}
-use Rattle.s80_snapshot.proofs.ResumedState.{above_named, sources_coded}
+use Rattle.s80_snapshot.proofs.lemmas.ResumedState.{above_named, sources_coded}
 use Rattle.s80_snapshot.proofs.ListBounds.{bounds_of}
 
 -- ---- lists

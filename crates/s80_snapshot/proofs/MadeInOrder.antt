@@ -1,5 +1,5 @@
 -- What makes the classes of an image, class by class.
-use Rattle.std.proofs.Common.{◌≡◌, ◌∙◌, ◌+◌, ◌||◌, ◌++◌, not, ℕ, Bool, cond, true, false, refl, sym, ap, List, [], ◌∷◌, Some, None, length, take, map as list_map, slice_get, append-nil, arith}
+use Rattle.std.proofs.Common.{◌≡◌, ◌∙◌, ◌+◌, ◌≤◌, ◌||◌, ◌++◌, not, ℕ, Bool, cond, true, false, refl, sym, ap, subst, List, [], ◌∷◌, Option, Some, None, length, take, map as list_map, slice_get, append-nil, arith}
 use Rattle.std.specs.Prelude.{filter, if◌then◌else◌}
 use Rattle.std.specs.List.{flat_map, list_any}
 use Rattle.std.specs.List.Sorted.{IsStrictlySortedBy}
@@ -11,7 +11,7 @@ use Rattle.s80_kernel.specs.Rows.{is_kernel_class}
 use Rattle.s80_form.specs.declared.form.Form.TheVariants.{RemoveMethod}
 use Rattle.s80_change.specs.declared.change.Change.{Change}
 use Rattle.s80_change.specs.declared.change.Change.TheVariants.{Form}
-use Rattle.s80_class.specs.Classes.{Name, Classes, lineage}
+use Rattle.s80_class.specs.Classes.{Name, Classes, ClassRow, lineage}
 use Rattle.s80_apply.specs.State.{MethodRow, State, kernel_state}
 use Rattle.s80_apply.specs.System.{IsSystemOf, SystemState}
 use Rattle.s80_dict.specs.Dict.{Methods}
@@ -23,11 +23,11 @@ use Rattle.s80_image.specs.Classes.{ClassView}
 use Rattle.s80_image.specs.Methods.{MethodView, methods_of}
 use Rattle.s80_image.specs.Together.{classes_by_name, row_of}
 use Rattle.s80_snapshot.specs.Resuming.{has_selector, is_on, kernel_class, names_of, outline, place_in, ranked, removal_from, removals_from, selector_of}
-use Rattle.s80_snapshot.specs.Sources.{imaged_methods}
+use Rattle.s80_snapshot.specs.Sources.{ImagedMethod, imaged_methods, methods_on}
 use Rattle.s80_snapshot.proofs.ClassPlaces.{class_got, class_keys, not_got, placed_class}
 use Rattle.s80_snapshot.proofs.Grouping.{imaged, on_class, on_side}
 use Rattle.s80_snapshot.proofs.ImageMaps.{has_one, order}
-use Rattle.s80_snapshot.proofs.PiecesAdded.{at_each, passing_pieces, piece_added, pieces_of_map, same_pieces}
+use Rattle.s80_snapshot.proofs.PiecesAdded.{at_each, map_of_map, passing_pieces, piece_added, pieces_of_map, same_pieces}
 
 any_of_map : {X Y : Type 0} (p : Y → Bool) (f : X → Y) (xs : List X) → list_any p (list_map f xs) ≡ list_any (λ x. p (f x)) xs
 any_of_map p f [] = refl

@@ -1,5 +1,5 @@
 -- A system on its way: the methods of an image are put one after the other.
-use Rattle.std.proofs.Common.{◌≡◌, ◌⊎◌, inl, inr, ◌∙◌, ◌+◌, ◌<◌, ◌≤◌, ◌&&◌, ◌||◌, ℕ, suc, zero, Bool, cond, true, false, refl, sym, ap, subst, List, [], ◌∷◌, Some, is_some, length, map as list_map, slice_get, true≢false, arith}
+use Rattle.std.proofs.Common.{◌≡◌, ◌⊎◌, inl, inr, ◌∙◌, ◌+◌, ◌<◌, ◌≤◌, ◌&&◌, ◌||◌, ℕ, suc, zero, Bool, cond, true, false, refl, sym, ap, subst, List, [], ◌∷◌, Option, Some, None, is_some, length, map as list_map, slice_get, true≢false, arith}
 use Rattle.std.specs.Prelude.{filter}
 use Rattle.std.specs.FinMap as map
 use Rattle.std.specs.List.{list_any}
@@ -13,17 +13,19 @@ use Rattle.s80_dict.specs.Table.{same_side}
 use Rattle.s80_class.specs.Classes.{Name, Classes}
 use Rattle.s80_apply.specs.Accept.{len_with}
 use Rattle.s80_apply.specs.Codes.{AreCodes}
+use Rattle.s80_apply.specs.Placed.{PlacedRow}
 use Rattle.s80_apply.specs.State.{MethodRow, State, put_method}
 use Rattle.s80_apply.specs.System.{SystemState}
 use Rattle.s80_image.specs.Classes.{ClassView}
-use Rattle.s80_image.specs.Together.{classes_by_name}
+use Rattle.s80_image.specs.Methods.{MethodView}
+use Rattle.s80_image.specs.Together.{classes_by_name, row_of}
 use Rattle.s80_snapshot.specs.Pictured.{CodedRow}
-use Rattle.s80_snapshot.specs.Resuming.{AreListed, AreOrdered, IsBegun, IsOnWay, MayPut, Puts, Sourced, coded_row_of, coded_state, is_on, outline, placed_row_of, selector_of, state_row_of, with_sources}
+use Rattle.s80_snapshot.specs.Resuming.{AreListed, AreOrdered, IsBegun, IsOnWay, MayPut, Puts, Sourced, coded_row_of, coded_state, is_on, names_of, outline, placed_row_of, selector_of, selectors_of, state_row_of, with_sources}
 use Rattle.s80_snapshot.specs.Sources.{ImagedMethod, IsSourceOf, imaged_methods, methods_on}
 use Rattle.s80_snapshot.proofs.ClassPlaces.{class_got}
-use Rattle.s80_snapshot.proofs.Grouping.{imaged, imaged_at, kept_at, on_class, on_side, side_itself, side_same}
-use Rattle.s80_snapshot.proofs.ImageMaps.{by_bytes, entries_by, get_put_here, get_put_other, got_at, has_one, no_longer, one_value, order, same_bytes}
-use Rattle.s80_snapshot.proofs.PiecesAdded.{at_place, count_of, map_of_map, passes_of_map}
+use Rattle.s80_snapshot.proofs.Grouping.{imaged, imaged_at, kept_at, on_class, on_side, side_itself, side_same, stood_at}
+use Rattle.s80_snapshot.proofs.ImageMaps.{by_bytes, by_found, contained, entries_by, get_put, get_put_here, get_put_other, got_at, has_one, no_longer, one_value, order, same_bytes}
+use Rattle.s80_snapshot.proofs.PiecesAdded.{at_place, count_of, map_got, map_of_map, passes_of_map}
 
 -- ---- methods with their sources
 

@@ -1,5 +1,5 @@
 -- One method put into a system, with its source at the image's place.
-use Rattle.std.proofs.Common.{◌≡◌, inl, inr, ◌∙◌, ◌<◌, ◌≤◌, ◌&&◌, ℕ, Bool, cond, true, false, refl, sym, ap, subst, List, [], ◌∷◌, Option, Some, None, Result, Ok, option_map, length, nat_eq, nat_le, slice_get, arith}
+use Rattle.std.proofs.Common.{◌≡◌, ◌≢◌, ◌⊎◌, inl, inr, ◌∙◌, ◌<◌, ◌≤◌, ◌+◌, ◌&&◌, ℕ, Bool, cond, true, false, refl, sym, ap, subst, List, [], ◌∷◌, Option, Some, None, Result, Ok, Err, is_some, option_map, length, nat_eq, nat_le, slice_get, true≢false, arith}
 use Rattle.std.proofs.lemmas.Bool.Decides.{nat_tests}
 use Rattle.std.specs.FinMap as map
 use Rattle.std.specs.Str.{bytes_eq}
@@ -7,24 +7,25 @@ use Rattle.std.specs.Cmp.Lexicographic.{bytes_decides}
 use Rattle.s80_base.specs.declared.names.Side.{Side}
 use Rattle.s80_dict.specs.Dict.{Methods}
 use Rattle.s80_dict.specs.Table.{methods_at, put_at, same_side}
+use Rattle.s80_change.specs.declared.change.Change.{Change}
 use Rattle.s80_change.specs.declared.change.Method.{Method}
 use Rattle.s80_change.specs.Source.{SourceParts}
 use Rattle.s80_form.specs.declared.refusal.Refusal.{Refusal}
 use Rattle.s80_form.specs.declared.refusal.Refusal.TheVariants.{TooMany, UnknownClass}
 use Rattle.s80_form.specs.declared.refusal.ManyKind.TheVariants.{Methods as ManyMethods}
-use Rattle.s80_class.specs.Classes.{Name, Classes}
+use Rattle.s80_class.specs.Classes.{Name, Classes, ClassRow}
 use Rattle.s80_class.specs.Table.{IsNumberOf}
 use Rattle.s80_apply.specs.Accept.{Keeping, above, accept, accept_with, accepted, first_some, keeping_rows, len_with, too_many_methods, unknown_name}
 use Rattle.s80_apply.specs.Entries.{Entry, row_in, state_row}
 use Rattle.s80_apply.specs.List.{IsAccepted}
-use Rattle.s80_apply.specs.Placed.{PlacedRow, PlacedState, keeping_places}
+use Rattle.s80_apply.specs.Placed.{PlacedRow, PlacedState, accept_placed, keeping_places}
 use Rattle.s80_apply.specs.Seen.{AreSeen}
 use Rattle.s80_apply.specs.State.{MethodRow, State, StateOf, put_method}
 use Rattle.s80_apply.specs.declared.step.SourcePlace.{SourcePlace}
-use Rattle.s80_apply.specs.System.{HasNumber, HasPlaces, HasSourceAt, IsSystemBy, IsSystemOf, LacksMethod, SetsSourcePlace, SystemState, at_place}
+use Rattle.s80_apply.specs.System.{HasMethodAt, HasNumber, HasPlaces, HasSourceAt, IsSystemBy, IsSystemOf, LacksMethod, SetsSourcePlace, SystemState, at_place}
 use Rattle.s80_snapshot.specs.Resuming.{Accepts, MayPut, Puts, Works, method_change, placed_row_of, selector_of, state_row_of}
 use Rattle.s80_snapshot.specs.Sources.{ImagedMethod}
-use Rattle.s80_snapshot.proofs.Grouping.{side_itself}
+use Rattle.s80_snapshot.proofs.Grouping.{side_itself, side_same}
 use Rattle.s80_snapshot.proofs.ImageMaps.{get_put, get_put_here, no_value, one_named, same_bytes, same_named, seen}
 
 -- the method of a source that has its selector

@@ -5,7 +5,7 @@ use Rattle.std.specs.Ordering.{is_lt}
 use Rattle.std.specs.FinMap.Entries.{below_all, is_sorted}
 use Rattle.s80_image.specs.Format.{Format}
 use Rattle.s80_image.specs.Parts.{is_above, last_of}
-use Rattle.s80_snapshot.proofs.NamedMaps.{Text, by_text, first_of_two, second_of_two, true_is}
+use Rattle.s80_snapshot.proofs.lemmas.NamedMaps.{Text, by_text, first_of_two, second_of_two, true_is}
 use Rattle.s80_snapshot.proofs.PassingFormats.{AllPass, Passes}
 
 module _ {A : Type 0} where

@@ -1,5 +1,5 @@
 -- Lists that are made piece by piece.
-use Rattle.std.proofs.Common.{◌≡◌, ◌∙◌, ◌+◌, ◌≤◌, ◌<◌, ◌++◌, cond, get_or, ℕ, suc, zero, Bool, true, false, refl, sym, ap, subst, List, [], ◌∷◌, Some, length, take, map, append_assoc, append-nil, arith}
+use Rattle.std.proofs.Common.{◌≡◌, ◌∙◌, ◌+◌, ◌≤◌, ◌<◌, ◌++◌, cond, not, get_or, ℕ, suc, zero, Bool, true, false, refl, sym, ap, subst, List, [], ◌∷◌, Some, length, take, map, append_assoc, append-nil, arith}
 use Rattle.std.specs.Prelude.{slice_get}
 use Rattle.std.specs.List.{AllByRecursion, filter, flat_map}
 use Rattle.std.proofs.lemmas.List.{take_all}

@@ -1,17 +1,21 @@
 -- Whether a source is that of its method, as the system tells that has it.
-use Rattle.std.proofs.Common.{◌≡◌, ◌↔◌, ◌∙◌, ℕ, Bool, IsTrue, true, false, refl, sym, ap, subst, List, Some, None, slice_get, true≢false}
+use Rattle.std.proofs.Common.{◌≡◌, ◌↔◌, ◌≤◌, ◌∙◌, ℕ, Bool, IsTrue, true, false, refl, sym, ap, subst, List, Option, Some, None, Ok, option_map, slice_get, length, true≢false}
+use Rattle.std.specs.Option.{option_copied}
 use Rattle.std.specs.FinMap as map
 use Rattle.s80_base.specs.declared.names.Side.{Side}
+use Rattle.s80_code.specs.declared.code.Code.{Code}
 use Rattle.s80_dict.specs.Table.{methods_at}
 use Rattle.s80_change.specs.Source.{SourceParts}
 use Rattle.s80_class.specs.Classes.{Name, Classes}
+use Rattle.s80_class.specs.Table.{IsNumberOf}
 use Rattle.s80_method.specs.Code.{IsMethodCode}
 use Rattle.s80_apply.specs.Codes.{AreCodes}
 use Rattle.s80_apply.specs.Entries.{Entry, state_row}
-use Rattle.s80_apply.specs.System.{HasNumber, SystemState}
+use Rattle.s80_apply.specs.State.{State}
+use Rattle.s80_apply.specs.System.{HasNumber, IsSystemOf, SystemState}
 use Rattle.s80_image.specs.Methods.{code_of}
 use Rattle.s80_snapshot.specs.Resuming.{IsFitting, MayPut, Puts, Resumed, selector_of, state_row_of}
-use Rattle.s80_snapshot.specs.Sources.{ImagedMethod}
+use Rattle.s80_snapshot.specs.Sources.{ImagedMethod, IsSourceOf}
 use Rattle.s80_snapshot.proofs.ImageMaps.{one_named, one_value}
 use Rattle.s80_snapshot.proofs.OnePut.{found_entry, here_put}
 use Rattle.s80_snapshot.proofs.SameCodes.{HaveOneCode, HaveOneTree, one_code_of}

@@ -2,6 +2,8 @@
 use Rattle.std.proofs.Common.{◌≡◌, ◌≢◌, ◌↔◌, ◌∙◌, ◌+◌, ◌≤◌, ◌==◌, ◌&&◌, ℕ, zero, suc, Bool, IsTrue, true, false, refl, sym, ap, subst, List, [], ◌∷◌, Some, length, drop, slice_get, eq-eqb, true≢false, arith}
 use Rattle.std.specs.Str.{bytes_eq}
 use Rattle.s80_base.specs.declared.names.Side.{Side}
+use Rattle.s80_base.specs.Literal.{LiteralTree}
+use Rattle.s80_base.specs.SameLiteral.{same_literal}
 use Rattle.s80_base.proofs.Sameness.{literal_is_same, literal_looks_same}
 use Rattle.s80_code.specs.Entries.{EntryTree, constant, class_variable, outer, owner, extension}
 use Rattle.s80_code.specs.declared.code.Code.{Code}

@@ -22,7 +22,7 @@ use Rattle.s80_image.specs.Together.{first_class_place, Spot, ends_within, first
 use Rattle.s80_image.specs.declared.image.ClassHeading.{ClassHeading}
 use Rattle.s80_snapshot.specs.OfList.{IsImageOf}
 use Rattle.s80_snapshot.specs.Pictured.{CodedState, class_view, classes_view, heading_view}
-use Rattle.s80_snapshot.proofs.NamedMaps.{each_holds, one_value}
+use Rattle.s80_snapshot.proofs.lemmas.NamedMaps.{each_holds, one_value}
 use Rattle.s80_snapshot.proofs.FiledClasses.{upwards_few}
 use Rattle.s80_snapshot.proofs.LawfulClasses.{IsKnownList}
 use Rattle.s80_snapshot.proofs.LawfulHeadings.{kernel_got}

@@ -1,5 +1,5 @@
 -- Changes that are accepted, worked in a system.
-use Rattle.std.proofs.Common.{◌≡◌, ◌∙◌, ◌+◌, ◌++◌, ℕ, suc, zero, refl, sym, ap, subst, List, [], ◌∷◌, Some, Ok, Err, take, slice_get}
+use Rattle.std.proofs.Common.{◌≡◌, ◌∙◌, ◌+◌, ◌++◌, ℕ, suc, zero, refl, sym, ap, subst, List, [], ◌∷◌, Some, Result, Ok, Err, take, drop, slice_get, arith}
 use Rattle.s80_change.specs.declared.change.Change.{Change}
 use Rattle.s80_form.specs.declared.refusal.Refusal.{Refusal}
 use Rattle.s80_apply.specs.Accept.{accept}

@@ -5,12 +5,12 @@ use Rattle.std.specs.List.Sorted.{IsStrictlySortedBy}
 use Rattle.s80_base.specs.declared.names.Side.{Side}
 use Rattle.s80_code.specs.declared.code.Code.{Code}
 use Rattle.s80_change.specs.declared.change.Change.{Change}
-use Rattle.s80_class.specs.Classes.{Name}
+use Rattle.s80_class.specs.Classes.{Name, Classes}
 use Rattle.s80_history.specs.History.{noting}
 use Rattle.s80_history.specs.Lists.{MethodName, set_of, versions_of}
 use Rattle.s80_history.specs.Order.{is_among, name_cmp}
 use Rattle.s80_method.specs.Code.{IsMethodCode}
-use Rattle.s80_apply.specs.Placed.{PlacedState, placed_of}
+use Rattle.s80_apply.specs.Placed.{PlacedRow, PlacedState, placed_of}
 use Rattle.s80_apply.specs.Seen.{AreSeen}
 use Rattle.s80_image.specs.History.{VersionsView}
 use Rattle.s80_image.specs.Image.{ImageView}

@@ -9,6 +9,7 @@ use Rattle.std.specs.Cmp.Lexicographic.{slice_cmp}
 use Rattle.s80_base.specs.declared.names.Side.{Side}
 use Rattle.s80_base.specs.declared.names.Side.TheVariants.{Instance, Class}
 use Rattle.s80_chunk.specs.Chunks.{IsChunkText}
+use Rattle.s80_dict.specs.Dict.{Methods}
 use Rattle.s80_dict.specs.Table.{same_side}
 use Rattle.s80_kernel.specs.Rows.{is_kernel_class}
 use Rattle.s80_form.specs.declared.form.Form.TheVariants.{RemoveMethod}
@@ -16,7 +17,7 @@ use Rattle.s80_change.specs.declared.change.Change.{Change}
 use Rattle.s80_change.specs.declared.change.Change.TheVariants.{Form, Method}
 use Rattle.s80_change.specs.Check.{IsCheckOf}
 use Rattle.s80_change.specs.Source.{SourceParts}
-use Rattle.s80_class.specs.Classes.{Name}
+use Rattle.s80_class.specs.Classes.{Name, Classes, lineage}
 use Rattle.s80_apply.specs.Accept.{accept, len_with}
 use Rattle.s80_apply.specs.Codes.{AreCodes}
 use Rattle.s80_apply.specs.List.{IsAccepted}
@@ -25,6 +26,7 @@ use Rattle.s80_apply.specs.State.{MethodRow, State, kernel_state, put_method}
 use Rattle.s80_apply.specs.System.{HasNumber, HasPlaces, IsSystemOf, SystemState}
 use Rattle.s80_fileout.specs.declared.order.RankedClass.{RankedClass}
 use Rattle.s80_fileout.specs.Condensed.{comment_of}
+use Rattle.s80_fileout.specs.Order.{ranked_class}
 use Rattle.s80_image.specs.Classes.{ClassView}
 use Rattle.s80_image.specs.Definable.{AreInOrder}
 use Rattle.s80_image.specs.Methods.{MethodView, method_of}

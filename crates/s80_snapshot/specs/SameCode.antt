@@ -1,5 +1,5 @@
 -- Whether two codes are equal, as a test.
-use Rattle.std.specs.Prelude.{◌==◌, ◌&&◌, Bool, true, false, List, [], ◌∷◌}
+use Rattle.std.specs.Prelude.{ℕ, ◌==◌, ◌&&◌, Bool, true, false, List, [], ◌∷◌}
 use Rattle.std.specs.Str.{bytes_eq}
 use Rattle.s80_base.specs.SameLiteral.{same_literal}
 use Rattle.s80_dict.specs.Table.{same_side}

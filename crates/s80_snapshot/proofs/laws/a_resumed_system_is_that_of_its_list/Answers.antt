@@ -1,6 +1,6 @@
 use Rattle.s80_apply.specs.List.{state_of}
 use Rattle.s80_apply.specs.Placed.{placed_of}
-use Rattle.s80_snapshot.proofs.ResumedState.{has_places, system_tied}
+use Rattle.s80_snapshot.proofs.lemmas.ResumedState.{has_places, system_tied}
 use Rattle.s80_snapshot.proofs.laws.a_resumed_system_is_that_of_its_list.Goals as goal
 
 pub returns-clause-places : goal.returns-clause-places

@@ -1,4 +1,4 @@
-use Rattle.std.proofs.Common.{◌≡◌, ◌∙◌, cond, sym, ap, subst, Some, None}
+use Rattle.std.proofs.Common.{◌≡◌, ◌∙◌, cond, true, false, sym, ap, subst, Some, None}
 use Rattle.s80_image.specs.Classes.{classes_of}
 use Rattle.s80_snapshot.specs.Resuming.{place_in}
 use Rattle.s80_snapshot.proofs.ClassPlaces.{IsPoint, is_there, place_found, place_within}

@@ -2,6 +2,7 @@
 use Rattle.std.proofs.Common.{◌≡◌, take}
 use Rattle.std.specs.List.{flat_map}
 use Rattle.s80_image.specs.Classes.{classes_of}
+use Rattle.s80_snapshot.specs.Resuming.{AreOrdered}
 use Rattle.s80_snapshot.proofs.MadeInOrder.{rank_piece}
 use Rattle.s80_snapshot.proofs.ranks.named_classes.Given as goal
 

@@ -1,6 +1,7 @@
-use Rattle.std.proofs.Common.{◌≡◌, ◌∙◌, Bor, Option, Some, sym, ap}
+use Rattle.std.proofs.Common.{◌≡◌, ◌↔◌, ◌∙◌, Bool, Bor, IsTrue, Option, Some, None, sym, ap, subst}
 use Rattle.std.specs.FinMap as finmap
 use Rattle.std.specs.Option.{option_copied}
+use Rattle.s80_code.specs.declared.code.Code.{Code}
 use Rattle.s80_dict.specs.Slots.{DictValue}
 use Rattle.s80_dict.specs.Table.{MethodsValue, methods_at}
 use Rattle.s80_apply.specs.Entries.{Entry}

@@ -1,4 +1,4 @@
-use Rattle.std.proofs.Common.{[], map, ap}
+use Rattle.std.proofs.Common.{[], map, ap, ◌∙◌}
 use Rattle.s80_image.specs.Classes.{class_of}
 use Rattle.s80_snapshot.specs.Resuming.{listed_of}
 use Rattle.s80_snapshot.proofs.Grouping.{class_methods}

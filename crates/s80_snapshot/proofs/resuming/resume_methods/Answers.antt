@@ -1,6 +1,7 @@
-use Rattle.std.proofs.Common.{◌≡◌, ◌∙◌, Some, length, map, slice_get, sym, ap, subst}
+use Rattle.std.proofs.Common.{◌≡◌, ◌∙◌, List, Some, true, false, length, map, slice_get, sym, ap, subst, arith}
 use Rattle.std.specs.Vec.Iter.{into_iter_items, into_iter_len}
-use Rattle.s80_image.specs.Classes.{classes_of}
+use Rattle.s80_image.specs.Classes.{ClassView, classes_of}
+use Rattle.s80_snapshot.specs.declared.resumed_methods.ListedMethod.{ListedMethod}
 use Rattle.s80_snapshot.specs.Resuming.{Resumed, listed_of, with_sources}
 use Rattle.s80_snapshot.specs.Sources.{imaged_methods}
 use Rattle.s80_snapshot.proofs.OnWay.{begun_way}

@@ -21,8 +21,8 @@ use Rattle.s80_image.specs.Together.{classes_by_name, superclass_of}
 use Rattle.s80_snapshot.specs.OfList.{IsCoded, IsImageOf}
 use Rattle.s80_snapshot.specs.Pictured.{CodedRow, CodedState, classes_view, coded_row, sources_of, sources_on}
 use Rattle.s80_snapshot.specs.Sources.{IsResumed}
-use Rattle.s80_snapshot.proofs.NamedMaps.{by_found, each_holds, entries_seen, found_holds, none_named, seen_entries}
-use Rattle.s80_snapshot.proofs.SameViews.{IsAbove, by_name_again, each_same}
+use Rattle.s80_snapshot.proofs.lemmas.NamedMaps.{by_found, each_holds, entries_seen, found_holds, none_named, seen_entries}
+use Rattle.s80_snapshot.proofs.lemmas.SameViews.{IsAbove, by_name_again, each_same}
 use Rattle.s80_snapshot.proofs.ListBounds.{bounds_of}
 
 -- ---- superclasses

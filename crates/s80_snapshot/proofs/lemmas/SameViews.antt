@@ -10,7 +10,7 @@ use Rattle.s80_class.specs.Classes.{Name, ClassRow}
 use Rattle.s80_image.specs.Classes.{ClassView}
 use Rattle.s80_image.specs.Together.{classes_by_name, row_of, superclass_of}
 use Rattle.s80_snapshot.specs.Pictured.{CodedRow, CodedState, class_view, classes_view, method_view, methods_view, sources_on}
-use Rattle.s80_snapshot.proofs.NamedMaps.{entries_again}
+use Rattle.s80_snapshot.proofs.lemmas.NamedMaps.{entries_again}
 
 -- ---- lists
 

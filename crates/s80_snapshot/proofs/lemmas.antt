@@ -1,0 +1,3 @@
+pub mod NamedMaps
+pub mod SameViews
+pub mod ResumedState
