@@ -1,13 +1,13 @@
 -- Changes that are accepted where there is room for them, and changes that are refused.
-use Rattle.std.proofs.Common.{◌≡◌, inl, inr, ℕ, ◌+◌, ◌<◌, ◌≤◌, List, [], ◌∷◌, ◌++◌, length, Some, None, Result, Ok, Err, refl, sym, ap, ◌∙◌, arith}
+use Rattle.std.proofs.Common.{◌≡◌, inl, inr, ℕ, ◌+◌, ◌<◌, ◌≤◌, length, Some, None, Result, Ok, Err, refl, ap, ◌∙◌, arith}
 use Rattle.std.proofs.lemmas.Bool.Decides.{leb_tells}
 use Rattle.s80_change.specs.declared.change.Change.{Change}
 use Rattle.s80_form.specs.declared.refusal.Refusal.{Refusal}
 use Rattle.s80_form.specs.declared.refusal.Refusal.TheVariants.{LogFull}
-use Rattle.s80_change.specs.Block.{block, blocks, log_limit}
+use Rattle.s80_change.specs.Block.{block, log_limit}
 use Rattle.s80_apply.specs.State.{State}
 use Rattle.s80_apply.specs.Accept.{accept}
-use Rattle.s80_apply.specs.List.{state_of, state_after, IsAccepted, too_full, refused_or, refusal_to, added, add}
+use Rattle.s80_apply.specs.List.{state_after, IsAccepted, too_full, refused_or, refusal_to}
 use Rattle.s80_apply.proofs.lemmas.Lists.{is_after}
 
 -- ---- room
@@ -45,13 +45,6 @@ pub unrefusing : (answer : Result State Refusal) (end size : ℕ) → IsAccepted
 unrefusing (Ok state) end size accepted within = has_room end size within
 unrefusing (Err refusal) end size accepted within = absurd accepted
 
-pub no_refusal : (changes : List Change) (change : Change) (refusal : Refusal) → IsAccepted (accept change (state_of changes)) → length (blocks changes) + length (block change) ≤ log_limit → add changes change ≡ Err refusal → ⊥
-no_refusal changes change refusal accepted within e =
-    let none = unrefusing (accept change (state_of changes)) (length (blocks changes)) (length (block change)) accepted within in
-    let ok = ap (λ r. added r (changes ++ change ∷ [])) none in
-    let both : Ok (changes ++ change ∷ []) ≡ Err refusal = sym ok ∙ e in
-    cc
-
 -- ---- one change in a state, whose block begins at a place
 
 module _ (before : State) (at : ℕ) (change : Change) where
@@ -70,9 +63,3 @@ module _ (before : State) (at : ℕ) (change : Change) where
   -- what it makes
   pub makes_so : (after : State) → accept change before ≡ Ok after → after ≡ state_after change before
   makes_so after is = is_after (accept change before) before after is
-
--- a list refuses what its state refuses
-pub refuses : (changes : List Change) (change : Change) (end : ℕ) (refusal : Refusal) → end ≡ length (blocks changes) → refusal_to (state_of changes) end change ≡ Some refusal → add changes change ≡ Err refusal
-refuses changes change end refusal here is =
-    let there : refusal_to (state_of changes) end change ≡ refusal_to (state_of changes) (length (blocks changes)) change = λ i. refusal_to (state_of changes) (here i) change in
-    ap (λ r. added r (changes ++ change ∷ [])) (sym there ∙ is)

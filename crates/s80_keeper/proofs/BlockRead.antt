@@ -7,7 +7,7 @@ use Rattle.s80_change.specs.declared.change.Change.{Change}
 use Rattle.s80_change.specs.Block.{block, blocks, IsLawful}
 use Rattle.s80_change.specs.Blocks.{BeginsWith}
 use Rattle.s80_change.proofs.lemmas.BlockLaws.{block_unique}
-use Rattle.s80_keeper.specs.declared.start.Damage.TheVariants.{NoMark, BadMark, LogShort, BadBlock, Replay, CountDiffers}
+use Rattle.s80_keeper.specs.declared.start.Damage.TheVariants.{NoMark, BadMark, LogShort, ImageShort, BadImage, BadBlock, Replay, CountDiffers}
 use Rattle.s80_keeper.specs.declared.keep.KeepFault.{KeepFault}
 use Rattle.s80_keeper.specs.declared.keep.KeepFault.TheVariants as faults
 use Rattle.s80_keeper.specs.ChangesAt.{IsReadAt}
@@ -44,6 +44,8 @@ module _ (log : List ℕ) (at : ℕ) (before behind : List Change) (change : Cha
   this_block (Err (faults.Damaged (NoMark size))) read = absurd read
   this_block (Err (faults.Damaged (BadMark value))) read = absurd read
   this_block (Err (faults.Damaged (LogShort marked found))) read = absurd read
+  this_block (Err (faults.Damaged (ImageShort marked found))) read = absurd read
+  this_block (Err (faults.Damaged (BadImage place))) read = absurd read
   this_block (Err (faults.Damaged (Replay place number))) read = absurd read
   this_block (Err (faults.Damaged (CountDiffers marked found))) read = absurd read
   this_block (Err (faults.Damaged (BadBlock place))) read = absurd (read.1 change begins)

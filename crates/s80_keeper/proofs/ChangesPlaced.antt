@@ -33,13 +33,13 @@ module _ (P : Placed → Type 0) where
   either true ps qs these those = these
   either false ps qs these those = those
 
-  not_left : (ps : List Placed) → All P ps → All P (not_left_out ps)
+  pub not_left : (ps : List Placed) → All P ps → All P (not_left_out ps)
   not_left [] all = all
   not_left (p ∷ later) all =
       let others = not_left later (All-tail P p later all) in
       either (is_left_out p.1 (list_map (λ q. q.1) later)) (not_left_out later) (p ∷ not_left_out later) others (All-cons P p (not_left_out later) (All-head P p later all) others)
 
-  behind : (passes : Change → Bool) (ps : List Placed) → All P ps → All P (behind_last passes ps)
+  pub behind : (passes : Change → Bool) (ps : List Placed) → All P ps → All P (behind_last passes ps)
   behind passes [] all = all
   behind passes (p ∷ ps) all =
       let others = All-tail P p ps all in

@@ -9,7 +9,7 @@ use Rattle.s80_change.specs.declared.change.Change.{Change}
 use Rattle.s80_change.specs.Blocks.{BeginsWith, BeginsWithNone}
 use Rattle.s80_change.proofs.lemmas.BlockLaws.{block_unique}
 use Rattle.s80_history.specs.Lists.{Placed}
-use Rattle.s80_keeper.specs.declared.start.Damage.TheVariants.{NoMark, BadMark, LogShort, BadBlock, Replay, CountDiffers}
+use Rattle.s80_keeper.specs.declared.start.Damage.TheVariants.{NoMark, BadMark, LogShort, ImageShort, BadImage, BadBlock, Replay, CountDiffers}
 use Rattle.s80_keeper.specs.declared.keep.KeepFault.{KeepFault}
 use Rattle.s80_keeper.specs.declared.keep.KeepFault.TheVariants as faults
 use Rattle.s80_keeper.specs.ChangesAt.{ArePlaced, AreReadAt, BeginAt, IsPlacedAt, IsReadAt}
@@ -41,6 +41,8 @@ module _ (places : List ℕ) (i at : ℕ) (there : slice_get places i ≡ Some a
   failed_at log (faults.Damaged (NoMark size)) read = absurd read
   failed_at log (faults.Damaged (BadMark value)) read = absurd read
   failed_at log (faults.Damaged (LogShort marked found)) read = absurd read
+  failed_at log (faults.Damaged (ImageShort marked found)) read = absurd read
+  failed_at log (faults.Damaged (BadImage place)) read = absurd read
   failed_at log (faults.Damaged (Replay place number)) read = absurd read
   failed_at log (faults.Damaged (CountDiffers marked found)) read = absurd read
   failed_at log (faults.Damaged (BadBlock place)) read = ((i, there ∙ ap Some (sym read.0)), subst (λ n. BeginsWithNone (drop n log)) (sym read.0) read.1)
@@ -53,6 +55,8 @@ module _ (places : List ℕ) (i at : ℕ) (there : slice_get places i ≡ Some a
   placed_at T U (faults.Damaged (NoMark size)) placed = absurd placed
   placed_at T U (faults.Damaged (BadMark value)) placed = absurd placed
   placed_at T U (faults.Damaged (LogShort marked found)) placed = absurd placed
+  placed_at T U (faults.Damaged (ImageShort marked found)) placed = absurd placed
+  placed_at T U (faults.Damaged (BadImage place)) placed = absurd placed
   placed_at T U (faults.Damaged (Replay place number)) placed = absurd placed
   placed_at T U (faults.Damaged (CountDiffers marked found)) placed = absurd placed
   placed_at T U (faults.Damaged (BadBlock place)) placed = (i, there ∙ ap Some (sym placed))
@@ -110,6 +114,8 @@ module _ (log : List ℕ) where
   are_these ps (Err (faults.Damaged (NoMark size))) begin read = absurd read
   are_these ps (Err (faults.Damaged (BadMark value))) begin read = absurd read
   are_these ps (Err (faults.Damaged (LogShort marked found))) begin read = absurd read
+  are_these ps (Err (faults.Damaged (ImageShort marked found))) begin read = absurd read
+  are_these ps (Err (faults.Damaged (BadImage place))) begin read = absurd read
   are_these ps (Err (faults.Damaged (Replay place number))) begin read = absurd read
   are_these ps (Err (faults.Damaged (CountDiffers marked found))) begin read = absurd read
   are_these ps (Err (faults.Damaged (BadBlock place))) begin read = absurd (some_begins ps read.0.0 place begin read.0.1 read.1)
@@ -128,6 +134,8 @@ placed_so T U places (faults.Full count) placed = absurd placed
 placed_so T U places (faults.Damaged (NoMark size)) placed = absurd placed
 placed_so T U places (faults.Damaged (BadMark value)) placed = absurd placed
 placed_so T U places (faults.Damaged (LogShort marked found)) placed = absurd placed
+placed_so T U places (faults.Damaged (ImageShort marked found)) placed = absurd placed
+placed_so T U places (faults.Damaged (BadImage place)) placed = absurd placed
 placed_so T U places (faults.Damaged (Replay place number)) placed = absurd placed
 placed_so T U places (faults.Damaged (CountDiffers marked found)) placed = absurd placed
 placed_so T U places (faults.Damaged (BadBlock place)) placed = placed

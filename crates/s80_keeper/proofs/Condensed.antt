@@ -25,6 +25,7 @@ use Rattle.s80_keeper.specs.Source.{IsThis, after_reading}
 use Rattle.s80_keeper.specs.Standing.{LeavesEither, ReadsForEither}
 use Rattle.s80_keeper.proofs.Keeping.{images_stand, stands_by_mark}
 use Rattle.s80_keeper.proofs.Together.{IsClosed}
+use Rattle.s80_keeper.proofs.lemmas.Images.{keeps_fewer}
 use Rattle.s80_keeper.proofs.lemmas.Standing.{reads_so}
 
 -- ---- a disk that is read alone
@@ -42,7 +43,7 @@ module _ (tells new_tells : Bool) (reads new_reads : Image) (may_leave new_leave
         whole = keeps.holds.whole;
         bytes = keeps.holds.bytes;
       } in
-      let left : Keeps tells reads new_leaves keeper kept all = record { holds = holds; front = keeps.front; no_image = keeps.no_image; built = keeps.built; system = keeps.system; places = keeps.places; history = keeps.history; count = keeps.count; faultless = keeps.faultless } in
+      let left : Keeps tells reads new_leaves keeper kept all = record { holds = holds; front = keeps.front; image = keeps_fewer reads may_leave keeper.mark kept keeps.image new_leaves still; built = keeps.built; system = keeps.system; places = keeps.places; history = keeps.history; count = keeps.count; faultless = keeps.faultless } in
       let P : Bool → Image → Type 0 = λ t r. Keeps t r new_leaves keeper kept all in
       let same_reads : reads ≡ new_reads = λ i file. sym (same file) i in
       subst (P new_tells) same_reads (subst (λ t. P t reads) (sym same_tells) left)
@@ -55,7 +56,7 @@ knows_kept tells reads may_leave keeper changes keeps =
 -- a disk of which a keeper keeps a list has that one, or another
 pub keeps_either : (tells : Bool) (reads : Image) (may_leave : Image → Type 0) (keeper : KeeperState) (changes other : List Change) → Keeps tells reads may_leave keeper changes changes → ReadsForEither tells reads may_leave changes other
 keeps_either tells reads may_leave keeper changes other keeps = record {
-  stands = inl (reads_so tells reads may_leave changes (stands_by_mark tells reads may_leave keeper.mark changes keeps.no_image keeps.built keeps.holds.stands));
+  stands = inl (reads_so tells reads may_leave changes (stands_by_mark tells reads may_leave keeper.mark changes keeps.image keeps.built keeps.holds.stands));
   images = λ c left. inl (images_stand tells reads may_leave keeper changes changes keeps c left);
 }
 

@@ -28,7 +28,7 @@ own_place at (Form NoChanges) = refl
 own_place at (Method m) = own_method at (named m m.source.selector)
 own_place at (DoIt text) = refl
 
-places_of : (members : List Noted) (ps : List Placed) → list_map Some members ≡ list_map (λ p. noting p.0 p.1) ps → list_map (λ noted. noted.at) members ≡ list_map (λ p. p.0) ps
+pub places_of : (members : List Noted) (ps : List Placed) → list_map Some members ≡ list_map (λ p. noting p.0 p.1) ps → list_map (λ noted. noted.at) members ≡ list_map (λ p. p.0) ps
 places_of [] [] is = refl
 places_of [] (p ∷ ps) is = absurd cc
 places_of (m ∷ ms) [] is = absurd cc

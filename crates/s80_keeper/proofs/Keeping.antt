@@ -23,10 +23,12 @@ use Rattle.s80_history.specs.History.{HistoryState, IsHistoryOf}
 use Rattle.s80_log.specs.Log.{LogEnd, log_file}
 use Rattle.s80_log.specs.Standing.{FilesStandFor as StandByMark, ReadsFor as ReadsByMark, StandsFor as StandsByMark}
 use Rattle.s80_log.specs.Commit.{Holds, LeavesBeside, ReadForEither, StandForEither}
-use Rattle.s80_keeper.specs.Standing.{NamesNoImage, FilesStandFor, LeavesEither, LeavesFor, ReadsFor, StandsFor}
+use Rattle.s80_keeper.specs.Imaged.{KeepsImage}
+use Rattle.s80_keeper.specs.Standing.{FilesStandFor, LeavesEither, LeavesFor, ReadsFor, StandsFor}
 use Rattle.s80_keeper.specs.Keeper.{KeeperState, Keeps, pending_of}
 use Rattle.s80_keeper.specs.Answers.{PreparedChange, IsFor, PlacesFor, HasTakenIn, longer, one_more}
 use Rattle.s80_keeper.proofs.Counting.{counts_more, no_more}
+use Rattle.s80_keeper.proofs.lemmas.Images.{image_beside}
 use Rattle.s80_keeper.proofs.lemmas.Standing.{stands_leaves}
 
 -- a disk that stands for a list by a mark that takes the log to its end holds no more
@@ -49,27 +51,32 @@ accepted_front : (state : State) (kept pending : List Change) → AreAccepted st
 accepted_front state [] pending accepted = tt
 accepted_front state (change ∷ kept) pending accepted = (accepted.0, accepted_front (state_after change state) kept pending accepted.1)
 
--- a mark that names no image, of a list that is built
-module _ (tells : Bool) (reads : Image) (may_leave : Image → Type 0) (mark : MarkState) (changes : List Change) (none : NamesNoImage mark) (built : IsBuilt changes) where
+-- a mark whose image the disk keeps, of a list that is built
+module _ (tells : Bool) (reads : Image) (may_leave : Image → Type 0) (mark : MarkState) (changes : List Change) (image : KeepsImage reads may_leave mark changes) (built : IsBuilt changes) where
   pub stands_by_mark : StandsByMark tells reads may_leave mark changes → StandsFor tells reads may_leave changes
-  stands_by_mark h = record { told = h.told; stands = inr (mark, h, none, built) }
+  stands_by_mark h = record { told = h.told; stands = inr (mark, h, image, built) }
 
   reads_by_mark : ReadsByMark tells reads may_leave mark changes → ReadsFor tells reads may_leave changes
-  reads_by_mark h = record { told = h.told; stands = inr (mark, h.files, none, built, h.log_stays) }
+  reads_by_mark h = record { told = h.told; stands = inr (mark, h.files, image, built, h.log_stays) }
 
-pub leaves_kept : (before : Image → Type 0) (told_before : ℕ) (file : FileId) (mark : MarkState) (changes : List Change) → NamesNoImage mark → IsBuilt changes → (told : ℕ) (c : Image) → LeavesBeside before told_before file (λ d. StandByMark d mark changes) told c → LeavesFor told_before changes told c
-leaves_kept before told_before file mark changes none built told c leaves = record { told_is = leaves.told_is; files = inr (mark, leaves.here, none, built) }
+pub leaves_kept : (reads : Image) (before : Image → Type 0) (told_before number : ℕ) (mark : MarkState) (changes : List Change) → KeepsImage reads before mark changes → IsBuilt changes → (told : ℕ) (c : Image) → LeavesBeside before told_before (log_file number) (λ d. StandByMark d mark changes) told c → LeavesFor told_before changes told c
+leaves_kept reads before told_before number mark changes image built told c leaves =
+    record { told_is = leaves.told_is; files = inr (mark, leaves.here, image_beside reads before number mark changes image told_before told (λ d. StandByMark d mark changes) c leaves, built) }
 
--- neither of two marks names an image
-module _ (mark next : MarkState) (changes all : List Change) (none : NamesNoImage mark) (also_none : NamesNoImage next) (built : IsBuilt changes) (all_built : IsBuilt all) where
-  pub either_list : (c : Image) → StandForEither mark changes next all c → FilesStandFor c changes ⊎ FilesStandFor c all
-  either_list c = ⊎_elim (λ h. inl (inr (mark, h, none, built))) (λ h. inr (inr (next, h, also_none, all_built)))
+-- two marks, of which the disk keeps the images
+module _ (reads : Image) (before : Image → Type 0) (mark next : MarkState) (changes all : List Change) (image : KeepsImage reads before mark changes) (next_image : KeepsImage reads before next all) (built : IsBuilt changes) (all_built : IsBuilt all) (told_before number told : ℕ) (c : Image) where
+  abbrev Either : Image → Type 0
+  Either = StandForEither mark changes next all
 
-  pub leaves_either : (before : Image → Type 0) (told_before : ℕ) (file : FileId) (told : ℕ) (c : Image) → LeavesBeside before told_before file (StandForEither mark changes next all) told c → LeavesEither told_before changes all told c
-  leaves_either before told_before file told c leaves = record { told_is = leaves.told_is; files = either_list c leaves.here }
+  pub either_list : LeavesBeside before told_before (log_file number) Either told c → FilesStandFor c changes ⊎ FilesStandFor c all
+  either_list leaves =
+      ⊎_elim (λ h. inl (inr (mark, h, image_beside reads before number mark changes image told_before told Either c leaves, built))) (λ h. inr (inr (next, h, image_beside reads before number next all next_image told_before told Either c leaves, all_built))) leaves.here
 
-  pub reads_either : (tells : Bool) (reads : Image) (may_leave : Image → Type 0) → ReadForEither tells reads may_leave mark changes next all → ReadsFor tells reads may_leave changes ⊎ ReadsFor tells reads may_leave all
-  reads_either tells reads may_leave = ⊎_elim (λ h. inl (reads_by_mark tells reads may_leave mark changes none built h)) (λ h. inr (reads_by_mark tells reads may_leave next all also_none all_built h))
+  pub leaves_either : LeavesBeside before told_before (log_file number) Either told c → LeavesEither told_before changes all told c
+  leaves_either leaves = record { told_is = leaves.told_is; files = either_list leaves }
+
+pub reads_either : (tells : Bool) (reads : Image) (may_leave : Image → Type 0) (mark next : MarkState) (changes all : List Change) → KeepsImage reads may_leave mark changes → KeepsImage reads may_leave next all → IsBuilt changes → IsBuilt all → ReadForEither tells reads may_leave mark changes next all → ReadsFor tells reads may_leave changes ⊎ ReadsFor tells reads may_leave all
+reads_either tells reads may_leave mark next changes all image next_image built all_built = ⊎_elim (λ h. inl (reads_by_mark tells reads may_leave mark changes image built h)) (λ h. inr (reads_by_mark tells reads may_leave next all next_image all_built h))
 
 -- what comes from an image of before by a change of the mark or of the log
 pub elsewhere : (before : Image → Type 0) (told_before : ℕ) (log file : FileId) (change : List ℕ → List ℕ → Type 0) → ((other : FileId) → other ≢ Mark → other ≢ log → other ≢ file) → (told : ℕ) (c : Image) → ComesFrom before told_before file change told c → LeavesBeside before told_before log (λ d. ⊤) told c
@@ -129,13 +136,14 @@ module _ (tells : Bool) (reads : Image) (may_leave : Image → Type 0) (keeper :
   kept_built = accepted_front kernel_state kept keeps.front.0 (subst IsBuilt keeps.front.1 keeps.built)
 
   -- the keeper after one change more was taken in
-  pub keeps_later : (new_tells : Bool) (new_reads : Image) (new_leaves : Image → Type 0) (now : KeeperState) (prepared : PreparedChange) → IsFor (state_of all) keeper.system prepared → PlacesFor (placed_of all) keeper.system prepared → HasTakenIn prepared keeper now → Holds new_tells new_reads new_leaves now.log now.mark kept (all ++ prepared.change ∷ []) → IsHistoryOf now.history (all ++ prepared.change ∷ []) → Keeps new_tells new_reads new_leaves now kept (all ++ prepared.change ∷ [])
-  keeps_later new_tells new_reads new_leaves now prepared ready places after holds noted =
+  pub keeps_later : (new_tells : Bool) (new_reads : Image) (new_leaves : Image → Type 0) (now : KeeperState) (prepared : PreparedChange) → KeepsImage new_reads new_leaves keeper.mark kept → IsFor (state_of all) keeper.system prepared → PlacesFor (placed_of all) keeper.system prepared → HasTakenIn prepared keeper now → Holds new_tells new_reads new_leaves now.log now.mark kept (all ++ prepared.change ∷ []) → IsHistoryOf now.history (all ++ prepared.change ∷ []) → Keeps new_tells new_reads new_leaves now kept (all ++ prepared.change ∷ [])
+  keeps_later new_tells new_reads new_leaves now prepared image ready places after holds noted =
       let made = after.1 in
+      let Image_of : MarkState → Type 0 = λ m. KeepsImage new_reads new_leaves m kept in
       record {
         holds = holds;
         front = (keeps.front.0 ++ prepared.change ∷ [], ap (λ l. l ++ prepared.change ∷ []) keeps.front.1 ∙ append_assoc kept keeps.front.0 (prepared.change ∷ []));
-        no_image = ap (λ (k : KeeperState). k.mark.image) made ∙ keeps.no_image;
+        image = subst Image_of (sym (ap (λ (k : KeeperState). k.mark) made)) image;
         built = built_kept all keeper.system prepared ready keeps.built;
         system = installed_kept all keeper.system prepared ready keeper.log.end now.system after.0;
         places = places_kept all keeper.system prepared ready places keeper.log.end now.system keeps.holds.whole after.0;
@@ -145,11 +153,11 @@ module _ (tells : Bool) (reads : Image) (may_leave : Image → Type 0) (keeper :
       }
 
   -- the keeper after a commit
-  pub keeps_all : (new_tells : Bool) (new_reads : Image) (new_leaves : Image → Type 0) (log : LogEnd) (mark : MarkState) → mark.image ≡ keeper.mark.image → Holds new_tells new_reads new_leaves log mark all all → Keeps new_tells new_reads new_leaves (record keeper { log = log; mark = mark }) all all
+  pub keeps_all : (new_tells : Bool) (new_reads : Image) (new_leaves : Image → Type 0) (log : LogEnd) (mark : MarkState) → KeepsImage new_reads new_leaves mark all → Holds new_tells new_reads new_leaves log mark all all → Keeps new_tells new_reads new_leaves (record keeper { log = log; mark = mark }) all all
   keeps_all new_tells new_reads new_leaves log mark image holds = record {
     holds = holds;
     front = all_kept all;
-    no_image = image ∙ keeps.no_image;
+    image = image;
     built = keeps.built;
     system = keeps.system;
     places = keeps.places;
@@ -176,7 +184,7 @@ module _ (tells : Bool) (reads : Image) (may_leave : Image → Type 0) (keeper :
 
   -- a crash now leaves what is kept
   pub images_stand : (c : Image) → may_leave c → FilesStandFor c kept
-  images_stand = stands_leaves tells reads may_leave kept (stands_by_mark tells reads may_leave keeper.mark kept keeps.no_image kept_built keeps.holds.stands)
+  images_stand = stands_leaves tells reads may_leave kept (stands_by_mark tells reads may_leave keeper.mark kept keeps.image kept_built keeps.holds.stands)
 
 -- a keeper of which nothing changes, nor of its disk
 pub keeps_still : {D : Type 0} (tells : D → Bool) (reads : D → Image) (may_leave : D → Image → Type 0) (old new : D) (keeper : KeeperState) (log : LogEnd) (kept all : List Change) → new ≡ old → log ≡ keeper.log → Keeps (tells old) (reads old) (may_leave old) keeper kept all → Keeps (tells new) (reads new) (may_leave new) (record { log = log; mark = keeper.mark; system = keeper.system; history = keeper.history; count = keeper.count; fault = keeper.fault }) kept all

@@ -24,3 +24,11 @@ mod Renewed
 mod Written
 mod Versions
 mod Condensed
+mod Decoding
+mod HeldSources
+mod OneBeginning
+mod ListBegins
+mod Below
+mod Sourcing
+mod ImageBegun
+mod ReadTwice

@@ -1,16 +1,18 @@
 -- Bytes that are read in two ways: as the blocks of a list and a rest.
-use Rattle.std.proofs.Common.{◌≡◌, ◌⊎◌, inl, inr, ⊎_elim, ℕ, ◌+◌, ◌≤◌, List, [], ◌∷◌, ◌++◌, length, Err, refl, sym, ap, ◌∙◌, subst, arith, append_assoc, append-nil, length-append}
+use Rattle.std.proofs.Common.{◌≡◌, ◌≢◌, ◌⊎◌, inl, inr, ⊎_elim, ℕ, ◌+◌, ◌≤◌, List, [], ◌∷◌, ◌++◌, length, Some, None, refl, sym, ap, ◌∙◌, subst, arith, append_assoc, append-nil, length-append}
 use Rattle.std.specs.List.{All}
 use Rattle.std.proofs.lemmas.Grind.{flat_map-append}
 use Rattle.std.proofs.lemmas.List.Elements.{All-head, All-tail}
 use Rattle.s80_change.specs.declared.change.Change.{Change}
 use Rattle.s80_form.specs.declared.refusal.Refusal.{Refusal}
-use Rattle.s80_change.specs.Block.{block, blocks, IsLawful, IsList}
+use Rattle.s80_change.specs.Block.{block, blocks, log_limit, IsLawful}
 use Rattle.s80_change.proofs.lemmas.BlockLaws.{block_unique}
-use Rattle.s80_apply.specs.List.{IsBuilt, add}
+use Rattle.s80_apply.specs.Accept.{accept}
+use Rattle.s80_apply.specs.List.{AreAccepted, IsAccepted, refusal_to, state_from}
+use Rattle.s80_apply.specs.State.{State}
 use Rattle.s80_change.specs.Blocks.{BeginsWithNone}
-use Rattle.s80_apply.proofs.lemmas.Lists.{accepted_here}
-use Rattle.s80_keeper.proofs.Accepted.{no_refusal}
+use Rattle.s80_apply.proofs.lemmas.Lists.{accepted_from}
+use Rattle.s80_keeper.proofs.Accepted.{unrefusing}
 
 -- the one reading goes further than the other, by more changes
 record GoesFurther (list : List Change) (rest : List ℕ) (longer : List Change) (after : List ℕ) : Type 0 where
@@ -53,35 +55,47 @@ pub stops_last : (xs : List Change) (r : List ℕ) (ys : List Change) (s : List 
 stops_last xs r ys s e own lawful none =
     ⊎_elim (no_further xs r ys s lawful none) (λ h. let n = blocks_length ys h.more xs h.list_is in omega arith) (compared xs r ys s own lawful e)
 
--- no list goes on behind another with a change that this refuses
-goes_on : (xs : List Change) (z : Change) (zs ys : List Change) (refusal : Refusal) → ys ≡ xs ++ z ∷ zs → IsList ys → IsBuilt ys → add xs z ≡ Err refusal → ⊥
-goes_on xs z zs ys refusal is list built e =
-    let accepted = accepted_here xs z zs (subst IsBuilt is built) in
-    let n = blocks_length xs (z ∷ zs) ys is in
-    let k = length-append (block z) (blocks zs) in
-    no_refusal xs z refusal accepted (omega (arith, n, k, list.within)) e
+-- what is accepted where there is room for it isn't refused
+accepted_there : (before : State) (end : ℕ) (change : Change) (refusal : Refusal) → IsAccepted (accept change before) → end + length (block change) ≤ log_limit → refusal_to before end change ≡ Some refusal → ⊥
+accepted_there before end change refusal accepted within is =
+    let none = unrefusing (accept change before) end (length (block change)) accepted within in
+    let both : Some refusal ≡ None = sym is ∙ none in
+    cc
 
--- so no reading goes past a block whose change is refused
-module _ (xs : List Change) (x : Change) (r : List ℕ) (ys : List Change) (s : List ℕ) (refusal : Refusal) (one : IsLawful x) (list : IsList ys) (built : IsBuilt ys) (refused : add xs x ≡ Err refusal) where
-  stops_there : GoesFurther xs (block x ++ r) ys s → (ys ≡ xs) × (block x ++ r ≡ s)
-  stops_there further = by_more further.more further.list_is further.rest_is
-    where
-      by_more : (more : List Change) → ys ≡ xs ++ more → block x ++ r ≡ blocks more ++ s → (ys ≡ xs) × (block x ++ r ≡ s)
-      by_more [] is rest = (is ∙ append-nil xs, rest)
-      by_more (z ∷ zs) is rest =
-          let P : List Change → Type 0 = All IsLawful in
-          let same = (block_unique x z r (blocks zs ++ s) one (lawful_after xs z zs (subst P is list.lawful)) (rest ∙ append_assoc (block z) (blocks zs) s)).0 in
-          absurd (goes_on xs z zs ys refusal is list built (ap (add xs) (sym same) ∙ refused))
+-- ---- behind a state, from a place of the log on
 
-  pub refuses_last : blocks xs ++ (block x ++ r) ≡ blocks ys ++ s → All IsLawful xs → length (blocks ys) ≤ length (blocks xs)
-  refuses_last e own =
-      ⊎_elim (λ h. let n = ap (λ l. length (blocks l)) (stops_there h).0 in omega arith) (λ h. let n = blocks_length ys h.more xs h.list_is in omega arith) (compared xs (block x ++ r) ys s own list.lawful e)
+module _ (state : State) (at : ℕ) where
+  -- no changes go on behind others with one that these refuse
+  goes_on : (xs : List Change) (z : Change) (zs ys : List Change) (refusal : Refusal) → ys ≡ xs ++ z ∷ zs → (ys ≢ [] → at + length (blocks ys) ≤ log_limit) → AreAccepted state ys → refusal_to (state_from state xs) (at + length (blocks xs)) z ≡ Some refusal → ⊥
+  goes_on xs z zs ys refusal is within built e =
+      let accepted = accepted_from state xs z zs (subst (AreAccepted state) is built) in
+      let n = blocks_length xs (z ∷ zs) ys is in
+      let k = length-append (block z) (blocks zs) in
+      let some : ys ≢ [] = λ none. omega (arith, ap length (sym is ∙ none), length-append xs (z ∷ zs)) in
+      let end = within some in
+      accepted_there (state_from state xs) (at + length (blocks xs)) z refusal accepted (omega (arith, n, k, end)) e
 
--- two readings that end at blocks whose changes are refused end at one place, with one change
-pub one_refused : (xs : List Change) (x : Change) (r : List ℕ) (ys : List Change) (y : Change) (s : List ℕ) (refusal other : Refusal) → IsList xs → IsList ys → IsBuilt xs → IsBuilt ys → IsLawful x → IsLawful y → add xs x ≡ Err refusal → add ys y ≡ Err other → blocks xs ++ (block x ++ r) ≡ blocks ys ++ (block y ++ s) → (xs ≡ ys) × (x ≡ y)
-one_refused xs x r ys y s refusal other list also built also_built one two refused also_refused e =
-    ⊎_elim (λ h.
-    let same = stops_there xs x r ys (block y ++ s) refusal one also also_built refused h in
-    (sym same.0, (block_unique x y r s one two same.1).0)) (λ h.
-    let same = stops_there ys y s xs (block x ++ r) other two list built also_refused h in
-    (same.0, (block_unique x y r s one two (sym same.1)).0)) (compared xs (block x ++ r) ys (block y ++ s) list.lawful also.lawful e)
+  -- so no reading goes past a block whose change is refused
+  module _ (xs : List Change) (x : Change) (r : List ℕ) (ys : List Change) (s : List ℕ) (refusal : Refusal) (one : IsLawful x) (lawful : All IsLawful ys) (within : ys ≢ [] → at + length (blocks ys) ≤ log_limit) (built : AreAccepted state ys) (refused : refusal_to (state_from state xs) (at + length (blocks xs)) x ≡ Some refusal) where
+    stops_there : GoesFurther xs (block x ++ r) ys s → (ys ≡ xs) × (block x ++ r ≡ s)
+    stops_there further = by_more further.more further.list_is further.rest_is
+      where
+        by_more : (more : List Change) → ys ≡ xs ++ more → block x ++ r ≡ blocks more ++ s → (ys ≡ xs) × (block x ++ r ≡ s)
+        by_more [] is rest = (is ∙ append-nil xs, rest)
+        by_more (z ∷ zs) is rest =
+            let P : List Change → Type 0 = All IsLawful in
+            let same = (block_unique x z r (blocks zs ++ s) one (lawful_after xs z zs (subst P is lawful)) (rest ∙ append_assoc (block z) (blocks zs) s)).0 in
+            absurd (goes_on xs z zs ys refusal is within built (ap (refusal_to (state_from state xs) (at + length (blocks xs))) (sym same) ∙ refused))
+
+    pub refuses_last : blocks xs ++ (block x ++ r) ≡ blocks ys ++ s → All IsLawful xs → length (blocks ys) ≤ length (blocks xs)
+    refuses_last e own =
+        ⊎_elim (λ h. let n = ap (λ l. length (blocks l)) (stops_there h).0 in omega arith) (λ h. let n = blocks_length ys h.more xs h.list_is in omega arith) (compared xs (block x ++ r) ys s own lawful e)
+
+  -- two readings that end at blocks whose changes are refused end at one place, with one change
+  pub one_refused : (xs : List Change) (x : Change) (r : List ℕ) (ys : List Change) (y : Change) (s : List ℕ) (refusal other : Refusal) → All IsLawful xs → All IsLawful ys → (xs ≢ [] → at + length (blocks xs) ≤ log_limit) → (ys ≢ [] → at + length (blocks ys) ≤ log_limit) → AreAccepted state xs → AreAccepted state ys → IsLawful x → IsLawful y → refusal_to (state_from state xs) (at + length (blocks xs)) x ≡ Some refusal → refusal_to (state_from state ys) (at + length (blocks ys)) y ≡ Some other → blocks xs ++ (block x ++ r) ≡ blocks ys ++ (block y ++ s) → (xs ≡ ys) × (x ≡ y)
+  one_refused xs x r ys y s refusal other own also within also_within built also_built one two refused also_refused e =
+      ⊎_elim (λ h.
+      let same = stops_there xs x r ys (block y ++ s) refusal one also also_within also_built refused h in
+      (sym same.0, (block_unique x y r s one two same.1).0)) (λ h.
+      let same = stops_there ys y s xs (block x ++ r) other two own within built also_refused h in
+      (same.0, (block_unique x y r s one two (sym same.1)).0)) (compared xs (block x ++ r) ys (block y ++ s) own also e)

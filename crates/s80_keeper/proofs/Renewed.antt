@@ -25,15 +25,16 @@ use Rattle.s80_log.specs.Standing.{StandsFor as StandsByMark}
 use Rattle.s80_mark.specs.declared.mark.MarkState.{MarkState}
 use Rattle.s80_keeper.specs.declared.keep.KeepFault.{KeepFault}
 use Rattle.s80_keeper.specs.declared.keep.KeepFault.TheVariants as faults
-use Rattle.s80_keeper.specs.declared.start.Damage.TheVariants.{NoMark, BadMark, LogShort, BadBlock, Replay, CountDiffers}
+use Rattle.s80_keeper.specs.declared.start.Damage.TheVariants.{NoMark, BadMark, LogShort, ImageShort, BadImage, BadBlock, Replay, CountDiffers}
 use Rattle.s80_keeper.specs.declared.start.StartFault.{StartFault}
 use Rattle.s80_keeper.specs.declared.start.StartFault.TheVariants as start_faults
 use Rattle.s80_keeper.specs.Answers.{IfKeepDisk, UnlessKeepDisk, one_more}
 use Rattle.s80_keeper.specs.Condensing.{HasMoved, IsOpen}
+use Rattle.s80_keeper.specs.Imaged.{KeepsImage}
 use Rattle.s80_keeper.specs.Keeper.{KeeperState, Keeps, pending_of}
 use Rattle.s80_keeper.specs.Reading.{Accepts}
 use Rattle.s80_keeper.specs.Renewing.{ByAnswer, CountsAlone, HasMade, IsBeside, MayFollow, fault_of_start, grown}
-use Rattle.s80_keeper.specs.Standing.{NamesNoImage, LeavesFor, ReadsForEither, StandsFor}
+use Rattle.s80_keeper.specs.Standing.{LeavesFor, ReadsForEither, StandsFor}
 use Rattle.s80_keeper.specs.Start.{IfStartDisk}
 use Rattle.s80_keeper.proofs.Accepted.{unrefusing}
 use Rattle.s80_keeper.proofs.Counting.{counts_more}
@@ -111,18 +112,18 @@ module _ {D : Type 0} (moment : D → ℕ) (left_since : D → ℕ → ℕ → I
 -- ---- the keeper at work
 
 module _ (tells : Bool) (reads : Image) (may_leave : Image → Type 0) where
-  -- a disk that stands for the list by a mark that names no image has the one list or the other
-  pub stands_for_either : (mark : MarkState) (kept other : List Change) → NamesNoImage mark → IsBuilt kept → StandsByMark tells reads may_leave mark kept → ReadsForEither tells reads may_leave kept other
-  stands_for_either mark kept other none built by_mark =
-      let stands = stands_by_mark tells reads may_leave mark kept none built by_mark in
+  -- a disk that stands for the list by a mark, whose image it keeps, has the one list or the other
+  pub stands_for_either : (mark : MarkState) (kept other : List Change) → KeepsImage reads may_leave mark kept → IsBuilt kept → StandsByMark tells reads may_leave mark kept → ReadsForEither tells reads may_leave kept other
+  stands_for_either mark kept other image built by_mark =
+      let stands = stands_by_mark tells reads may_leave mark kept image built by_mark in
       record { stands = inl (reads_so tells reads may_leave kept stands); images = λ c left. inl (stands_leaves tells reads may_leave kept stands c left) }
 
   -- where nothing is pending the keeper at work keeps its list, as long as the disk stands for it by its mark
-  pub still_keeps : (old_tells : Bool) (old_reads : Image) (old_leaves : Image → Type 0) (keeper : KeeperState) (kept : List Change) → Keeps old_tells old_reads old_leaves keeper kept kept → pending_of keeper ≡ 0 → StandsByMark tells reads may_leave keeper.mark kept → Keeps tells reads may_leave keeper kept kept
-  still_keeps old_tells old_reads old_leaves keeper kept keeps none stands = record {
+  pub still_keeps : (old_tells : Bool) (old_reads : Image) (old_leaves : Image → Type 0) (keeper : KeeperState) (kept : List Change) → Keeps old_tells old_reads old_leaves keeper kept kept → pending_of keeper ≡ 0 → KeepsImage reads may_leave keeper.mark kept → StandsByMark tells reads may_leave keeper.mark kept → Keeps tells reads may_leave keeper kept kept
+  still_keeps old_tells old_reads old_leaves keeper kept keeps none image stands = record {
     holds = holds_all tells reads may_leave keeper.log keeper.mark kept stands keeps.holds.named (omega (arith, keeps.holds.ahead, none));
     front = keeps.front;
-    no_image = keeps.no_image;
+    image = image;
     built = keeps.built;
     system = keeps.system;
     places = keeps.places;
@@ -132,11 +133,11 @@ module _ (tells : Bool) (reads : Image) (may_leave : Image → Type 0) where
   }
 
   -- once its log counts alone the keeper beside keeps its list
-  pub keeps_alone : (old_tells : Bool) (old_reads : Image) (old_leaves : Image → Type 0) (keeper : KeeperState) (kept all : List Change) (log : LogEnd) (mark : MarkState) → mark.image ≡ 255 → IsBeside old_tells old_reads old_leaves keeper kept all → Holds tells reads may_leave log mark all all → Keeps tells reads may_leave (record keeper { log = log; mark = mark }) all all
-  keeps_alone old_tells old_reads old_leaves keeper kept all log mark none beside holds = record {
+  pub keeps_alone : (old_tells : Bool) (old_reads : Image) (old_leaves : Image → Type 0) (keeper : KeeperState) (kept all : List Change) (log : LogEnd) (mark : MarkState) → KeepsImage reads may_leave mark all → IsBeside old_tells old_reads old_leaves keeper kept all → Holds tells reads may_leave log mark all all → Keeps tells reads may_leave (record keeper { log = log; mark = mark }) all all
+  keeps_alone old_tells old_reads old_leaves keeper kept all log mark image beside holds = record {
     holds = holds;
     front = all_kept all;
-    no_image = none;
+    image = image;
     built = beside.made.built;
     system = beside.made.system;
     places = beside.made.places;
@@ -161,6 +162,8 @@ module _ (done : List Change) (change : Change) (may : MayFollow done change) wh
   taken_fault T U now (start_faults.Damaged (NoMark size)) made at here is = absurd is
   taken_fault T U now (start_faults.Damaged (BadMark value)) made at here is = absurd is
   taken_fault T U now (start_faults.Damaged (LogShort marked found)) made at here is = absurd is
+  taken_fault T U now (start_faults.Damaged (ImageShort marked found)) made at here is = absurd is
+  taken_fault T U now (start_faults.Damaged (BadImage place)) made at here is = absurd is
   taken_fault T U now (start_faults.Damaged (BadBlock place)) made at here is = absurd is
   taken_fault T U now (start_faults.Damaged (CountDiffers marked found)) made at here is = absurd is
   taken_fault T U now (start_faults.Damaged (Replay place number)) made at here is = not_refused is.0 at here is.1
@@ -234,15 +237,16 @@ grown_but_log before now is =
     is ∙ (λ i. record { log = record before.log { end = end i }; mark = before.mark; system = now.system; history = now.history; count = now.count; fault = before.fault })
 
 -- the keeper beside, after its block was written and its change was taken in
-pub beside_more : {T : Type 0} (tells old_tells : Bool) (reads old_reads : Image) (may_leave old_leaves : Image → Type 0) (before mid now : KeeperState) (kept done all : List Change) (result : Result T KeepFault) → IsBeside old_tells old_reads old_leaves before kept done → mid ≡ record before { log = record before.log { end = mid.log.end } } → now ≡ record (grown mid now) { log = mid.log } → HoldsBeside tells reads may_leave mid.log before.mark kept all → ByAnswer result (λ value. HasMade now all) ⊤ ⊥ → ByAnswer result (λ value. IsBeside tells reads may_leave now kept all) (StandsByMark tells reads may_leave before.mark kept) (StandsByMark tells reads may_leave before.mark kept)
-beside_more {T} tells old_tells reads old_reads may_leave old_leaves before mid now kept done all result beside written taken holds =
+pub beside_more : {T : Type 0} (tells old_tells : Bool) (reads old_reads : Image) (may_leave old_leaves : Image → Type 0) (before mid now : KeeperState) (kept done all : List Change) (result : Result T KeepFault) → IsBeside old_tells old_reads old_leaves before kept done → KeepsImage reads may_leave before.mark kept → mid ≡ record before { log = record before.log { end = mid.log.end } } → now ≡ record (grown mid now) { log = mid.log } → HoldsBeside tells reads may_leave mid.log before.mark kept all → ByAnswer result (λ value. HasMade now all) ⊤ ⊥ → ByAnswer result (λ value. IsBeside tells reads may_leave now kept all) (StandsByMark tells reads may_leave before.mark kept) (StandsByMark tells reads may_leave before.mark kept)
+beside_more {T} tells old_tells reads old_reads may_leave old_leaves before mid now kept done all result beside image written taken holds =
     let mark : now.mark ≡ before.mark = ap (λ (k : KeeperState). k.mark) taken ∙ ap (λ (k : KeeperState). k.mark) written in
     let log : mid.log ≡ now.log = sym (ap (λ (k : KeeperState). k.log) taken) in
     let fault : now.fault ≡ before.fault = ap (λ (k : KeeperState). k.fault) taken ∙ ap (λ (k : KeeperState). k.fault) written in
     let Held : LogEnd → Type 0 = λ l. HoldsBeside tells reads may_leave l before.mark kept all in
     let Marked : MarkState → Type 0 = λ m. HoldsBeside tells reads may_leave now.log m kept all in
+    let Imaged : MarkState → Type 0 = λ m. KeepsImage reads may_leave m kept in
     answered_so result (λ value. HasMade now all) (λ value. IsBeside tells reads may_leave now kept all) ⊤ ⊥ (StandsByMark tells reads may_leave before.mark kept) (StandsByMark tells reads may_leave before.mark kept)
-    (λ value made. record { holds = subst Marked (sym mark) (subst Held log holds); no_image = ap (λ (m : MarkState). m.image) mark ∙ beside.no_image; kept_built = beside.kept_built; made = made; faultless = fault ∙ beside.faultless })
+    (λ value made. record { holds = subst Marked (sym mark) (subst Held log holds); image = subst Imaged (sym mark) image; kept_built = beside.kept_built; made = made; faultless = fault ∙ beside.faultless })
     (λ wanting. holds.stands) (λ none. absurd none)
 
 -- ---- a keeper that took the place of another

@@ -17,6 +17,7 @@ use Rattle.s80_apply.specs.System.{SystemState, HasPlaces, IsSystemOf}
 use Rattle.s80_history.specs.History.{HistoryState, IsHistoryOf}
 use Rattle.s80_log.specs.Log.{LogEnd, held_in, log_file}
 use Rattle.s80_log.specs.Standing.{StandsFor as StandsByMark}
+use Rattle.s80_keeper.specs.Imaged.{KeepsImage}
 use Rattle.s80_keeper.specs.Keeper.{KeeperState, Keeps, pending_of}
 use Rattle.s80_keeper.specs.Standing.{FilesStandFor, ReadsFor, StandsFor, LeavesEither, LeavesFor}
 use Rattle.s80_keeper.specs.Start.{IsStart, StartLeaves}
@@ -48,17 +49,20 @@ module _ (tells : Bool) (reads : Image) (may_leave : Image → Type 0) (changes 
     log_stays = λ c left. refl;
   }
 
+  no_image : KeepsImage reads may_leave first_mark []
+  no_image = record { has = inl refl; stays = λ named. absurd (named refl) }
+
   -- also where there is no memory for the classes
   pub first_stands : (mark : MarkState) → mark ≡ first_mark → valid_mark (reads Mark) ≡ Some mark → StandsFor tells reads may_leave changes
   first_stands mark first valid =
       let P : List Change → Type 0 = StandsFor tells reads may_leave in
-      subst P (sym none) record { told = told; stands = inr (first_mark, stands_none (valid ∙ ap Some first), refl, tt) }
+      subst P (sym none) record { told = told; stands = inr (first_mark, stands_none (valid ∙ ap Some first), no_image, tt) }
 
   keeps_none : (system : SystemState) (history : HistoryState) → IsSystemOf system kernel_state → HasPlaces system placed_kernel_state → IsHistoryOf history [] → valid_mark (reads Mark) ≡ Some first_mark → Keeps tells reads may_leave (record { log = record { number = 0; end = 0 }; mark = first_mark; system = system; history = history; count = 0; fault = None }) [] []
   keeps_none system history kernel places noted valid = record {
     holds = holds_all tells reads may_leave (record { number = 0; end = 0 }) first_mark [] (stands_none valid) refl refl;
     front = all_kept [];
-    no_image = refl;
+    image = no_image;
     built = tt;
     system = kernel;
     places = places;
@@ -75,7 +79,7 @@ module _ (tells : Bool) (reads : Image) (may_leave : Image → Type 0) (changes 
 
 -- empty logs are those of no change
 pub first_start : (reads : Image) (log : LogEnd) (mark : MarkState) (system : SystemState) (history : HistoryState) (keeper : KeeperState) → AreLogsEmpty reads → log ≡ record { number = 0; end = 0 } → IsSystemOf system kernel_state → HasPlaces system placed_kernel_state → IsHistoryOf history [] → keeper ≡ record { log = log; mark = mark; system = system; history = history; count = 0; fault = None } → IsStart reads (Ok keeper)
-first_start reads log mark system history keeper empty first kernel places noted is = (
+first_start reads log mark system history keeper empty first kernel places noted is = inl (
   [],
   inl (empty, refl),
   record {

@@ -11,7 +11,7 @@ use Rattle.s80_apply.specs.List.{IsBuilt, state_of}
 use Rattle.s80_log.specs.Log.{LogEnd, held_in}
 use Rattle.s80_log.specs.Commit.{Holds}
 use Rattle.s80_history.specs.History.{HistoryState, IsHistoryOf}
-use Rattle.s80_keeper.specs.Standing.{NamesNoImage}
+use Rattle.s80_keeper.specs.Imaged.{KeepsImage}
 
 -- the log at work, the valid mark, the classes and their methods, the change set and the versions, how many changes there are, and the first
 -- fault of the disk
@@ -32,12 +32,12 @@ abbrev pub IsSettled : KeeperState → Type 0
 IsSettled keeper = (pending_of keeper ≡ 0) ⊎ (keeper.fault ≢ None)
 
 -- The disk stands for the list that is kept by the keeper's mark, and up to its end the keeper's log has the blocks of all changes, of which
--- those that are kept come first. The keeper has the classes and methods that all of them make, with the places of their sources, their
+-- those that are kept come first; the image that the mark names, if it names one, is that of a front of what is kept. The keeper has the classes and methods that all of them make, with the places of their sources, their
 -- change set and versions, counts them, and has met no fault.
 pub record Keeps (tells : Bool) (reads : Image) (may_leave : Image → Type 0) (keeper : KeeperState) (kept all : List Change) : Type 0 where
   pub holds : Holds tells reads may_leave keeper.log keeper.mark kept all
   pub front : (pending : List Change) × (all ≡ kept ++ pending)
-  pub no_image : NamesNoImage keeper.mark
+  pub image : KeepsImage reads may_leave keeper.mark kept
   pub built : IsBuilt all
   pub system : IsSystemOf keeper.system (state_of all)
   pub places : HasPlaces keeper.system (placed_of all)

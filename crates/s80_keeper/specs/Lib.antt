@@ -1,3 +1,7 @@
+pub mod Imaged
+pub mod Beginning
+pub mod ImageReading
+pub mod Snapshot
 pub mod Standing
 pub mod Keeper
 pub mod Start

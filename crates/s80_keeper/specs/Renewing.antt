@@ -18,7 +18,7 @@ use Rattle.s80_keeper.specs.declared.keep.KeepFault.TheVariants as faults
 use Rattle.s80_keeper.specs.declared.start.StartFault.{StartFault}
 use Rattle.s80_keeper.specs.declared.start.StartFault.TheVariants as start_faults
 use Rattle.s80_keeper.specs.Keeper.{KeeperState}
-use Rattle.s80_keeper.specs.Standing.{NamesNoImage}
+use Rattle.s80_keeper.specs.Imaged.{KeepsImage}
 
 -- The keeper has the classes and methods that these changes make, with the places of their sources, their change set and versions, and counts
 -- them; each was accepted by those before it.
@@ -41,7 +41,7 @@ pub record HasWritten (tells : Bool) (reads : Image) (keeper : KeeperState) (don
 -- other log, with what they make.
 pub record IsBeside (tells : Bool) (reads : Image) (may_leave : Image → Type 0) (keeper : KeeperState) (kept done : List Change) : Type 0 where
   pub holds : HoldsBeside tells reads may_leave keeper.log keeper.mark kept done
-  pub no_image : NamesNoImage keeper.mark
+  pub image : KeepsImage reads may_leave keeper.mark kept
   pub kept_built : IsBuilt kept
   pub made : HasMade keeper done
   pub faultless : keeper.fault ≡ None

@@ -1,6 +1,7 @@
 -- What reading a source at its place answers.
-use Rattle.std.specs.Prelude.{◌≡◌, ℕ, ◌+◌, ◌≤◌, List, length, slice_range, Result, Ok, Err, ⊤}
+use Rattle.std.specs.Prelude.{◌≡◌, ℕ, Bool, true, false, ◌+◌, ◌≤◌, List, length, slice_range, Result, Ok, Err, ⊤}
 use Rattle.s80_chunk.specs.Chunks.{spell}
+use Rattle.s80_kernel.specs.Text.{kernel_text}
 use Rattle.s80_log.specs.declared.read.BlockFault.{BlockFault}
 use Rattle.s80_log.specs.declared.read.BlockFault.TheVariants as block_faults
 
@@ -24,3 +25,8 @@ IsThis source (Ok found) = found ≡ source
 IsThis source (Err (block_faults.Bad place)) = ⊥
 IsThis source (Err block_faults.Memory) = ⊤
 IsThis source (Err (block_faults.Disk failed)) = ⊤
+
+-- how long the text is in which a source stands: the kernel's, or a log of this length
+abbrev pub length_for : Bool → ℕ → ℕ
+length_for true size = length kernel_text
+length_for false size = size

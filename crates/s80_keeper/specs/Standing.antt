@@ -6,28 +6,26 @@ use Rattle.s80_mark.specs.declared.mark.MarkState.{MarkState}
 use Rattle.s80_mark.specs.Found.{AreLogsEmpty}
 use Rattle.s80_mark.specs.Init.{EmptyLogs}
 use Rattle.s80_apply.specs.List.{IsBuilt}
+use Rattle.s80_keeper.specs.Imaged.{HasImage, KeepsImage}
 use Rattle.s80_log.specs.Standing.{FilesStandFor as StandByMark, StandsFor as StandsByMark, marked_part}
 
--- a mark that names no image
-abbrev pub NamesNoImage : MarkState → Type 0
-NamesNoImage mark = mark.image ≡ 255
-
--- Both logs are empty, and so is the list; or the valid mark names no image, the part of the log that it takes is the blocks of the list, each
--- of whose changes is accepted by those before it, and the mark counts these changes, if it is one that counts.
+-- Both logs are empty, and so is the list; or the part of the log that the valid mark takes is the blocks of the list, each of whose changes is
+-- accepted by those before it, the mark counts these changes, if it is one that counts, and the image that it names, if it names one, is that of
+-- a front of the list.
 abbrev pub FilesStandFor : Image → List Change → Type 0
-FilesStandFor files changes = (AreLogsEmpty files × (changes ≡ [])) ⊎ ((mark : MarkState) × StandByMark files mark changes × NamesNoImage mark × IsBuilt changes)
+FilesStandFor files changes = (AreLogsEmpty files × (changes ≡ [])) ⊎ ((mark : MarkState) × StandByMark files mark changes × HasImage files mark changes × IsBuilt changes)
 
--- What the disk reads stands for the list, and every crash now leaves both logs empty, or leaves the mark file and the marked part of the
--- log as they read.
+-- What the disk reads stands for the list, and every crash now leaves both logs empty, or leaves the mark file and the marked parts of the
+-- log and of the image as they read.
 pub record StandsFor (tells : Bool) (reads : Image) (may_leave : Image → Type 0) (changes : List Change) : Type 0 where
   pub told : IsTrue tells
-  pub stands : (AreLogsEmpty reads × EmptyLogs may_leave × (changes ≡ [])) ⊎ ((mark : MarkState) × StandsByMark tells reads may_leave mark changes × NamesNoImage mark × IsBuilt changes)
+  pub stands : (AreLogsEmpty reads × EmptyLogs may_leave × (changes ≡ [])) ⊎ ((mark : MarkState) × StandsByMark tells reads may_leave mark changes × KeepsImage reads may_leave mark changes × IsBuilt changes)
 
--- What the disk reads stands for the list, and every crash now leaves the marked part of the log as it reads. The mark need not be on the
--- disk yet: a run that was killed as it committed leaves such a disk.
+-- What the disk reads stands for the list, and every crash now leaves the marked parts of the log and of the image as they read. The mark need
+-- not be on the disk yet: a run that was killed as it committed leaves such a disk.
 pub record ReadsFor (tells : Bool) (reads : Image) (may_leave : Image → Type 0) (changes : List Change) : Type 0 where
   pub told : IsTrue tells
-  pub stands : (AreLogsEmpty reads × (changes ≡ [])) ⊎ ((mark : MarkState) × StandByMark reads mark changes × NamesNoImage mark × IsBuilt changes × ((c : Image) → may_leave c → marked_part mark c ≡ marked_part mark reads))
+  pub stands : (AreLogsEmpty reads × (changes ≡ [])) ⊎ ((mark : MarkState) × StandByMark reads mark changes × KeepsImage reads may_leave mark changes × IsBuilt changes × ((c : Image) → may_leave c → marked_part mark c ≡ marked_part mark reads))
 
 -- this much is told, and the files stand for this list
 pub record LeavesFor (told_before : ℕ) (changes : List Change) (told : ℕ) (c : Image) : Type 0 where

@@ -89,6 +89,7 @@ impl Prepared {
 impl Keeper {
     /// Prepares a change to be kept, or says why the list refuses it. The list stays.
     pub fn prepare(&mut self, alloc: Global, change: Change) -> Result<Prepared, Refused>
+        ensures change { IfOk result (λ prepared. prepared.change ≡ change) }
         ensures answer { (state : State) → IsSystemOf self.old.system state → Prepares state self.old.log.end change self.new.system result }
         ensures places { (placed : PlacedState) → HasPlaces self.old.system placed → IfOk result (PlacesFor placed self.new.system) }
         ensures ready { IfOk result (CanKeep self.new) }

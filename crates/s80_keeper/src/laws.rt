@@ -4,12 +4,15 @@ ghost use Rattle.s80_change.specs.declared.change.Change.{Change};
 ghost use Rattle.s80_change.specs.Block.{blocks};
 ghost use Rattle.s80_disk.specs.Image.{Image};
 ghost use Rattle.s80_keeper.specs.declared.start.Damage.{Damage};
-ghost use Rattle.s80_keeper.specs.Keeper.{pending_of, Keeps};
+ghost use Rattle.s80_keeper.specs.Keeper.{pending_of, Keeps, KeeperState};
 ghost use Rattle.s80_keeper.specs.Standing.{FilesStandFor, StandsFor, ReadsFor};
-ghost use Rattle.s80_keeper.specs.Start.{IsDamage};
+ghost use Rattle.s80_keeper.specs.Reading.{ListsBegin};
+ghost use Rattle.s80_keeper.specs.Start.{IsDamage, IsUndamaged};
 
 use crate::keeper::Keeper;
+use s80_apply::{classes_are_named, places_are_of_the_state, sources_stand};
 use s80_disk::Disk;
+use s80_snapshot::{images_of_lists_are_lawful, sources_of_a_list_are_those_of_its_image};
 
 /// Files stand for one list at most.
 pub fn files_stand_for_one_list()
@@ -17,10 +20,29 @@ pub fn files_stand_for_one_list()
         → FilesStandFor files changes → FilesStandFor files other → changes ≡ other }
 {}
 
+/// Files that stand for a list begin with what a front of it makes.
+pub(crate) fn lists_begin_with_a_front()
+    ensures { ListsBegin }
+{
+    classes_are_named();
+    places_are_of_the_state();
+    sources_stand();
+    images_of_lists_are_lawful();
+    sources_of_a_list_are_those_of_its_image();
+}
+
 /// Files with a damage stand for no list.
 pub fn damaged_files_stand_for_no_list()
     ensures { (files : Image) (damage : Damage) (changes : List Change)
         → IsDamage files damage → FilesStandFor files changes → ⊥ }
+{
+    lists_begin_with_a_front();
+}
+
+/// Files with which nothing is wrong have no damage.
+pub fn undamaged_files_have_no_damage()
+    ensures { (files : Image) (keeper : KeeperState) (damage : Damage)
+        → IsUndamaged files keeper → IsDamage files damage → ⊥ }
 {}
 
 /// Files have one damage at most: the first.

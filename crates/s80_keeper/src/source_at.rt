@@ -1,5 +1,5 @@
 // The sources of methods, read again.
-ghost use Rattle.std.specs.Prelude.{◌≡◌, ◌+◌, nat_le, IfErr, IsTrue};
+ghost use Rattle.std.specs.Prelude.{◌≡◌, ◌+◌, ◌≤◌, length, nat_le, IfOk, IfErr, IsTrue};
 ghost use Rattle.s80_base.specs.Causes.{Rose};
 ghost use Rattle.s80_base.specs.declared.outside.Call.TheVariants.{Read};
 ghost use Rattle.s80_disk.specs.Untouched.{IsUntouched};
@@ -9,9 +9,10 @@ ghost use Rattle.s80_apply.specs.Source.{StandsAt, text_for};
 ghost use Rattle.s80_apply.specs.Entries.{row_in};
 ghost use Rattle.s80_log.specs.Log.{held_in};
 ghost use Rattle.s80_log.specs.Faults.{IfBad, IfBlockDisk, UnlessBlockDisk};
-ghost use Rattle.s80_keeper.specs.SourceAt.{IsRead, IsSpelledAt, IsThis};
+ghost use Rattle.s80_keeper.specs.SourceAt.{IsRead, IsSpelledAt, IsThis, length_for};
 
 use crate::unspell::unspelled;
+use s80_apply::SourcePlace;
 use s80_base::Text;
 use s80_dict::MethodEntry;
 use s80_disk::Disk;
@@ -42,16 +43,46 @@ pub fn read_source<D: Disk, C>(
     ensures faults_stay { UnlessBlockDisk result (D.disk_faults disk.new ≡ D.disk_faults disk.old) }
     ensures named { IfErr result (λ fault. IfBlockDisk fault (λ failed. failed.call ≡ Read)) }
 {
-    if entry.from_kernel {
-        kernel_source(alloc, entry.position, entry.length)
+    let place = SourcePlace {
+        from_kernel: entry.from_kernel,
+        position: entry.position,
+        length: entry.length,
+    };
+    read_source_at(alloc, disk, log, place)
+}
+
+/// The source that stands at a place.
+pub(crate) fn read_source_at<D: Disk>(
+    alloc: Global,
+    disk: &mut D,
+    log: &Log,
+    place: SourcePlace,
+) -> Result<Text, BlockFault>
+    ensures answer { IsTrue (D.tells disk.old)
+        → IsRead (text_for place.from_kernel (held_in (D.reads disk.old) log.now)) place.position place.length result }
+    ensures within { IfOk result (λ source. place.position + place.length ≤ length_for place.from_kernel log.now.end) }
+    ensures bad { IfErr result (λ fault. IfBad fault (λ at. at ≡ place.position)) }
+
+    ensures kernel { IsTrue place.from_kernel → IsRead kernel_text place.position place.length result }
+    ensures uncalled { IsTrue place.from_kernel → disk.new ≡ disk.old }
+
+    ensures untouched { IsUntouched D.tells D.reads D.may_leave D.moment D.left_since D.beside D.disk_faults disk.old disk.new }
+    ensures cause { IfErr result
+        (λ fault. IfBlockDisk fault (λ failed. Rose (D.disk_faults disk.old) (D.disk_faults disk.new))) }
+    ensures faults_stay { UnlessBlockDisk result (D.disk_faults disk.new ≡ D.disk_faults disk.old) }
+    ensures named { IfErr result (λ fault. IfBlockDisk fault (λ failed. failed.call ≡ Read)) }
+{
+    if place.from_kernel {
+        kernel_source(alloc, place.position, place.length)
     } else {
-        log_source(alloc, disk, log, entry.position, entry.length)
+        log_source(alloc, disk, log, place.position, place.length)
     }
 }
 
 /// The source that stands in the kernel's text from a place on, in so many bytes.
 fn kernel_source(alloc: Global, position: u64, size: u64) -> Result<Text, BlockFault>
     ensures answer { IsRead kernel_text position size result }
+    ensures within { IfOk result (λ source. position + size ≤ length kernel_text) }
     ensures bad { IfErr result (λ fault. IfBad fault (λ place. place ≡ position)) }
     ensures offline { IfErr result (λ fault. IfBlockDisk fault (λ failed. ⊥)) }
 {
@@ -75,6 +106,7 @@ fn log_source<D: Disk>(
     size: u64,
 ) -> Result<Text, BlockFault>
     ensures answer { IsTrue (D.tells disk.old) → IsRead (held_in (D.reads disk.old) log.now) position size result }
+    ensures within { IfOk result (λ source. position + size ≤ log.now.end) }
     ensures bad { IfErr result (λ fault. IfBad fault (λ place. place ≡ position)) }
     ensures untouched { IsUntouched D.tells D.reads D.may_leave D.moment D.left_since D.beside D.disk_faults disk.old disk.new }
     ensures cause { IfErr result

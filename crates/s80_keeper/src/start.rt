@@ -1,5 +1,5 @@
 // The start: the list for which the files stand, or what is wrong with them.
-ghost use Rattle.std.specs.Prelude.{◌≡◌, ◌≢◌, ◌⊎◌, ◌<◌, ◌≤◌, ◌+◌, ◌++◌, ◌∷◌, [], All, List, ℕ, length, None, IsTrue, IfOk};
+ghost use Rattle.std.specs.Prelude.{◌≡◌, ◌≢◌, ◌⊎◌, ◌<◌, ◌≤◌, ◌+◌, ◌++◌, ◌∷◌, [], All, List, ℕ, drop, length, None, Err, IsTrue, IfOk};
 ghost use Rattle.s80_base.specs.Causes.{Rose};
 ghost use Rattle.s80_base.specs.declared.outside.Call.TheVariants.{Length, Read, Write, Sync};
 ghost use Rattle.s80_change.specs.declared.change.Change.{Change};
@@ -8,7 +8,7 @@ ghost use Rattle.s80_form.specs.Refusal.{refusal_number};
 ghost use Rattle.s80_disk.specs.declared.disk.FileId.{FileId};
 ghost use Rattle.s80_disk.specs.declared.disk.FileId.TheVariants.{Mark};
 ghost use Rattle.s80_disk.specs.Image.{Only};
-ghost use Rattle.s80_disk.specs.Moments.{Beside, LeavesOnly};
+ghost use Rattle.s80_disk.specs.Moments.{LeavesOnly};
 ghost use Rattle.s80_disk.specs.Untouched.{IsUntouched};
 ghost use Rattle.s80_mark.specs.Found.{IsLawfulFound, longer_log};
 ghost use Rattle.s80_apply.specs.State.{State};
@@ -17,11 +17,14 @@ ghost use Rattle.s80_apply.specs.System.{HasPlaces, IsSystemOf};
 ghost use Rattle.s80_history.specs.History.{IsHistoryOf};
 ghost use Rattle.s80_log.specs.Log.{log_file, held_in};
 ghost use Rattle.s80_keeper.specs.Keeper.{pending_of};
-ghost use Rattle.s80_keeper.specs.Standing.{NamesNoImage, FilesStandFor, ReadsFor, StandsFor, LeavesEither, LeavesFor};
+ghost use Rattle.s80_keeper.specs.Standing.{FilesStandFor, ReadsFor, StandsFor, LeavesEither, LeavesFor};
 ghost use Rattle.s80_keeper.specs.Start.{HasMark, IsStart, Started, StartLeaves, IfStartDisk, UnlessStartDisk};
-ghost use Rattle.s80_keeper.specs.Reading.{IsFound, IsLengthChecked, IsCountChecked, AreReplayed, Accepts};
+ghost use Rattle.s80_keeper.specs.Beginning.{Beginning};
+ghost use Rattle.s80_keeper.specs.Reading.{IsFound, IsLengthChecked, IsCountChecked, AreReplayed, Accepts, HasBegun};
 
+use crate::begin::{Begun, begin};
 use crate::keeper::Keeper;
+use crate::laws::{damaged_files_stand_for_no_list, lists_begin_with_a_front};
 use s80_apply::{System, boot};
 use s80_base::{Failed, OutOfMemory};
 use s80_change::Change;
@@ -29,7 +32,7 @@ use s80_disk::{Disk, FileId};
 use s80_form::{Refusal, Refused};
 use s80_history::History;
 use s80_log::{BlockFault, LOG_LIMIT, Log};
-use s80_mark::{FORMAT_TWO, Found, MarkFault, MarkState, NO_IMAGE, init_mark, read_mark};
+use s80_mark::{FORMAT_TWO, Found, MarkFault, MarkState, init_mark, read_mark};
 use std::alloc::Global;
 use thiserror::Error;
 
@@ -45,6 +48,12 @@ pub enum Damage {
     /// The mark takes so many bytes of the log, which has only so many.
     #[error("the mark takes {0} bytes of a log that has {1}")]
     LogShort(u64, u64),
+    /// The mark takes so many bytes of the image, which has only so many.
+    #[error("the mark takes {0} bytes of an image that has {1}")]
+    ImageShort(u64, u64),
+    /// The image isn't one, which shows at this place of it; at its end, where it isn't consistent with the log.
+    #[error("the image is damaged at byte {0}")]
+    BadImage(u64),
     /// No block within the marked part begins at this place of the log.
     #[error("no block begins at byte {0} of the log")]
     BadBlock(u64),
@@ -149,6 +158,7 @@ impl Keeper {
         ensures named { IfStartDisk result (λ failed.
             (failed.call ≡ Length) ⊎ (failed.call ≡ Read) ⊎ (failed.call ≡ Write) ⊎ (failed.call ≡ Sync)) }
     {
+        damaged_files_stand_for_no_list();
         match find_mark(disk)? {
             Found::Fresh => {
                 let mark = init_mark(disk)?;
@@ -196,20 +206,18 @@ impl Keeper {
           count = keeper.count;
           fault = None;
         }) }
-        ensures image { IfOk result (λ keeper. NamesNoImage mark) }
         ensures untouched { IsUntouched D.tells D.reads D.may_leave D.moment D.left_since D.beside D.disk_faults disk.old disk.new }
         ensures cause { IfStartDisk result (λ failed. Rose (D.disk_faults disk.old) (D.disk_faults disk.new)) }
         ensures faults_stay { UnlessStartDisk result (D.disk_faults disk.new ≡ D.disk_faults disk.old) }
         ensures named { IfStartDisk result (λ failed. (failed.call ≡ Length) ⊎ (failed.call ≡ Read)) }
     {
-        if mark.image != NO_IMAGE {
-            return Err(StartFault::Damaged(Damage::BadMark(u64::from(mark.image))));
-        }
+        lists_begin_with_a_front();
         let log = Log::resume(mark.log, mark.log_length);
         check_length(disk, &log)?;
-        let (system, history, count) = replay(alloc, disk, &log)?;
-        check_count(&mark, count)?;
-        Ok(Keeper::at(log, mark, system, history, count))
+        let begun = begin(alloc, disk, &log, &mark)?;
+        let replayed = replay(alloc, disk, &log, begun)?;
+        let reached = check_count(&mark, replayed)?;
+        Ok(Keeper::at(log, mark, reached.system, reached.history, reached.count))
     }
 }
 
@@ -242,40 +250,51 @@ fn check_length<D: Disk>(disk: &mut D, log: &Log) -> Result<(), StartFault>
     Ok(())
 }
 
-/// A mark that counts the changes counts as many as are found.
-fn check_count(mark: &MarkState, found: u64) -> Result<(), StartFault>
-    ensures { IsCountChecked mark.now found result }
+/// What was reached, where a mark that counts the changes counts as many.
+fn check_count(mark: &MarkState, reached: Begun) -> Result<Begun, StartFault>
+    ensures checked { IsCountChecked mark.now reached.count result }
+    ensures same { IfOk result (λ found. found ≡ reached) }
 {
-    if mark.format == FORMAT_TWO && mark.count != found {
-        return Err(StartFault::Damaged(Damage::CountDiffers(mark.count, found)));
+    if mark.format == FORMAT_TWO && mark.count != reached.count {
+        return Err(StartFault::Damaged(Damage::CountDiffers(mark.count, reached.count)));
     }
-    Ok(())
+    Ok(reached)
 }
 
-/// The state that the changes of a log make, their change set and versions, and how many there are, by its blocks.
+/// What the changes behind it in the log make of what is begun with.
 fn replay<D: Disk>(
     alloc: Global,
     disk: &mut D,
     log: &Log,
-) -> Result<(System, History, u64), StartFault>
-    ensures answer { IsTrue (D.tells disk.old) → log.now.end ≤ length (D.reads disk.old (log_file log.now.number))
-        → AreReplayed (held_in (D.reads disk.old) log.now) result }
+    begun: Begun,
+) -> Result<Begun, StartFault>
+    requires counted { begun.count ≤ begun.at }
+    ensures answer { (from : Beginning) → HasBegun from begun → IsTrue (D.tells disk.old) → log.now.end ≤ length (D.reads disk.old (log_file log.now.number))
+        → from.position ≤ log.now.end → AreReplayed from begun.history (drop from.position (held_in (D.reads disk.old) log.now)) result }
+    ensures behind { log.now.end < begun.at → result ≡ Err (StartFault.Damaged (Damage.BadBlock begun.at)) }
     ensures untouched { IsUntouched D.tells D.reads D.may_leave D.moment D.left_since D.beside D.disk_faults disk.old disk.new }
     ensures cause { IfStartDisk result (λ failed. Rose (D.disk_faults disk.old) (D.disk_faults disk.new)) }
     ensures faults_stay { UnlessStartDisk result (D.disk_faults disk.new ≡ D.disk_faults disk.old) }
     ensures named { IfStartDisk result (λ failed. failed.call ≡ Read) }
 {
-    let mut system = boot(alloc)?;
-    let mut history = History::empty(alloc);
-    let mut count = 0;
-    let mut at = 0;
-    while at < log.length() {
-        let (change, next) = log.read_block(alloc, disk, at)?;
-        accept_owned(alloc, &mut system, &mut history, change, at, next)?;
-        count += 1;
-        at = next;
+    if log.length() < begun.at {
+        return Err(StartFault::Damaged(Damage::BadBlock(begun.at)));
     }
-    Ok((system, history, count))
+    let mut reached = begun;
+    while reached.at < log.length() {
+        let (change, next) = log.read_block(alloc, disk, reached.at)?;
+        accept_owned(
+            alloc,
+            &mut reached.system,
+            &mut reached.history,
+            change,
+            reached.at,
+            next,
+        )?;
+        reached.count = reached.count.saturating_add(1);
+        reached.at = next;
+    }
+    Ok(reached)
 }
 
 /// Has the change of a block accepted, which begins and ends at these places, and lets it go.

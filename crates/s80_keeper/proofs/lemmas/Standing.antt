@@ -10,6 +10,7 @@ use Rattle.s80_log.specs.Standing.{FilesStandFor as StandByMark, StandsFor as St
 use Rattle.s80_keeper.specs.Keeper.{KeeperState, Knows}
 use Rattle.s80_keeper.specs.Renewing.{HasWritten}
 use Rattle.s80_keeper.specs.Standing.{FilesStandFor, StandsFor, ReadsFor}
+use Rattle.s80_keeper.proofs.lemmas.Images.{image_left, keeps_fewer}
 
 -- where the mark file and the marked part of its log stay, every crash now leaves files that stand for the list by this mark
 stays_by_mark : (tells : Bool) (reads : Image) (may_leave : Image → Type 0) (mark : MarkState) (changes : List Change) → StandsByMark tells reads may_leave mark changes → (c : Image) → may_leave c → StandByMark c mark changes
@@ -26,7 +27,7 @@ module _ (tells : Bool) (reads : Image) (may_leave : Image → Type 0) (changes 
   -- every crash now leaves files that stand for the list
   pub stands_leaves : (c : Image) → may_leave c → FilesStandFor c changes
   stands_leaves c left =
-      ⊎_elim (λ empty. inl ((empty.1.log0 c left, empty.1.log1 c left), empty.2)) (λ marked. inr (marked.0, stays_by_mark tells reads may_leave marked.0 changes marked.1 c left, marked.2, marked.3)) h.stands
+      ⊎_elim (λ empty. inl ((empty.1.log0 c left, empty.1.log1 c left), empty.2)) (λ marked. inr (marked.0, stays_by_mark tells reads may_leave marked.0 changes marked.1 c left, image_left reads may_leave marked.0 changes marked.2 c left, marked.3)) h.stands
 
   -- what it reads stands for the list
   pub reads_so : ReadsFor tells reads may_leave changes
@@ -40,7 +41,7 @@ pub reads_on : (tells new_tells : Bool) (reads new_reads : Image) (before now : 
 reads_on tells new_tells reads new_reads before now changes same_tells same still h =
     let same_reads : reads ≡ new_reads = λ i file. sym (same file) i in
     let P : Bool → Image → Type 0 = λ t r. ReadsFor t r now changes in
-    let kept : ReadsFor tells reads now changes = record { told = h.told; stands = ⊎_elim (λ empty. inl empty) (λ marked. inr (marked.0, marked.1, marked.2, marked.3, λ c left. marked.4 c (still c left))) h.stands } in
+    let kept : ReadsFor tells reads now changes = record { told = h.told; stands = ⊎_elim (λ empty. inl empty) (λ marked. inr (marked.0, marked.1, keeps_fewer reads before marked.0 changes marked.2 now still, marked.3, λ c left. marked.4 c (still c left))) h.stands } in
     subst (P new_tells) same_reads (subst (λ t. P t reads) (sym same_tells) kept)
 
 -- what is written is known, where the disk tells it

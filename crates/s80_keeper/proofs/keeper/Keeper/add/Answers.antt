@@ -9,6 +9,7 @@ use Rattle.s80_keeper.proofs.Elsewhere.{elsewhere_still}
 use Rattle.s80_keeper.proofs.Keeping.{stands_by_mark}
 use Rattle.s80_keeper.proofs.Renewed.{beside_more, failed_so, grown_but_log, grown_log, grown_then, leaves_still, made_written, offline_so, unless_all}
 use Rattle.s80_keeper.proofs.Written.{unwritten, written_more}
+use Rattle.s80_keeper.proofs.lemmas.Images.{keeps_elsewhere}
 use Rattle.s80_keeper.proofs.keeper.Keeper.add.Goals as goal
 
 pub accept_at-requires : goal.accept_at-requires
@@ -22,7 +23,7 @@ returns-in_err-block-clause-added g c = λ kept done beside may.
     let d = c.args.disk.now in
     let stands = beside.holds.stands in
     let p = err_from_is_err_and c.from_residual.result c.from_residual.ensures.1 in (
-      leaves_still D.moment D.left_since kept D.tells D.reads D.may_leave d (D.beside d).told (g.met.D.Disk.only_now d) (stands_by_mark (D.tells d) (D.reads d) (D.may_leave d) c.args.self.now.mark kept beside.no_image beside.kept_built stands),
+      leaves_still D.moment D.left_since kept D.tells D.reads D.may_leave d (D.beside d).told (g.met.D.Disk.only_now d) (stands_by_mark (D.tells d) (D.reads d) (D.may_leave d) c.args.self.now.mark kept beside.image beside.kept_built stands),
       rw (p.1, p.2) stands,
     )
 
@@ -75,7 +76,8 @@ returns-clause-added g c = λ kept done beside may.
     let same = c.append_block.ensures.same in
     let made = made_written c.args.self.now mid done same beside.made in
     let taken = c.accept_at.ensures.accepted done made beside.holds.list (c.in_ok-at.ensures.place ∙ beside.holds.whole) may in
-    (run.0, beside_more (D.tells new) (D.tells d) (D.reads new) (D.reads d) (D.may_leave new) (D.may_leave d) c.args.self.now mid c.accept_at.new.self kept done all c.accept_at.result beside same c.accept_at.ensures.same run.1 taken)
+    let image = keeps_elsewhere D.reads D.may_leave D.moment D.left_since D.beside d new c.args.self.now.log.number (g.met.D.Disk.counts_now new) c.args.self.now.mark kept D.tells D.disk_faults c.append_block.ensures.elsewhere beside.image in
+    (run.0, beside_more (D.tells new) (D.tells d) (D.reads new) (D.reads d) (D.may_leave new) (D.may_leave d) c.args.self.now mid c.accept_at.new.self kept done all c.accept_at.result beside image same c.accept_at.ensures.same run.1 taken)
 
 pub returns-clause-written : goal.returns-clause-written
 returns-clause-written g c = λ done written may.

@@ -43,7 +43,7 @@ loop-i-init g c =
     let D = g.D.Disk in
     let d = c.args.disk.now in
     record {
-      added = λ kept beside list built. (leaves_still D.moment D.left_since kept D.tells D.reads D.may_leave d (D.beside d).told (g.met.D.Disk.only_now d) (stands_by_mark (D.tells d) (D.reads d) (D.may_leave d) c.args.self.now.mark kept beside.no_image beside.kept_built beside.holds.stands), beside);
+      added = λ kept beside list built. (leaves_still D.moment D.left_since kept D.tells D.reads D.may_leave d (D.beside d).told (g.met.D.Disk.only_now d) (stands_by_mark (D.tells d) (D.reads d) (D.may_leave d) c.args.self.now.mark kept beside.image beside.kept_built beside.holds.stands), beside);
       written = λ written list built. written;
       same = refl;
       elsewhere = elsewhere_still D.tells D.reads D.may_leave D.moment D.left_since D.beside D.disk_faults (log_file c.args.self.now.log.number) d (g.met.D.Disk.only_now d);

@@ -32,7 +32,7 @@ module _ (g : _) (c : After-append g) where
         let was = beside_inside in
         let file = log_file keeper.log.number in
         weaker D.moment D.left_since d c.append.new.disk (LeavesBeside (D.may_leave d) (D.beside d).told file (λ e. StandByMark e keeper.mark kept)) (LeavesFor (D.beside d).told kept) (c.append.ensures.stands_beside keeper.mark kept done was.holds)
-        (leaves_kept (D.may_leave d) (D.beside d).told file keeper.mark kept was.no_image was.kept_built)
+        (leaves_kept (D.reads d) (D.may_leave d) (D.beside d).told keeper.log.number keeper.mark kept was.image was.kept_built)
 
   -- what it has written, as the code has it
   written_inside : (done : List Change) → HasWritten (g.D.Disk.tells c.args.disk.now) (g.D.Disk.reads c.args.disk.now) c.args.self.now done → HasWritten (g.D.Disk.tells c.args.disk.now) (g.D.Disk.reads c.args.disk.now) keeper done

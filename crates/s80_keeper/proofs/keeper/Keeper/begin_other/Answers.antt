@@ -7,6 +7,7 @@ use Rattle.s80_disk.proofs.lemmas.Run.{weaker}
 use Rattle.s80_log.specs.Commit.{LeavesBeside}
 use Rattle.s80_log.specs.Log.{LogEnd, log_file}
 use Rattle.s80_log.specs.Standing.{FilesStandFor as StandByMark, StandsFor as StandsByMark}
+use Rattle.s80_keeper.specs.Imaged.{KeepsImage}
 use Rattle.s80_keeper.specs.Keeper.{KeeperState, Keeps}
 use Rattle.s80_keeper.specs.Renewing.{HasWritten, IsBeside, IsElsewhere}
 use Rattle.s80_keeper.specs.Standing.{LeavesFor}
@@ -14,6 +15,7 @@ use Rattle.s80_keeper.proofs.Elsewhere.{elsewhere_log}
 use Rattle.s80_keeper.proofs.Keeping.{leaves_kept}
 use Rattle.s80_keeper.proofs.Renewed.{begun_next}
 use Rattle.s80_keeper.proofs.Written.{written_none}
+use Rattle.s80_keeper.proofs.lemmas.Images.{keeps_behind}
 use Rattle.s80_keeper.proofs.keeper.Keeper.begin_other.Goals as goal
 use Rattle.s80_keeper.proofs.keeper.Keeper.begin_other.Goals.{After-begin_other}
 
@@ -41,7 +43,15 @@ module _ (g : _) (c : After-begin_other g) where
         let was = keeps_inside in
         let file = log_file (1 - keeper.log.number) in
         weaker D.moment D.left_since d c.begin_other.new.disk (LeavesBeside (D.may_leave d) (D.beside d).told file (λ e. StandByMark e keeper.mark kept)) (LeavesFor (D.beside d).told kept) (c.begin_other.ensures.stands keeper.mark kept was.holds.stands was.holds.named)
-        (leaves_kept (D.may_leave d) (D.beside d).told file keeper.mark kept was.no_image was.built)
+        (leaves_kept (D.reads d) (D.may_leave d) (D.beside d).told (1 - keeper.log.number) keeper.mark kept was.image was.built)
+
+    image_then : KeepsImage (g.D.Disk.reads c.begin_other.new.disk) (g.D.Disk.may_leave c.begin_other.new.disk) keeper.mark kept
+    image_then =
+        let D = g.D.Disk in
+        let d = c.args.disk.now in
+        let new = c.begin_other.new.disk in
+        let was = keeps_inside in
+        keeps_behind D.reads D.may_leave D.moment D.left_since D.beside d new (1 - keeper.log.number) (g.met.D.Disk.counts_now new) keeper.mark kept (λ e. StandByMark e keeper.mark kept) (λ other no_mark no_log. c.begin_other.ensures.others other no_log) (c.begin_other.ensures.stands keeper.mark kept was.holds.stands was.holds.named) was.image
 
     -- by the mark that the keeper has
     stands_now : StandsByMark (g.D.Disk.tells c.begin_other.new.disk) (g.D.Disk.reads c.begin_other.new.disk) (g.D.Disk.may_leave c.begin_other.new.disk) keeper.mark kept → StandsByMark (g.D.Disk.tells c.begin_other.new.disk) (g.D.Disk.reads c.begin_other.new.disk) (g.D.Disk.may_leave c.begin_other.new.disk) c.args.self.now.mark kept
@@ -82,7 +92,7 @@ returns-clause-begun g c = λ kept keeps.
     let made : KeeperState = record { log = c.in_ok-log.log; mark = c.self.inside.mark; system = c.in_ok-boot.field-0; history = c.empty.result; count = 0; fault = None } in
     let begun : Begun made = record {
       holds = c.in_ok-log.ensures.begun (keeper g at).mark kept was.holds.stands was.holds.named;
-      no_image = was.no_image;
+      image = image_then g at kept keeps;
       kept_built = was.built;
       made = record { built = tt; system = c.in_ok-boot.ensures.state; places = c.in_ok-boot.ensures.places; history = c.empty.ensures.of; count = refl };
       faultless = refl;

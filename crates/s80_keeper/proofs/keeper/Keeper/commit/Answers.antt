@@ -1,4 +1,4 @@
-use Rattle.std.proofs.Common.{◌≡◌, inl, List, sym, ap, ◌∙◌, subst, rules}
+use Rattle.std.proofs.Common.{◌≡◌, inl, List, sym, ◌∙◌, subst, rules}
 use Rattle.std.specs.Prelude.{⊤}
 use Rattle.s80_change.specs.declared.change.Change.{Change}
 use Rattle.s80_disk.specs.declared.disk.FileId.TheVariants.{Mark}
@@ -10,11 +10,13 @@ use Rattle.s80_mark.specs.Stays.{Anything}
 use Rattle.s80_apply.specs.List.{IsBuilt}
 use Rattle.s80_log.specs.Log.{log_file}
 use Rattle.s80_log.specs.Commit.{LeavesBeside, StandForEither, next_mark}
+use Rattle.s80_keeper.specs.Imaged.{KeepsImage}
 use Rattle.s80_keeper.specs.Keeper.{KeeperState, Keeps, pending_of}
 use Rattle.s80_keeper.specs.Renewing.{HasWritten}
 use Rattle.s80_keeper.specs.Standing.{LeavesEither, ReadsForEither}
 use Rattle.s80_keeper.proofs.Keeping.{either_list, elsewhere, images_stand, keeps_all, keeps_unpending, kept_built, leaves_either, reads_either}
 use Rattle.s80_keeper.proofs.KeptWritten.{written_marked}
+use Rattle.s80_keeper.proofs.lemmas.Images.{keeps_beside, keeps_committed}
 use Rattle.s80_keeper.proofs.keeper.Keeper.commit.Goals as goal
 use Rattle.s80_keeper.proofs.keeper.Keeper.commit.Goals.{After-pending, After-commit}
 
@@ -64,6 +66,27 @@ module _ (g : _) (c : After-commit g) where
     built_front : IsBuilt kept
     built_front = kept_built (g.D.Disk.tells c.args.disk.now) (g.D.Disk.reads c.args.disk.now) (g.D.Disk.may_leave c.args.disk.now) keeper kept all keeps_inside
 
+    -- of the mark that is committed
+    next_image : KeepsImage (g.D.Disk.reads c.args.disk.now) (g.D.Disk.may_leave c.args.disk.now) next all
+    next_image =
+        let was = keeps_inside in
+        keeps_committed (g.D.Disk.reads c.args.disk.now) (g.D.Disk.may_leave c.args.disk.now) c.self.inside.mark c.self.inside.log c.self.inside.count kept was.front.0 all was.front.1 was.image
+
+    -- and then
+    image_then : KeepsImage (g.D.Disk.reads c.commit.new.disk) (g.D.Disk.may_leave c.commit.new.disk) c.self.inside.mark kept
+    image_then =
+        let D = g.D.Disk in
+        let d = c.args.disk.now in
+        let new = c.commit.new.disk in
+        let was = keeps_inside in
+        let mark = c.self.inside.mark in
+        keeps_beside (D.reads d) (D.may_leave d) c.self.inside.log.number mark kept was.image (D.beside d).told (D.beside new).told (StandForEither mark kept next all) (D.reads new) (D.may_leave new) (λ other no_mark no_log. c.commit.ensures.others other no_mark) (λ e left. c.commit.ensures.left kept all e was.holds was.count left)
+
+    next_then : KeepsImage (g.D.Disk.reads c.commit.new.disk) (g.D.Disk.may_leave c.commit.new.disk) next all
+    next_then =
+        let was = keeps_inside in
+        keeps_committed (g.D.Disk.reads c.commit.new.disk) (g.D.Disk.may_leave c.commit.new.disk) c.self.inside.mark c.self.inside.log c.self.inside.count kept was.front.0 all was.front.1 image_then
+
     run : LeavesOnly g.D.Disk.moment g.D.Disk.left_since c.args.disk.now c.commit.new.disk (LeavesEither (g.D.Disk.beside c.args.disk.now).told kept all)
     run =
         let D = g.D.Disk in
@@ -71,16 +94,18 @@ module _ (g : _) (c : After-commit g) where
         let was = keeps_inside in
         let file = log_file c.self.inside.log.number in
         weaker D.moment D.left_since d c.commit.new.disk (LeavesBeside (D.may_leave d) (D.beside d).told file (StandForEither c.self.inside.mark kept next all)) (LeavesEither (D.beside d).told kept all) (c.commit.ensures.stands kept all was.holds was.count)
-        (leaves_either c.self.inside.mark next kept all was.no_image was.no_image built_front was.built (D.may_leave d) (D.beside d).told file)
+        (leaves_either (D.reads d) (D.may_leave d) c.self.inside.mark next kept all was.image next_image built_front was.built (D.beside d).told c.self.inside.log.number)
 
     broke_off : ReadsForEither (g.D.Disk.tells c.commit.new.disk) (g.D.Disk.reads c.commit.new.disk) (g.D.Disk.may_leave c.commit.new.disk) kept all
     broke_off =
         let D = g.D.Disk in
+        let d = c.args.disk.now in
         let new = c.commit.new.disk in
         let was = keeps_inside in
+        let mark = c.self.inside.mark in
         record {
-          stands = reads_either c.self.inside.mark next kept all was.no_image was.no_image built_front was.built (D.tells new) (D.reads new) (D.may_leave new) (c.commit.ensures.reads kept all was.holds was.count);
-          images = λ e left. either_list c.self.inside.mark next kept all was.no_image was.no_image built_front was.built e (c.commit.ensures.left kept all e was.holds was.count left).here;
+          stands = reads_either (D.tells new) (D.reads new) (D.may_leave new) mark next kept all image_then next_then built_front was.built (c.commit.ensures.reads kept all was.holds was.count);
+          images = λ e left. either_list (D.reads d) (D.may_leave d) mark next kept all was.image next_image built_front was.built (D.beside d).told c.self.inside.log.number (D.beside new).told e (c.commit.ensures.left kept all e was.holds was.count left);
         }
 
 -- ---- where it failed
@@ -107,7 +132,8 @@ returns-clause-committed g c = λ kept all keeps.
     let at = (goal.at.returns-clause-committed g c).After-commit in
     let was = keeps_inside g at kept all keeps in
     let done = c.in_default-commit.ensures in
-    keeps_all (D.tells d) (D.reads d) (D.may_leave d) (keeper g at) kept all was (D.tells new) (D.reads new) (D.may_leave new) c.commit.new.self c.commit.new.mark (ap (λ (m : MarkState). m.image) done.mark) (done.committed kept all was.holds was.count)
+    let Imaged : MarkState → Type 0 = λ m. KeepsImage (D.reads new) (D.may_leave new) m all in
+    keeps_all (D.tells d) (D.reads d) (D.may_leave d) (keeper g at) kept all was (D.tells new) (D.reads new) (D.may_leave new) c.commit.new.self c.commit.new.mark (subst Imaged (sym done.mark) (next_then g at kept all keeps)) (done.committed kept all was.holds was.count)
 
 pub returns-clause-written : goal.returns-clause-written
 returns-clause-written g c = λ changes written.

@@ -1,4 +1,4 @@
-use Rattle.std.proofs.Common.{List, refl, sym, ap, ◌∙◌, subst}
+use Rattle.std.proofs.Common.{List, sym, ap, ◌∙◌, subst}
 use Rattle.std.proofs.lemmas.Result.{err_from_is_err_and}
 use Rattle.s80_change.specs.declared.change.Change.{Change}
 use Rattle.s80_disk.specs.Moments.{LeavesOnly}
@@ -6,6 +6,7 @@ use Rattle.s80_disk.proofs.lemmas.Run.{weaker}
 use Rattle.s80_mark.specs.declared.mark.MarkState.{MarkState}
 use Rattle.s80_log.specs.Log.{LogEnd, log_file}
 use Rattle.s80_log.specs.Commit.{LeavesBeside, StandForEither, fresh_mark}
+use Rattle.s80_keeper.specs.Imaged.{KeepsImage}
 use Rattle.s80_keeper.specs.Keeper.{KeeperState}
 use Rattle.s80_keeper.specs.Renewing.{HasWritten, IsBeside, IsElsewhere}
 use Rattle.s80_keeper.specs.Standing.{LeavesEither, ReadsForEither}
@@ -13,6 +14,7 @@ use Rattle.s80_keeper.proofs.Elsewhere.{elsewhere_mark}
 use Rattle.s80_keeper.proofs.Keeping.{either_list, leaves_either, reads_either}
 use Rattle.s80_keeper.proofs.Renewed.{keeps_alone}
 use Rattle.s80_keeper.proofs.Written.{written_alone}
+use Rattle.s80_keeper.proofs.lemmas.Images.{keeps_beside, keeps_fresh}
 use Rattle.s80_keeper.proofs.keeper.Keeper.count_alone.Goals as goal
 use Rattle.s80_keeper.proofs.keeper.Keeper.count_alone.Goals.{After-commit_alone}
 
@@ -36,6 +38,22 @@ module _ (g : _) (c : After-commit_alone g) where
         let P : KeeperState → Type 0 = λ k. IsBeside (g.D.Disk.tells c.args.disk.now) (g.D.Disk.reads c.args.disk.now) (g.D.Disk.may_leave c.args.disk.now) k kept all in
         subst P (sym c.self.view_is) beside
 
+    -- the mark that is committed names none
+    fresh_image : KeepsImage (g.D.Disk.reads c.args.disk.now) (g.D.Disk.may_leave c.args.disk.now) fresh all
+    fresh_image = keeps_fresh (g.D.Disk.reads c.args.disk.now) (g.D.Disk.may_leave c.args.disk.now) c.self.inside.mark all c.self.inside.log c.self.inside.count
+
+    image_then : KeepsImage (g.D.Disk.reads c.commit_alone.new.disk) (g.D.Disk.may_leave c.commit_alone.new.disk) c.self.inside.mark kept
+    image_then =
+        let D = g.D.Disk in
+        let d = c.args.disk.now in
+        let new = c.commit_alone.new.disk in
+        let was = beside_inside in
+        let mark = c.self.inside.mark in
+        keeps_beside (D.reads d) (D.may_leave d) c.self.inside.log.number mark kept was.image (D.beside d).told (D.beside new).told (StandForEither mark kept fresh all) (D.reads new) (D.may_leave new) (λ other no_mark no_log. c.commit_alone.ensures.others other no_mark) (λ e left. c.commit_alone.ensures.left kept all e was.holds was.made.count left)
+
+    fresh_then : KeepsImage (g.D.Disk.reads c.commit_alone.new.disk) (g.D.Disk.may_leave c.commit_alone.new.disk) fresh all
+    fresh_then = keeps_fresh (g.D.Disk.reads c.commit_alone.new.disk) (g.D.Disk.may_leave c.commit_alone.new.disk) c.self.inside.mark all c.self.inside.log c.self.inside.count
+
     run : LeavesOnly g.D.Disk.moment g.D.Disk.left_since c.args.disk.now c.commit_alone.new.disk (LeavesEither (g.D.Disk.beside c.args.disk.now).told kept all)
     run =
         let D = g.D.Disk in
@@ -43,16 +61,18 @@ module _ (g : _) (c : After-commit_alone g) where
         let was = beside_inside in
         let file = log_file c.self.inside.log.number in
         weaker D.moment D.left_since d c.commit_alone.new.disk (LeavesBeside (D.may_leave d) (D.beside d).told file (StandForEither c.self.inside.mark kept fresh all)) (LeavesEither (D.beside d).told kept all) (c.commit_alone.ensures.stands kept all was.holds was.made.count)
-        (leaves_either c.self.inside.mark fresh kept all was.no_image refl was.kept_built was.made.built (D.may_leave d) (D.beside d).told file)
+        (leaves_either (D.reads d) (D.may_leave d) c.self.inside.mark fresh kept all was.image fresh_image was.kept_built was.made.built (D.beside d).told c.self.inside.log.number)
 
     broke_off : ReadsForEither (g.D.Disk.tells c.commit_alone.new.disk) (g.D.Disk.reads c.commit_alone.new.disk) (g.D.Disk.may_leave c.commit_alone.new.disk) kept all
     broke_off =
         let D = g.D.Disk in
+        let d = c.args.disk.now in
         let new = c.commit_alone.new.disk in
         let was = beside_inside in
+        let mark = c.self.inside.mark in
         record {
-          stands = reads_either c.self.inside.mark fresh kept all was.no_image refl was.kept_built was.made.built (D.tells new) (D.reads new) (D.may_leave new) (c.commit_alone.ensures.reads kept all was.holds was.made.count);
-          images = λ e left. either_list c.self.inside.mark fresh kept all was.no_image refl was.kept_built was.made.built e (c.commit_alone.ensures.left kept all e was.holds was.made.count left).here;
+          stands = reads_either (D.tells new) (D.reads new) (D.may_leave new) mark fresh kept all image_then fresh_then was.kept_built was.made.built (c.commit_alone.ensures.reads kept all was.holds was.made.count);
+          images = λ e left. either_list (D.reads d) (D.may_leave d) mark fresh kept all was.image fresh_image was.kept_built was.made.built (D.beside d).told c.self.inside.log.number (D.beside new).told e (c.commit_alone.ensures.left kept all e was.holds was.made.count left);
         }
 
 pub returns-in_err-commit_alone-clause-elsewhere : goal.returns-in_err-commit_alone-clause-elsewhere
@@ -74,9 +94,10 @@ returns-clause-counted g c = λ kept all beside.
     let new = c.commit_alone.new.disk in
     let at = (goal.at.returns-clause-counted g c).After-commit_alone in
     let was = beside_inside g at kept all beside in
-    let done = c.in_ok-commit_alone.ensures in (
+    let done = c.in_ok-commit_alone.ensures in
+    let Imaged : MarkState → Type 0 = λ m. KeepsImage (D.reads new) (D.may_leave new) m all in (
       run g at kept all beside,
-      keeps_alone (D.tells new) (D.reads new) (D.may_leave new) (D.tells d) (D.reads d) (D.may_leave d) (keeper g at) kept all c.commit_alone.new.self c.commit_alone.new.mark (ap (λ (m : MarkState). m.image) done.mark) was (done.committed kept all was.holds was.made.count),
+      keeps_alone (D.tells new) (D.reads new) (D.may_leave new) (D.tells d) (D.reads d) (D.may_leave d) (keeper g at) kept all c.commit_alone.new.self c.commit_alone.new.mark (subst Imaged (sym done.mark) (fresh_then g at kept all beside)) was (done.committed kept all was.holds was.made.count),
     )
 
 pub returns-clause-alone : goal.returns-clause-alone

@@ -10,6 +10,7 @@ use Rattle.s80_keeper.proofs.Elsewhere.{elsewhere_then}
 use Rattle.s80_keeper.proofs.Renewed.{alone_after, answered_so, failed_so, stands_for_either}
 use Rattle.s80_keeper.proofs.Together.{either_stands, stands_either}
 use Rattle.s80_keeper.proofs.Written.{unwritten}
+use Rattle.s80_keeper.proofs.lemmas.Images.{keeps_elsewhere}
 use Rattle.s80_keeper.proofs.keeper.Keeper.fill.Goals as goal
 
 -- ---- where not all are taken in
@@ -24,10 +25,11 @@ returns-in_err-add_all-clause-filled g c = λ kept beside list built.
     let Stands = StandsByMark (D.tells new) (D.reads new) (D.may_leave new) mark kept in
     let Either = ReadsForEither (D.tells new) (D.reads new) (D.may_leave new) kept all in
     let run = c.in_err-add_all.ensures.added kept beside list built in
+    let image = keeps_elsewhere D.reads D.may_leave D.moment D.left_since D.beside d new c.args.self.now.log.number (g.met.D.Disk.counts_now new) mark kept D.tells D.disk_faults c.add_all.ensures.elsewhere beside.image in
     let p = err_from_is_err_and c.from_residual.result c.from_residual.ensures.1 in (
       stands_either D.moment D.left_since d new (D.beside d).told kept all run.0,
       rw (p.1, p.2) (
-          failed_so (Unit {0}) (Unit {0}) c.in_err-add_all.field-0.0 (λ made. IsBeside (D.tells new) (D.reads new) (D.may_leave new) c.add_all.new.self kept all) (λ made. Keeps (D.tells new) (D.reads new) (D.may_leave new) c.add_all.new.self all all) Stands Stands Stands Either (λ stands. stands) (stands_for_either (D.tells new) (D.reads new) (D.may_leave new) mark kept all beside.no_image beside.kept_built)
+          failed_so (Unit {0}) (Unit {0}) c.in_err-add_all.field-0.0 (λ made. IsBeside (D.tells new) (D.reads new) (D.may_leave new) c.add_all.new.self kept all) (λ made. Keeps (D.tells new) (D.reads new) (D.may_leave new) c.add_all.new.self all all) Stands Stands Stands Either (λ stands. stands) (stands_for_either (D.tells new) (D.reads new) (D.may_leave new) mark kept all image beside.kept_built)
           run.1),
     )
 

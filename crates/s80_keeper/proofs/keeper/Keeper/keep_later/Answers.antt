@@ -8,11 +8,13 @@ use Rattle.s80_disk.proofs.lemmas.Run.{started, weaker}
 use Rattle.s80_log.specs.Log.{log_file}
 use Rattle.s80_log.specs.Standing.{FilesStandFor as StandByMark}
 use Rattle.s80_log.specs.Commit.{LeavesBeside}
+use Rattle.s80_keeper.specs.Imaged.{KeepsImage}
 use Rattle.s80_keeper.specs.Keeper.{KeeperState, Keeps}
 use Rattle.s80_keeper.specs.Renewing.{HasWritten}
 use Rattle.s80_keeper.specs.Standing.{LeavesFor}
 use Rattle.s80_keeper.proofs.Keeping.{after_taken, elsewhere, installed_at, kept_built, keeps_later, keeps_still, leaves_kept, noted_kept, stands_by_mark, still_elsewhere}
 use Rattle.s80_keeper.proofs.KeptWritten.{written_later}
+use Rattle.s80_keeper.proofs.lemmas.Images.{keeps_behind}
 use Rattle.s80_keeper.proofs.keeper.Keeper.keep_later.Goals as goal
 use Rattle.s80_keeper.proofs.keeper.Keeper.keep_later.Goals.{After-append}
 
@@ -38,7 +40,16 @@ module _ (g : _) (c : After-append g) where
         let was = keeps_inside in
         let built = kept_built (D.tells d) (D.reads d) (D.may_leave d) keeper kept all was in
         weaker D.moment D.left_since d c.append.new.disk (LeavesBeside (D.may_leave d) (D.beside d).told (log_file c.self.inside.log.number) (λ e. StandByMark e c.self.inside.mark kept)) (LeavesFor (D.beside d).told kept) (c.append.ensures.stands c.self.inside.mark kept all was.holds)
-        (leaves_kept (D.may_leave d) (D.beside d).told (log_file c.self.inside.log.number) c.self.inside.mark kept was.no_image built)
+        (leaves_kept (D.reads d) (D.may_leave d) (D.beside d).told c.self.inside.log.number c.self.inside.mark kept was.image built)
+
+    image_then : KeepsImage (g.D.Disk.reads c.append.new.disk) (g.D.Disk.may_leave c.append.new.disk) c.self.inside.mark kept
+    image_then =
+        let D = g.D.Disk in
+        let d = c.args.disk.now in
+        let new = c.append.new.disk in
+        let was = keeps_inside in
+        let mark = c.self.inside.mark in
+        keeps_behind D.reads D.may_leave D.moment D.left_since D.beside d new c.self.inside.log.number (g.met.D.Disk.counts_now new) mark kept (λ e. StandByMark e mark kept) (λ other no_mark no_log. c.append.ensures.others other no_log) (c.append.ensures.stands mark kept all was.holds) was.image
 
 -- whatever the disk stands for, but for the log
 others_stay : (g : _) (c : After-append g) → LeavesOnly g.D.Disk.moment g.D.Disk.left_since c.args.disk.now c.append.new.disk (LeavesBeside (g.D.Disk.may_leave c.args.disk.now) (g.D.Disk.beside c.args.disk.now).told (log_file c.args.self.now.log.number) (λ e. ⊤))
@@ -84,7 +95,9 @@ returns-in-Ok-clause-kept g c = λ kept all keeps lawful ready places.
     let noted =
     noted_kept all c.args.prepared.change c.self.inside.log.end c.in-Ok.at c.self.inside.history c.take_in.new.history c.in-Ok.ensures.place was.holds.whole was.holds.list.lawful lawful was.history
     c.take_in.ensures.history in
-    keeps_later _ _ _ c.args.self.now kept all keeps _ _ _ _ c.args.prepared ready places (returns-in-Ok-clause-after g c) holds noted
+    let new = c.append.new.disk in
+    let Imaged : KeeperState → Type 0 = λ k. KeepsImage (g.D.Disk.reads new) (g.D.Disk.may_leave new) k.mark kept in
+    keeps_later _ _ _ c.args.self.now kept all keeps _ _ _ _ c.args.prepared (subst Imaged c.self.view_is (image_then g at kept all keeps)) ready places (returns-in-Ok-clause-after g c) holds noted
 
 pub returns-in-Ok-clause-written : goal.returns-in-Ok-clause-written
 returns-in-Ok-clause-written g c = λ changes written lawful ready places.
@@ -108,7 +121,7 @@ returns-in-Err-Disk-clause-kept g c = λ kept all keeps lawful ready places.
     let at = (goal.at.returns-in-Err-Disk-clause-kept g c).After-append in
     let was = keeps_inside g at kept all keeps in
     let still = c.in-Err-Disk.ensures.holds c.self.inside.mark kept all c.args.prepared.change was.holds lawful (is_block g at) in
-    stands_by_mark _ _ _ c.self.inside.mark kept was.no_image (kept_built _ _ _ _ kept all was) still.stands
+    stands_by_mark _ _ _ c.self.inside.mark kept (image_then g at kept all keeps) (kept_built _ _ _ _ kept all was) still.stands
 
 pub returns-in-Err-Disk-clause-full : goal.returns-in-Err-Disk-clause-full
 returns-in-Err-Disk-clause-full g c = λ n. (

@@ -14,6 +14,7 @@ use Rattle.s80_keeper.proofs.Elsewhere.{elsewhere_then}
 use Rattle.s80_keeper.proofs.Renewed.{failed_so, moved_after, stands_for_either, still_keeps}
 use Rattle.s80_keeper.proofs.Together.{either_stands, stands_either}
 use Rattle.s80_keeper.proofs.Written.{unwritten}
+use Rattle.s80_keeper.proofs.lemmas.Images.{keeps_elsewhere}
 use Rattle.s80_keeper.proofs.keeper.Keeper.renewed.Goals as goal
 use Rattle.s80_keeper.proofs.keeper.Keeper.renewed.Goals.{After-fill}
 
@@ -30,11 +31,12 @@ returns-in_err-next-clause-renewed g c = λ kept keeps list built.
     let Either = ReadsForEither (D.tells new) (D.reads new) (D.may_leave new) kept all in
     let Still = Keeps (D.tells new) (D.reads new) (D.may_leave new) keeper kept kept in
     let run = c.in_err-next.ensures.begun kept keeps in
+    let image = keeps_elsewhere D.reads D.may_leave D.moment D.left_since D.beside d new (1 - keeper.log.number) (g.met.D.Disk.counts_now new) keeper.mark kept D.tells D.disk_faults c.begin_other.ensures.elsewhere keeps.image in
     let p = err_from_is_err_and c.from_residual.result c.from_residual.ensures.1 in (
       stands_either D.moment D.left_since d new (D.beside d).told kept all run.0,
       rw (p.1, p.2) (
-          failed_so KeeperState KeeperState c.in_err-next.field-0.0 (λ next. IsBeside (D.tells new) (D.reads new) (D.may_leave new) next kept []) (λ next. Keeps (D.tells new) (D.reads new) (D.may_leave new) next all all) Stands Stands Still Either (still_keeps (D.tells new) (D.reads new) (D.may_leave new) (D.tells d) (D.reads d) (D.may_leave d) keeper kept keeps c.requires.settled)
-          (stands_for_either (D.tells new) (D.reads new) (D.may_leave new) keeper.mark kept all keeps.no_image keeps.built) run.1),
+          failed_so KeeperState KeeperState c.in_err-next.field-0.0 (λ next. IsBeside (D.tells new) (D.reads new) (D.may_leave new) next kept []) (λ next. Keeps (D.tells new) (D.reads new) (D.may_leave new) next all all) Stands Stands Still Either (still_keeps (D.tells new) (D.reads new) (D.may_leave new) (D.tells d) (D.reads d) (D.may_leave d) keeper kept keeps c.requires.settled image)
+          (stands_for_either (D.tells new) (D.reads new) (D.may_leave new) keeper.mark kept all image keeps.built) run.1),
     )
 
 pub returns-in_err-next-clause-written : goal.returns-in_err-next-clause-written
@@ -84,11 +86,12 @@ returns-in_err-fill-clause-renewed g c = λ kept keeps list built.
     let mark = ap (λ (k : KeeperState). k.mark) c.in_ok-next.ensures.next in
     let first = c.in_ok-next.ensures.begun kept keeps in
     let second = c.in_err-fill.ensures.filled kept first.1 list built in
+    let image = keeps_elsewhere D.reads D.may_leave D.moment D.left_since D.beside d new (1 - keeper.log.number) (g.met.D.Disk.counts_now new) keeper.mark kept D.tells D.disk_faults (others_stay g at) keeps.image in
     let p = err_from_is_err_and c.from_residual-in_err-fill.result c.from_residual-in_err-fill.ensures.1 in (
       run g at kept keeps list built,
       rw (p.1, p.2) (
           failed_so (Unit {0}) KeeperState c.in_err-fill.field-0.0 (λ made. Keeps (D.tells new) (D.reads new) (D.may_leave new) c.fill.new.self all all) (λ next. Keeps (D.tells new) (D.reads new) (D.may_leave new) next all all) (Stands c.in_ok-next.next.mark) Either Still Either
-          (λ stands. still_keeps (D.tells new) (D.reads new) (D.may_leave new) (D.tells d) (D.reads d) (D.may_leave d) keeper kept keeps c.requires.settled (subst Stands mark stands)) (λ either. either) second.1),
+          (λ stands. still_keeps (D.tells new) (D.reads new) (D.may_leave new) (D.tells d) (D.reads d) (D.may_leave d) keeper kept keeps c.requires.settled image (subst Stands mark stands)) (λ either. either) second.1),
     )
 
 pub returns-clause-renewed : goal.returns-clause-renewed

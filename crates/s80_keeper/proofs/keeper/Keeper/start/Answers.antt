@@ -46,7 +46,7 @@ returns-in_err-find_mark-clause-started g c = λ changes is.
     let d = c.args.disk.now in
     let new = c.find_mark.new.disk in
     let p = err_from_is_err_and c.from_residual.result c.from_residual.ensures.1 in
-    rw (p.1, p.2) (found_started (D.tells d) (D.tells new) (D.reads d) (D.reads new) (D.may_leave d) (D.may_leave new) changes c.in_err-find_mark.field-0.0 c.find_mark.ensures.untouched.telling c.find_mark.ensures.untouched.same c.find_mark.ensures.untouched.crash is (c.in_err-find_mark.ensures.answer is.told))
+    rw (p.1, p.2) (found_started c.damaged_files_stand_for_no_list.ensures (D.tells d) (D.tells new) (D.reads d) (D.reads new) (D.may_leave d) (D.may_leave new) changes c.in_err-find_mark.field-0.0 c.find_mark.ensures.untouched.telling c.find_mark.ensures.untouched.same c.find_mark.ensures.untouched.crash is (c.in_err-find_mark.ensures.answer is.told))
 
 -- the logs are empty
 empty : (g : _) (c : After-init_mark g) → IsTrue (g.D.Disk.tells c.args.disk.now) → AreLogsEmpty (g.D.Disk.reads c.args.disk.now)
@@ -182,7 +182,7 @@ returns-in-Mark-clause-started g c = λ changes is.
     let P : Bool → Image → Type 0 = λ t r. Started c.resume-in-Mark.result t r (D.may_leave new) changes in
     subst (P (D.tells new)) same_reads (subst (λ t. P t (D.reads d)) same_tells (
     started_mark (D.tells d) (D.reads d) (D.may_leave d) (D.may_leave new) c.in-Mark.mark changes (has g run is.told) is (λ image left. c.find_mark.ensures.untouched.crash image (after.untouched.crash image left)) (λ image left. c.in_ok-find_mark.ensures.durable image (after.untouched.crash image left))
-    c.resume-in-Mark.result (resumed g run is.told) after.keeper))
+    c.damaged_files_stand_for_no_list.ensures c.resume-in-Mark.result (resumed g run is.told) after.keeper))
 
 pub returns-in-Mark-clause-settled : goal.returns-in-Mark-clause-settled
 returns-in-Mark-clause-settled g c = settled_mark c.resume-in-Mark.result c.in-Mark.mark c.resume-in-Mark.ensures.keeper
