@@ -8,7 +8,9 @@ use Rattle.s80_disk.specs.Moments.{LeavesOnly}
 use Rattle.s80_disk.proofs.lemmas.Run.{joined, started, weaker}
 use Rattle.s80_disk.specs.Shown.{Shown}
 use Rattle.s80_keeper.specs.declared.start.Damage.{Damage}
+use Rattle.s80_mark.specs.declared.mark.MarkState.{MarkState}
 use Rattle.s80_disk.specs.declared.disk.FileId.{FileId}
+use Rattle.s80_keeper.specs.Imaged.{KeepsImage}
 use Rattle.s80_keeper.specs.Standing.{FilesStandFor, LeavesEither, StandsFor, ReadsFor}
 use Rattle.s80_keeper.specs.Start.{IsDamage, StartLeaves}
 use Rattle.s80_keeper.proofs.lemmas.Damages.{damaged_has_log}
@@ -29,17 +31,20 @@ use Rattle.s80_session.proofs.lemmas.Lasting.{keeps_at_start}
 use Rattle.s80_program.specs.declared.status.Status.TheVariants as status
 use Rattle.s80_program.specs.Command.{Job, Takes, Merges, Works, Makes}
 use Rattle.s80_program.specs.Ending.{IsDiskEnd, status_after}
-use Rattle.s80_program.specs.Leaves.{StartsWith, LeavesFor, KeepsFor, TellsDamage}
+use Rattle.s80_program.specs.Leaves.{AreDamaged, StartsWith, LeavesFor, KeepsFor, TellsDamage}
 
 -- a call that shows nothing new, and after which a crash leaves no more
 module _ (old now : Shown) (same : now ≡ old) (was may_leave : Image → Type 0) (less : (c : Image) → may_leave c → was c) (changes : List Change) where
+  image_on : {mark : MarkState} → KeepsImage old.files was mark changes → KeepsImage old.files may_leave mark changes
+  image_on h = record { has = h.has; stays = λ named c left. h.stays named c (less c left) }
+
   pub stands_on : StandsFor old.tells old.files was changes → StandsFor now.tells now.files may_leave changes
   stands_on h = let P : Shown → Type 0 = λ o. StandsFor o.tells o.files may_leave changes in subst P (sym same) (record {
     told = h.told;
     stands = ⊎_elim (λ empty. inl (empty.0, record { log0 = λ c left. empty.1.log0 c (less c left); log1 = λ c left. empty.1.log1 c (less c left) }, empty.2)) (λ marked. inr (
       marked.0,
       record { told = marked.1.told; files = marked.1.files; mark_stays = λ c left. marked.1.mark_stays c (less c left); log_stays = λ c left. marked.1.log_stays c (less c left) },
-      marked.2,
+      image_on marked.2,
       marked.3,
     )) h.stands;
   })
@@ -47,7 +52,7 @@ module _ (old now : Shown) (same : now ≡ old) (was may_leave : Image → Type 
   pub reads_on : ReadsFor old.tells old.files was changes → ReadsFor now.tells now.files may_leave changes
   reads_on h = let P : Shown → Type 0 = λ o. ReadsFor o.tells o.files may_leave changes in subst P (sym same) (record {
     told = h.told;
-    stands = ⊎_elim (λ empty. inl empty) (λ marked. inr (marked.0, marked.1, marked.2, marked.3, λ c left. marked.4 c (less c left))) h.stands;
+    stands = ⊎_elim (λ empty. inl empty) (λ marked. inr (marked.0, marked.1, image_on marked.2, marked.3, λ c left. marked.4 c (less c left))) h.stands;
   })
 
   pub starts_on : (input before : List ℕ) → StartsWith was old changes input before → StartsWith may_leave now changes input before
@@ -168,8 +173,8 @@ tells_damage files (ends.Read failed) h = absurd h
 tells_damage files (ends.Write failed) h = absurd h
 tells_damage files ends.TooLong h = absurd h
 
-pub damage_found : (files : Image) (end : SessionEnd) → status_after (Err end) ≡ status.Damaged → IsSessionStart files (Err end) → (damage : Damage) × IsDamage files damage
-damage_found files (ends.Damaged damage) is h = (damage, h)
+pub damage_found : (files : Image) (end : SessionEnd) → status_after (Err end) ≡ status.Damaged → IsSessionStart files (Err end) → AreDamaged files
+damage_found files (ends.Damaged damage) is h = inl (damage, h)
 damage_found files ends.Memory is h = cc is
 damage_found files (ends.Disk failed) is h = cc is
 damage_found files (ends.Read failed) is h = absurd h

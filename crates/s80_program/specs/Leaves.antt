@@ -3,7 +3,10 @@ use Rattle.std.specs.Prelude.{◌≡◌, ◌⊎◌, ◌≤◌, ℕ, Bool, true, 
 use Rattle.s80_change.specs.declared.change.Change.{Change}
 use Rattle.s80_disk.specs.Image.{Image}
 use Rattle.s80_disk.specs.Shown.{Shown}
-use Rattle.s80_keeper.specs.Standing.{ReadsFor}
+use Rattle.s80_keeper.specs.declared.start.Damage.{Damage}
+use Rattle.s80_keeper.specs.Keeper.{KeeperState}
+use Rattle.s80_keeper.specs.Standing.{FilesStandFor, ReadsFor}
+use Rattle.s80_keeper.specs.Start.{IsDamage, IsUndamaged}
 use Rattle.s80_machine.specs.Came.{RanValue}
 use Rattle.s80_model.specs.declared.item.SessionItem.{SessionItem}
 use Rattle.s80_model.specs.Asked.{Ask, evaluates}
@@ -150,6 +153,17 @@ IsWithin Merge input = length input ≤ input_limit
 IsWithin (Do text) input = Unit {0}
 IsWithin (Tell query) input = Unit {0}
 IsWithin (Make count) input = Unit {0}
+
+-- No list is what the files stand for, though nothing is wrong with them by themselves: the image that the mark names is that of another list than the
+-- log's, or of none, and may tell a place at which no block stands.
+pub record StandForNone (files : Image) : Type 0 where
+  pub keeper : KeeperState
+  pub undamaged : IsUndamaged files keeper
+  pub no_list : (changes : List Change) → FilesStandFor files changes → ⊥
+
+-- the files have a damage, or a strange image
+abbrev pub AreDamaged : Image → Type 0
+AreDamaged files = ((damage : Damage) × IsDamage files damage) ⊎ StandForNone files
 
 -- where the files at entry are damaged, this is answered, or it is out of memory, or a call of the disk fails
 abbrev pub TellsDamage : Status → Type 0

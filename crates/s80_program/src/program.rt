@@ -18,7 +18,7 @@ ghost use Rattle.s80_session.specs.Run.{Keeps, ShownFor};
 ghost use Rattle.s80_session.specs.Session.{last_run_of, troubled_of, IsResting};
 ghost use Rattle.s80_session.specs.Working.{IsAt, IsReadable, StepLeaves};
 ghost use Rattle.s80_program.specs.Ending.{IsDiskEnd, IsUnread, NoFault, StatusHasReason, status_after, IsWhole};
-ghost use Rattle.s80_program.specs.Leaves.{StartsWith, Leaves, RunLeaves, ItemLeaves, MakeLeaves, MergeLeaves, CommandKeeps, KilledKeeps, AllAsks, IsWithin, PutsFront, Writes, TellsDamage, beginning};
+ghost use Rattle.s80_program.specs.Leaves.{StartsWith, Leaves, RunLeaves, ItemLeaves, MakeLeaves, MergeLeaves, CommandKeeps, KilledKeeps, AllAsks, IsWithin, PutsFront, Writes, AreDamaged, TellsDamage, beginning};
 ghost use Rattle.s80_program.specs.Command.{Command, Options, IsAskingCommand, IsTimedCommand, IsUseful, behind_separators, job_of};
 ghost use Rattle.s80_program.specs.Words.{Asks, options_in};
 ghost use Rattle.s80_line.specs.Line.{is_number, number_of};
@@ -34,6 +34,7 @@ use s80_base::{OutOfMemory, Text};
 use s80_chunk::{Item, Role};
 use s80_disk::Outside;
 use s80_joining::merging_has_one_outcome;
+use s80_keeper::{damaged_files_stand_for_no_list, undamaged_files_have_no_damage};
 use s80_line::{Line, number_in, read_line};
 use s80_make::{make_has_one_line, text_item};
 use s80_model::{Filed, Query, SessionItem, one_ask};
@@ -43,7 +44,7 @@ use std::alloc::Global;
 /// Does what the words ask for: the program's name, a folder and a command. `run` keeps each chunk of the input that is a change of classes, a
 /// method or a doIt in the folder, on the disk, and then answers it: a doIt with what it wrote and what it comes to, and else by a line.
 /// `do TEXT` does so with one text; `classes` names all classes, `browse NAME` shows one, `source SPEC SELECTOR` shows a method and
-/// `versions SPEC SELECTOR` all that it has been, `changes` lists the change set, `recover` says how much there is, and `snapshot` keeps a note.
+/// `versions SPEC SELECTOR` all that it has been, `changes` lists the change set, `recover` says how much there is, and `snapshot` writes an image.
 /// `file-out`, `file-out-class NAME` and `file-out-set` write all classes, one and the change set as a file that `run` takes. `condense` has a
 /// list take the place of the folder's that makes the same classes and methods, and has as many of the newest versions of each method as `--keep`
 /// says. `make N` makes N classes, to try the folder at size, and writes one line. `merge` takes the input as a second change set that starts from
@@ -104,10 +105,9 @@ pub fn st80<O: Outside>(alloc: Global, words: &[Text], outside: &mut O) -> Statu
         → IsTrue (O.shown outside.old).tells → 0 < longer_log (O.shown outside.old).files
         → (file : FileId) → (O.shown outside.new).files file ≡ (O.shown outside.old).files file }
 
-    // Damage is answered only where the files have one. Where they have one nothing that is shown changes, and a crash at any moment leaves
-    // what it might have left before.
-    ensures found { result ≡ Status.Damaged → IsTrue (O.shown outside.old).tells
-        → (damage : Damage) × IsDamage (O.shown outside.old).files damage }
+    // Damage is answered only where the files have one, or stand for no list by an image that isn't the log's. Where they have one nothing that
+    // is shown changes, and a crash at any moment leaves what it might have left before.
+    ensures found { result ≡ Status.Damaged → IsTrue (O.shown outside.old).tells → AreDamaged (O.shown outside.old).files }
     ensures damaged { (options : Options) (command : Command) (damage : Damage) → Asks words.now options command
         → IsTrue (O.shown outside.old).tells → IsDamage (O.shown outside.old).files damage
         → TellsDamage result × (O.shown outside.new ≡ O.shown outside.old)
@@ -152,14 +152,15 @@ fn work<O: Outside>(
         → (file : FileId) → file ≢ Mark → (O.shown outside.new).files file ≡ (O.shown outside.old).files file }
     ensures marked { IsAskingCommand (command_of task.entry) → IsTrue (O.shown outside.old).tells → 0 < longer_log (O.shown outside.old).files
         → (file : FileId) → (O.shown outside.new).files file ≡ (O.shown outside.old).files file }
-    ensures found { status_after result ≡ Status.Damaged → IsTrue (O.shown outside.old).tells
-        → (damage : Damage) × IsDamage (O.shown outside.old).files damage }
+    ensures found { status_after result ≡ Status.Damaged → IsTrue (O.shown outside.old).tells → AreDamaged (O.shown outside.old).files }
     ensures damaged { (damage : Damage) → IsTrue (O.shown outside.old).tells → IsDamage (O.shown outside.old).files damage
         → TellsDamage (status_after result) × (O.shown outside.new ≡ O.shown outside.old)
         × LeavesOnly O.moment O.left_since outside.old outside.new (IsAsBefore (O.may_leave outside.old) (O.shown outside.old).told 0) }
     ensures reason { StatusHasReason (O.faults outside.old) (O.faults outside.new) (status_after result) }
     ensures useful { status_after result ≢ Status.Usage }
 {
+    damaged_files_stand_for_no_list();
+    undamaged_files_have_no_damage();
     open_folder(outside, &line.folder)?;
     let mut session = Session::start(alloc, outside, line.budget, line.keep)?;
     do_task(&mut session, alloc, task, outside)

@@ -47,7 +47,7 @@ pub(crate) enum Task<'w> {
     Unimplemented,
     /// Lists the selectors of methods that are never sent.
     Unsent,
-    /// Keeps the note of a snapshot.
+    /// Makes a snapshot.
     Snapshot,
     /// Has the condensed list take the place of the list.
     Condense,

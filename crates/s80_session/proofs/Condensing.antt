@@ -50,12 +50,12 @@ over_is short over =
     ]
 
 -- for a longer one no files stand
-stands_within : (c : Image) (short : List Change) → FilesStandFor c short → length (blocks short) ≤ log_limit
+pub stands_within : (c : Image) (short : List Change) → FilesStandFor c short → length (blocks short) ≤ log_limit
 stands_within c short (inl empty) = subst (λ l. length (blocks l) ≤ log_limit) (sym empty.1) (omega arith)
 stands_within c short (inr marked) = marked.1.list.within
 
 -- and no disk reads
-reads_within : (tells : _) (reads : Image) (may_leave : Image → Type 0) (short : List Change) → ReadsFor tells reads may_leave short → length (blocks short) ≤ log_limit
+pub reads_within : (tells : _) (reads : Image) (may_leave : Image → Type 0) (short : List Change) → ReadsFor tells reads may_leave short → length (blocks short) ≤ log_limit
 reads_within tells reads may_leave short h = ⊎_elim (λ empty. stands_within reads short (inl empty)) (λ marked. marked.1.list.within) h.stands
 
 -- ---- what a session makes of it
@@ -69,7 +69,7 @@ behind_is : (work : Work) → length (blocks (shorter work)) ≤ log_limit → (
 behind_is work within = ap (λ r. list_or r work.changes) (within_is (shorter work) within)
 
 -- a session whose keeper is at another list, for which the disk stands, is there
-at_list : (was may_leave : Image → Type 0) (o now : Shown) (before session : Session) (work : Work) (put : List ℕ) (list : List Change) → session ≡ record before { keeper = keeper_of session } → now ≡ record o { files = now.files } → Keeps now.tells now.files may_leave (keeper_of session) list list → IsAt was o before work put → IsAt may_leave now session (record work { changes = list }) put
+pub at_list : (was may_leave : Image → Type 0) (o now : Shown) (before session : Session) (work : Work) (put : List ℕ) (list : List Change) → session ≡ record before { keeper = keeper_of session } → now ≡ record o { files = now.files } → Keeps now.tells now.files may_leave (keeper_of session) list list → IsAt was o before work put → IsAt may_leave now session (record work { changes = list }) put
 at_list was may_leave o now before session work put list rest shown keeps at = record {
   keeps = keeps;
   section = ap section_of rest ∙ at.section;

@@ -29,7 +29,7 @@ use Rattle.s80_keeper.specs.Keeper.{KeeperState, Knows}
 use Rattle.s80_keeper.specs.Renewing.{HasWritten}
 use Rattle.s80_keeper.specs.Standing.{FilesStandFor}
 use Rattle.s80_log.specs.Log.{held_in, log_file, LogEnd}
-use Rattle.s80_model.specs.Asked.{Ask, Asks, snapshot_note}
+use Rattle.s80_model.specs.Asked.{Ask, Asks}
 use Rattle.s80_model.specs.declared.item.SessionItem.{SessionItem}
 use Rattle.s80_model.specs.declared.reply.Answer.{Answer}
 use Rattle.s80_model.specs.declared.reply.Reply.{Reply}
@@ -45,7 +45,6 @@ use Rattle.s80_session.specs.Known.{IsKnowing, IsLawfulAnywhere, StaysKnowing}
 use Rattle.s80_session.specs.Session.{keeper_of, section_of}
 use Rattle.s80_session.specs.Working.{IsLawfulFor}
 use Rattle.s80_session.proofs.Brief.{brief_after}
-use Rattle.s80_session.proofs.Noting.{note_lawful}
 use Rattle.s80_session.proofs.Unmarked.{unmarked}
 use Rattle.s80_session.proofs.lemmas.Elsewhere.{no_mark}
 
@@ -220,12 +219,9 @@ condensed_known P (faults.Full count) o session h = tt
 pub own_text : (own text : List ℕ) → own ≡ text → IsChunkText text → length text ≤ longest → IsEvaluatedText text → IsChunkText own × (length own ≤ longest) × IsEvaluatedText own
 own_text own text is chunk short evaluated = let P : List ℕ → Type 0 = λ t. IsChunkText t × (length t ≤ longest) × IsEvaluatedText t in subst P (sym is) (chunk, short, evaluated)
 
--- a doIt that is evaluated, and the note of a snapshot
+-- a doIt that is evaluated
 pub doit_anywhere : (text : List ℕ) (method : MethodTree) → IsMethodOfDoIt text method → IsChunkText text → length text ≤ longest → IsEvaluatedText text → IsLawfulAnywhere (DoIt text)
 doit_anywhere text method is chunk short evaluated = λ changes all accepted. ((chunk, unmarked text is.tree is.tree_is, short), evaluated.none)
-
-pub note_anywhere : (text : List ℕ) → text ≡ snapshot_note → IsLawfulAnywhere (DoIt text)
-note_anywhere text is = λ changes all accepted. let same : DoIt text ≡ DoIt snapshot_note = ap DoIt is in subst IsLawful (sym same) note_lawful
 
 -- ---- sections
 

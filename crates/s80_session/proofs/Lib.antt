@@ -18,9 +18,9 @@ pub mod Knowing
 pub mod Lawful
 pub mod Making
 pub mod Marking
-pub mod Noting
 pub mod OneGroup
 pub mod Reading
+pub mod Snapping
 pub mod Stepping
 pub mod Taking
 pub mod TakingIn

@@ -1,10 +1,11 @@
 -- What working an item leaves of the files.
 use Rattle.std.specs.Prelude.{◌≡◌, ◌≢◌, ◌⊎◌, ◌-◌, ℕ}
+use Rattle.s80_change.specs.declared.change.Change.TheVariants.{DoIt}
 use Rattle.s80_disk.specs.declared.disk.FileId.{FileId}
-use Rattle.s80_disk.specs.declared.disk.FileId.TheVariants.{Mark}
+use Rattle.s80_disk.specs.declared.disk.FileId.TheVariants.{Mark, Image0, Image1}
 use Rattle.s80_disk.specs.Image.{Image}
 use Rattle.s80_log.specs.Log.{log_file}
-use Rattle.s80_model.specs.Asked.{Asks, condenses}
+use Rattle.s80_model.specs.Asked.{Asks, adds, condenses, snapshot_note}
 use Rattle.s80_model.specs.declared.item.Query.{Query as SessionQuery}
 use Rattle.s80_model.specs.declared.item.Query.TheVariants as queries
 use Rattle.s80_model.specs.declared.item.SessionItem.{SessionItem}
@@ -39,10 +40,21 @@ pub record IsOther (number : ℕ) (file : FileId) : Type 0 where
   pub no_mark : file ≢ Mark
   pub no_log : file ≢ log_file number
 
--- nor does the item write it where the log of this number counts: one that asks to condense writes the other log too
+-- it is none of the two image files
+pub record IsNoImage (file : FileId) : Type 0 where
+  pub first : file ≢ Image0
+  pub second : file ≢ Image1
+
+-- the item asks for a snapshot
+abbrev pub AsksSnapshot : SessionItem → Type 0
+AsksSnapshot item = Asks item (adds (DoIt snapshot_note))
+
+-- nor does the item write it where the log of this number counts: one that asks to condense writes the other log too, and one that asks for a
+-- snapshot an image
 pub record IsUnwritten (item : SessionItem) (number : ℕ) (file : FileId) : Type 0 where
   pub other : IsOther number file
   pub condensing : Asks item condenses → file ≢ log_file (1 - number)
+  pub snapping : AsksSnapshot item → IsNoImage file
 
 -- the number of the log that counts, before an item and behind it: where the item asks to condense it may be the other one's
 abbrev pub LogAfter : SessionItem → ℕ → ℕ → Type 0

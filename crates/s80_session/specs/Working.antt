@@ -15,7 +15,7 @@ use Rattle.s80_disk.specs.Shown.{Shown}
 use Rattle.s80_keeper.specs.Keeper.{Keeps, Knows}
 use Rattle.s80_disk.specs.Image.{Image}
 use Rattle.s80_keeper.specs.Standing.{FilesStandFor, ReadsFor}
-use Rattle.s80_keeper.specs.Start.{IsDamage}
+use Rattle.s80_keeper.specs.Start.{IsDamage, IsUndamaged}
 use Rattle.s80_model.specs.declared.item.SessionItem.{SessionItem}
 use Rattle.s80_model.specs.declared.item.SessionItem.TheVariants.{Chunk, Unended, Query}
 use Rattle.s80_model.specs.declared.reply.Answer.{Answer}
@@ -417,7 +417,7 @@ Starts (Err ends.TooLong) may_leave now settings changes put = ⊥
 
 -- what the files call for at the start
 abbrev pub IsSessionStart : Image → Result Session SessionEnd → Type 0
-IsSessionStart files (Ok session) = (changes : List Change) × FilesStandFor files changes × Knows files (keeper_of session) changes
+IsSessionStart files (Ok session) = ((changes : List Change) × FilesStandFor files changes × Knows files (keeper_of session) changes) ⊎ IsUndamaged files (keeper_of session)
 IsSessionStart files (Err (ends.Damaged damage)) = IsDamage files damage
 IsSessionStart files (Err ends.Memory) = Unit {0}
 IsSessionStart files (Err (ends.Disk failed)) = Unit {0}

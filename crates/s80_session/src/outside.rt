@@ -16,7 +16,9 @@ ghost use Rattle.s80_disk.specs.Moments.{LeavesOnly};
 ghost use Rattle.s80_mark.specs.Found.{longer_log};
 ghost use Rattle.s80_keeper.specs.ChangesAt.{IsPlacedAt};
 ghost use Rattle.s80_keeper.specs.Condensing.{AfterCondensing, Condensed, IfReplaced};
+ghost use Rattle.s80_keeper.specs.Imaged.{image_file};
 ghost use Rattle.s80_keeper.specs.Renewing.{HasWritten};
+ghost use Rattle.s80_keeper.specs.Snapshot.{AfterSnapshot, LeavesApart, Snapped, note, other_image};
 ghost use Rattle.s80_keeper.specs.Keeper.{pending_of, IsSettled, Keeps, Knows};
 ghost use Rattle.s80_keeper.specs.Standing.{FilesStandFor, LeavesEither, ReadsFor};
 ghost use Rattle.s80_keeper.specs.Start.{IsStart, Started, StartLeaves, IfStartDisk, UnlessStartDisk};
@@ -159,6 +161,43 @@ pub(crate) fn condense<O: Outside>(
     ensures faults_stay { UnlessKeepDisk result ((O.faults outside.new).disk ≡ (O.faults outside.old).disk) }
 {
     keeper.condense(alloc, outside, keep.get())
+}
+
+/// Has a keeper write the image of its list with a snapshot's note behind it, and keep the note.
+pub(crate) fn snapshot<O: Outside>(
+    keeper: &mut Keeper,
+    alloc: Global,
+    outside: &mut O,
+) -> Result<(), KeepFault>
+    requires { IsSettled keeper.old }
+    ensures after { AfterSnapshot result keeper.old keeper.new }
+    ensures log { keeper.new.log.number ≡ keeper.old.log.number }
+    ensures kept { (changes : List Change)
+        → Keeps (O.shown outside.old).tells (O.shown outside.old).files (O.may_leave outside.old) keeper.old changes changes
+        → Snapped result (O.shown outside.new).tells (O.shown outside.new).files (O.may_leave outside.new) keeper.new changes }
+    ensures any_moment { (changes : List Change)
+        → Keeps (O.shown outside.old).tells (O.shown outside.old).files (O.may_leave outside.old) keeper.old changes changes
+        → LeavesOnly O.moment O.left_since outside.old outside.new (LeavesEither (O.shown outside.old).told changes (changes ++ note ∷ [])) }
+    // Whatever a crash may leave.
+    ensures written { (changes : List Change) → HasWritten (O.shown outside.old).tells (O.shown outside.old).files keeper.old changes
+        → OnOk result (HasWritten (O.shown outside.new).tells (O.shown outside.new).files keeper.new (changes ++ note ∷ [])) }
+    // Whatever the disk stands for.
+    ensures elsewhere { LeavesOnly O.moment O.left_since outside.old outside.new
+        (LeavesApart (O.may_leave outside.old) (O.shown outside.old).told (log_file keeper.old.log.number) (image_file (other_image keeper.old.mark.image))) }
+    ensures others { (other : FileId) → other ≢ Mark → other ≢ log_file keeper.old.log.number → other ≢ image_file (other_image keeper.old.mark.image)
+        → (O.shown outside.new).files other ≡ (O.shown outside.old).files other }
+    ensures closed { (failed : Failed) → (result ≡ Err (KeepFault.Closed failed)) ↔ (keeper.old.fault ≡ Some failed) }
+    ensures full { (n : ℕ) → (result ≡ Err (KeepFault.Full n))
+        ↔ ((keeper.old.fault ≡ None) × (n ≡ keeper.old.log.end) × (log_limit < keeper.old.log.end + length (block note))) }
+    ensures unfit { log_limit < keeper.old.log.end + length (block note) → outside.new ≡ outside.old }
+    ensures stays { log_limit < keeper.old.log.end + length (block note) → keeper.new ≡ keeper.old }
+    ensures shown { O.shown outside.new ≡ record (O.shown outside.old) { files = (O.shown outside.new).files } }
+    ensures faults { O.faults outside.new ≡ record (O.faults outside.old) { disk = (O.faults outside.new).disk } }
+    ensures later { (O.faults outside.old).disk ≤ (O.faults outside.new).disk }
+    ensures cause { IfKeepDisk result (λ failed. Rose (O.faults outside.old).disk (O.faults outside.new).disk) }
+    ensures faults_stay { UnlessKeepDisk result ((O.faults outside.new).disk ≡ (O.faults outside.old).disk) }
+{
+    keeper.snapshot(alloc, outside)
 }
 
 /// The source of a method, read by a keeper. It changes no file, and a crash leaves what it might have left before.

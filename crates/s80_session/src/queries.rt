@@ -34,7 +34,7 @@ impl Session {
     ghost use Rattle.s80_session.specs.Session.{budget_of, held_of, keeper_of, last_run_of, room_of, troubled_of, was_of, IsFaultless, IsResting};
     ghost use Rattle.s80_session.specs.Working.{at_rest, IsAt, QueryWorked, WorkLeaves};
 
-    /// Works a query: keeps the note of a snapshot, condenses, or tells what is asked for.
+    /// Works a query: makes a snapshot, condenses, or tells what is asked for.
     pub(crate) fn work_query<O: Outside>(
         &mut self,
         alloc: Global,

@@ -16,7 +16,7 @@ ghost use Rattle.s80_model.specs.Replies.{is_trouble, reply_text, Work};
 ghost use Rattle.s80_model.specs.Section.{section_or, IsBriefSection};
 ghost use Rattle.s80_model.specs.Settings.{Settings};
 ghost use Rattle.s80_session.specs.Ending.{Counts, CountsFor, MeetsNoDamage, NoFewer, OnOkOrMemory, StartsForReason};
-ghost use Rattle.s80_session.specs.Files.{IsAsking, IsAsLeft, IsElsewhere, IsOther, IsUnwritten, LogAfter};
+ghost use Rattle.s80_session.specs.Files.{AsksSnapshot, IsAsking, IsAsLeft, IsElsewhere, IsOther, IsUnwritten, LogAfter};
 ghost use Rattle.s80_session.specs.FiledIn.{PutsFile};
 ghost use Rattle.s80_session.specs.Known.{IsFed, IsKnowing, IsLawfulAnywhere, StaysKnowing};
 ghost use Rattle.s80_session.specs.Putting.{IsAsBefore};
@@ -24,7 +24,7 @@ ghost use Rattle.s80_session.specs.Replies.{HasRoom, HasRoomFor, LacksRoom};
 ghost use Rattle.s80_session.specs.Run.{HasKept, ShownFor};
 
 use crate::end::SessionEnd;
-use crate::outside::{commit, keep_later, put_all, start_keeper};
+use crate::outside::{commit, keep_later, put_all, snapshot, start_keeper};
 use crate::replies::Replies;
 use crate::reply::{ACCEPTED, refusal_at_fault, refusal_line, reply_to_keeping};
 use s80_apply::{accepted_forms_are_lawful, classes_are_named};
@@ -38,8 +38,7 @@ use s80_form::{FitWord, Refusal, Refused};
 use s80_keeper::Keeper;
 use s80_machine::Ran;
 use s80_model::{
-    Answer, Plain, Reply, Section, SessionItem, head_answer, method_of, plain_of, snapshot_note,
-    too_long_answer,
+    Answer, Plain, Reply, Section, SessionItem, head_answer, method_of, plain_of, too_long_answer,
 };
 use s80_syntax::MethodTree;
 use s80_verify::Verified;
@@ -105,7 +104,8 @@ impl Session {
         ensures resting { IfOk result IsResting }
         ensures untroubled { IfOk result (λ session. troubled_of session ≡ false) }
         ensures begun { IfOk result (HasBegun budget keep) }
-        ensures known { IfOk result (IsKnowing (O.shown outside.new)) }
+        // Where the files stand for a list; they need not where the image that they name is of none.
+        ensures known { (changes : List Change) → FilesStandFor (O.shown outside.old).files changes → IfOk result (IsKnowing (O.shown outside.new)) }
         ensures later { NoFewer (O.faults outside.old) (O.faults outside.new) }
         ensures reason { StartsForReason (O.faults outside.old) (O.faults outside.new) result }
     {
@@ -501,7 +501,7 @@ impl Session {
         }
     }
 
-    /// Keeps the change that a plain text is, or the note of the snapshot that it asks for, or condenses, or evaluates a doIt that it keeps.
+    /// Keeps the change that a plain text is, or makes the snapshot that it asks for, or condenses, or evaluates a doIt that it keeps.
     /// Refuses every other text: one that is too long, has no tree, or doesn't fit a machine.
     fn keep_text<O: Outside>(
         &mut self,
@@ -666,7 +666,7 @@ impl Session {
         }
     }
 
-    /// Keeps the note of a snapshot by itself: what is pending and held is flushed before.
+    /// Writes the image of the list with a snapshot's note behind it and keeps the note, by itself: what is pending and held is flushed before.
     pub(crate) fn keep_note<O: Outside>(
         &mut self,
         alloc: Global,
@@ -679,9 +679,11 @@ impl Session {
         ensures any_moment { (work : Work) (basis : Ground) (item : SessionItem) → Asks item (adds (Change.DoIt snapshot_note))
             → IsAmid (O.may_leave outside.old) (O.shown outside.old) self.old work basis
             → LeavesOnly O.moment O.left_since outside.old outside.new (WorkLeaves work basis item) }
-        // Whatever the disk stands for, but for the mark and the log the files stay, in what is read and at any moment.
-        ensures others { (other : FileId) → other ≢ Mark → other ≢ log_file (keeper_of self.old).log.number → (O.shown outside.new).files other ≡ (O.shown outside.old).files other }
-        ensures elsewhere { LeavesOnly O.moment O.left_since outside.old outside.new (IsElsewhere (O.may_leave outside.old) (IsOther (keeper_of self.old).log.number)) }
+        // Whatever the disk stands for, files that the item doesn't write stay, in what is read and at any moment.
+        ensures others { (item : SessionItem) (other : FileId) → AsksSnapshot item → IsUnwritten item (keeper_of self.old).log.number other
+            → (O.shown outside.new).files other ≡ (O.shown outside.old).files other }
+        ensures elsewhere { (item : SessionItem) → AsksSnapshot item
+            → LeavesOnly O.moment O.left_since outside.old outside.new (IsElsewhere (O.may_leave outside.old) (IsUnwritten item (keeper_of self.old).log.number)) }
         ensures rest { HasSameRest self.old self.new }
         ensures unput { IsResting self.old → (O.shown outside.new).taken ≡ (O.shown outside.old).taken }
         ensures held { (held_of self.new ≡ held_of self.old) ⊎ (held_of self.new ≡ []) }
@@ -696,10 +698,10 @@ impl Session {
         ensures counts { Counts (O.faults outside.old) (O.faults outside.new) result }
     {
         self.flush(outside)?;
-        let text = snapshot_note(alloc)?;
-        let refusal = self.keep(alloc, Change::DoIt { text }, outside)?;
-        self.commit(outside)?;
-        Ok(reply_to_keeping(refusal))
+        match snapshot(&mut self.keeper, alloc, outside) {
+            Ok(()) => Ok(Reply::Accepted),
+            Err(fault) => Ok(Reply::Refused(refusal_at_fault(fault)?)),
+        }
     }
 
     /// Keeps a change, to be committed later. Says why it is refused, if it is.

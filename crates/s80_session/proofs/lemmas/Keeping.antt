@@ -33,7 +33,7 @@ module _ (tells : Bool) (reads : Image) (may_leave : Image → Type 0) (keeper :
   keeps_less was less h = record {
     holds = holds_less was less h.holds;
     front = h.front;
-    no_image = h.no_image;
+    image = record { has = h.image.has; stays = λ named c left. h.image.stays named c (less c left) };
     built = h.built;
     system = h.system;
     places = h.places;
@@ -49,7 +49,7 @@ module _ (tells : Bool) (reads : Image) (may_leave : Image → Type 0) (keeper :
       subst P (sym same) (record {
         holds = h.holds;
         front = h.front;
-        no_image = h.no_image;
+        image = h.image;
         built = h.built;
         system = system;
         places = places;
@@ -60,7 +60,7 @@ module _ (tells : Bool) (reads : Image) (may_leave : Image → Type 0) (keeper :
 
   -- the disk stands for what is kept
   pub keeps_stands : Keeps tells reads may_leave keeper kept all → StandsFor tells reads may_leave kept
-  keeps_stands h = record { told = h.holds.stands.told; stands = inr (keeper.mark, h.holds.stands, h.no_image, front_accepted kernel_state kept h.front.0 (subst IsBuilt h.front.1 h.built)) }
+  keeps_stands h = record { told = h.holds.stands.told; stands = inr (keeper.mark, h.holds.stands, h.image, front_accepted kernel_state kept h.front.0 (subst IsBuilt h.front.1 h.built)) }
 
   -- the keeper's log is that of all changes
   pub keeps_knows : Keeps tells reads may_leave keeper kept all → Knows reads keeper all

@@ -1,4 +1,4 @@
-use Rattle.std.proofs.Common.{◌≡◌, ◌⊎◌, ◌<◌, List, Option, ℕ, ap, refl, sym, subst, ◌∙◌}
+use Rattle.std.proofs.Common.{◌≡◌, ◌⊎◌, inr, ⊎_elim, ◌<◌, List, Option, ℕ, ap, refl, sym, subst, ◌∙◌}
 use Rattle.std.proofs.lemmas.Result.{err_from_is_err_and}
 use Rattle.s80_change.specs.declared.change.Change.{Change}
 use Rattle.s80_disk.specs.Image.{Image}
@@ -8,9 +8,10 @@ use Rattle.s80_mark.specs.Found.{longer_log}
 use Rattle.s80_keeper.specs.declared.start.Damage.{Damage}
 use Rattle.s80_keeper.specs.Standing.{FilesStandFor, StandsFor}
 use Rattle.s80_keeper.specs.Start.{IsDamage}
-use Rattle.s80_keeper.proofs.lemmas.Damages.{damaged_has_log, no_list}
+use Rattle.s80_keeper.proofs.lemmas.Damages.{damaged_has_log}
+use Rattle.s80_session.specs.Session.{keeper_of}
 use Rattle.s80_program.specs.Command.{job_of, settings_of}
-use Rattle.s80_program.specs.Leaves.{CommandKeeps, KeepsFor, KilledKeeps, Leaves, StartsWith, beginning}
+use Rattle.s80_program.specs.Leaves.{AreDamaged, CommandKeeps, KeepsFor, KilledKeeps, Leaves, StartsWith, beginning}
 use Rattle.s80_program.specs.Ending.{status_after}
 use Rattle.s80_program.specs.Task.{command_of}
 use Rattle.s80_program.specs.Words.{options_in}
@@ -98,8 +99,7 @@ pub returns-in_err-session-clause-found : goal.returns-in_err-session-clause-fou
 returns-in_err-session-clause-found g c = λ is tells.
     let p = err_from_is_err_and c.from_residual-in_err-session.result c.from_residual-in_err-session.ensures.1 in
     let same = c.open_folder.ensures.shown in
-    let P : Image → Type 0 = λ files. (damage : Damage) × IsDamage files damage in
-    subst P (ap (λ (o : Shown). o.files) same) (damage_found (g.O.Outside.shown c.open_folder.new.outside).files c.in_err-session.field-0.0 (rw (p.1, p.2) at is) (c.in_err-session.ensures.answer (ap (λ (o : Shown). o.tells) same ∙ tells)))
+    subst AreDamaged (ap (λ (o : Shown). o.files) same) (damage_found (g.O.Outside.shown c.open_folder.new.outside).files c.in_err-session.field-0.0 (rw (p.1, p.2) at is) (c.in_err-session.ensures.answer (ap (λ (o : Shown). o.tells) same ∙ tells)))
 
 pub returns-in_err-session-clause-damaged : goal.returns-in_err-session-clause-damaged
 returns-in_err-session-clause-damaged g c = λ damage tells h.
@@ -149,14 +149,20 @@ returns-clause-killed g c = λ changes was input before start either.
 
 pub returns-clause-found : goal.returns-clause-found
 returns-clause-found g c = λ is tells.
-    absurd (undamaged c.do_task.result (c.do_task.ensures.sound (ap (λ (o : Shown). o.tells) c.start.ensures.shown ∙ ap (λ (o : Shown). o.tells) c.open_folder.ensures.shown ∙ tells) c.in_ok-session.ensures.known) is)
+    let same = c.open_folder.ensures.shown in
+    let mid = g.O.Outside.shown c.open_folder.new.outside in
+    let told = ap (λ (o : Shown). o.tells) same ∙ tells in
+    let sound = c.do_task.ensures.sound (ap (λ (o : Shown). o.tells) c.start.ensures.shown ∙ told) in
+    let none : (changes : List Change) → FilesStandFor mid.files changes → ⊥ = λ changes files. undamaged c.do_task.result (sound (c.in_ok-session.ensures.known changes files)) is in
+    subst AreDamaged (ap (λ (o : Shown). o.files) same) (⊎_elim (λ list. absurd (none list.0 list.1)) (λ undamaged. inr (record { keeper = keeper_of c.in_ok-session.session; undamaged = undamaged; no_list = none })) (c.in_ok-session.ensures.answer told))
 
 pub returns-clause-damaged : goal.returns-clause-damaged
 returns-clause-damaged g c = λ damage tells h.
     let same = c.open_folder.ensures.shown in
     let P : Image → Type 0 = λ files. IsDamage files damage in
     let found = c.in_ok-session.ensures.answer (ap (λ (o : Shown). o.tells) same ∙ tells) in
-    absurd (no_list (g.O.Outside.shown c.open_folder.new.outside).files damage found.0 (subst P (sym (ap (λ (o : Shown). o.files) same)) h) found.1)
+    let here = subst P (sym (ap (λ (o : Shown). o.files) same)) h in
+    absurd (⊎_elim (λ list. c.damaged_files_stand_for_no_list.ensures _ damage list.0 here list.1) (λ sound. c.undamaged_files_have_no_damage.ensures _ _ damage sound here) found)
 
 pub returns-clause-reason : goal.returns-clause-reason
 returns-clause-reason g c = later_reason c.do_task.result _ _ _ (c.in_ok-session.ensures.reason ∙ c.in_ok-open_folder.ensures.counts.reason) c.do_task.ensures.counts.reason

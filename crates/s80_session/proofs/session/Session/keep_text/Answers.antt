@@ -282,12 +282,13 @@ returns-in_err-refusal-in-Ok-Form-clause-log g c = inl c.keep.ensures.log
 
 pub returns-in-Ok-Snapshot-clause-elsewhere : goal.returns-in-Ok-Snapshot-clause-elsewhere
 returns-in-Ok-Snapshot-clause-elsewhere g c =
-    let o = c.args.outside.now in
-    let number = (keeper_of c.args.self.now).log.number in
-    elsewhere_fewer g.O.Disk.moment g.O.Disk.left_since o c.keep_note.new.outside (g.O.Disk.may_leave o) (IsOther number) (IsUnwritten (Chunk (items.Plain c.args.text)) number) (λ other is. is.other) c.keep_note.ensures.elsewhere
+    let P : Plain → Type 0 = λ x. IsPlain c.args.text (Ok x) in
+    c.keep_note.ensures.elsewhere (Chunk (items.Plain c.args.text)) (subst P c.in-Ok-Snapshot.field-0-is c.in-Ok-Snapshot.ensures)
 
 pub returns-in-Ok-Snapshot-clause-others : goal.returns-in-Ok-Snapshot-clause-others
-returns-in-Ok-Snapshot-clause-others g c = λ other is. c.keep_note.ensures.others other is.other.no_mark is.other.no_log
+returns-in-Ok-Snapshot-clause-others g c = λ other is.
+    let P : Plain → Type 0 = λ x. IsPlain c.args.text (Ok x) in
+    c.keep_note.ensures.others (Chunk (items.Plain c.args.text)) other (subst P c.in-Ok-Snapshot.field-0-is c.in-Ok-Snapshot.ensures) is
 
 pub returns-in-Ok-Snapshot-clause-log : goal.returns-in-Ok-Snapshot-clause-log
 returns-in-Ok-Snapshot-clause-log g c = inl c.keep_note.ensures.log

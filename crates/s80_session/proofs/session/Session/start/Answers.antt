@@ -1,4 +1,4 @@
-use Rattle.std.proofs.Common.{◌≡◌, ap, refl, sym, subst, ◌∙◌}
+use Rattle.std.proofs.Common.{◌≡◌, ⊎_elim, ap, refl, sym, subst, ◌∙◌}
 use Rattle.std.proofs.lemmas.Result.{err_from_is_err_and}
 use Rattle.std.specs.Prelude.{IsTrue, MatchOption}
 use Rattle.std.specs.Int.NonZero.{non_zero_u32_get}
@@ -30,10 +30,10 @@ returns-clause-started g c = λ settings changes put budget versions moment read
 
 -- ---- what is known stays known
 pub returns-clause-known : goal.returns-clause-known
-returns-clause-known g c = λ told.
+returns-clause-known g c = λ changes files told.
     let o = g.O.Outside.shown c.args.outside.now in
     let new = g.O.Outside.shown c.start_keeper.new.outside in
+    let keeper = c.in_ok-keeper.keeper in
     let tells = subst IsTrue (ap (λ (s : Shown). s.tells) c.start_keeper.ensures.shown) told in
-    let is = c.in_ok-keeper.ensures.answer tells in
-    let number = c.in_ok-keeper.keeper.log.number in
-    (tt, is.0, starts_written new.tells o.files new.files c.in_ok-keeper.keeper is.0 is.1 is.2 (c.start_keeper.ensures.others (log_file number) (no_mark number)) (c.in_ok-keeper.ensures.whole tells))
+    let is = ⊎_elim (λ list. list) (λ sound. (changes, files, sound.knows changes files)) (c.in_ok-keeper.ensures.answer tells) in
+    (tt, is.0, starts_written new.tells o.files new.files keeper is.0 is.1 is.2 (c.start_keeper.ensures.others (log_file keeper.log.number) (no_mark keeper.log.number)) (c.in_ok-keeper.ensures.whole tells))

@@ -8,7 +8,7 @@ use Rattle.s80_model.specs.declared.item.Query.TheVariants.{Recover, Classes, Br
 use Rattle.s80_model.specs.declared.item.SessionItem.TheVariants.{Query}
 use Rattle.s80_apply.specs.List.{state_of}
 use Rattle.s80_apply.specs.System.{SystemState, IsSystemOf}
-use Rattle.s80_session.specs.Files.{IsUnwritten}
+use Rattle.s80_session.specs.Files.{AsksSnapshot, IsUnwritten}
 use Rattle.s80_session.specs.Session.{keeper_of, was_of}
 use Rattle.s80_session.specs.Working.{QueryWorked, WorkLeaves, at_rest}
 use Rattle.s80_session.proofs.lemmas.Elsewhere.{elsewhere_as_left}
@@ -186,6 +186,16 @@ returns-in-Condense-clause-taken g c = c.condense.ensures.unput c.requires.resti
 
 pub returns-in-Condense-clause-ends : goal.returns-in-Condense-clause-ends
 returns-in-Condense-clause-ends g c = c.condense.ensures.ends_at_rest c.requires.resting
+
+-- what a snapshot leaves of the files
+snapping : (query : SessionQuery) → query ≡ Snapshot → AsksSnapshot (Query query)
+snapping query is = subst (λ q. AsksSnapshot (Query q)) (sym is) refl
+
+pub returns-in-Snapshot-clause-others : goal.returns-in-Snapshot-clause-others
+returns-in-Snapshot-clause-others g c = λ other unwritten. c.keep_note.ensures.others (Query c.args.query) other (snapping c.args.query c.in-Snapshot.is) unwritten
+
+pub returns-in-Snapshot-clause-elsewhere : goal.returns-in-Snapshot-clause-elsewhere
+returns-in-Snapshot-clause-elsewhere g c = c.keep_note.ensures.elsewhere (Query c.args.query) (snapping c.args.query c.in-Snapshot.is)
 
 -- a query that is this one asks for it
 asked : (query : SessionQuery) → query ≡ Condense → Asks (Query query) condenses
