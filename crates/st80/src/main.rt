@@ -18,7 +18,9 @@ pub use progress::Seen;
 pub use real::RealOutside;
 use s80_base::Text;
 pub use s80_disk::Failure;
+use s80_keeper::{Damage, Keeper, StartFault};
 pub use s80_program::{Status, st80};
+use std::alloc::Global;
 use std::env;
 use std::io::IsTerminal;
 use std::process::ExitCode;
@@ -56,36 +58,77 @@ fn answers_as_a_whole(words: &[Text]) -> bool {
     }
 }
 
-/// Runs on the standard streams and the machine's files. Says what failed first of the folder, too.
-fn run(rt: HostRuntime, telling: Telling) -> (Status, Option<Failure>) {
+/// Why a run of the folder ended so.
+#[derive(Drop)]
+enum Why {
+    /// This failed first.
+    Failed(Failure),
+    /// This is what is wrong with its files.
+    Damaged(Damage),
+}
+
+/// What is wrong with the files of the folder, as a start finds it. It changes none that is damaged.
+fn damage(alloc: Global, outside: &mut RealOutside<HostRuntime>) -> Option<Damage> {
+    match Keeper::start(alloc, outside) {
+        Err(StartFault::Damaged(damage)) => Some(damage),
+        _ => None,
+    }
+}
+
+/// Why it ended with this status, where more is known of that.
+fn cause(alloc: Global, status: Status, outside: &mut RealOutside<HostRuntime>) -> Option<Why> {
+    match status {
+        Status::DiskFault => outside.failure().map(Why::Failed),
+        Status::Damaged => damage(alloc, outside).map(Why::Damaged),
+        _ => None,
+    }
+}
+
+/// Runs on the standard streams and the machine's files. Says why it ended so, too, to whom more is told.
+fn run(rt: HostRuntime, telling: Telling) -> (Status, Option<Why>) {
     let seen = seen(&rt);
     match words_of(rt.alloc(), env::args(&rt)) {
         Ok(words) => {
             let alloc = rt.alloc();
-            let telling = if answers_as_a_whole(&words) {
+            let of_input = if answers_as_a_whole(&words) {
                 telling.without_places()
             } else {
                 telling
             };
-            let mut outside = RealOutside::make(rt, telling, seen);
+            let mut outside = RealOutside::make(rt, of_input, seen);
             let status = st80(alloc, &words, &mut outside);
+            let why = if telling == Telling::Nothing {
+                None
+            } else {
+                cause(alloc, status, &mut outside)
+            };
             outside.clear_progress();
-            (status, outside.failure())
+            (status, why)
         }
         Err(status) => (status, None),
     }
 }
 
 /// Tells more of a status to whoever sees standard error or asks for it.
-fn explain(rt: &HostRuntime, status: Status, failure: Option<Failure>) {
+fn explain(rt: &HostRuntime, status: Status, why: Option<Why>) {
     if status == Status::Usage {
         let _ = eprintln!(rt;
             "st80: COMMAND is run, do TEXT, recover, classes, browse N, source SPEC S, versions SPEC S, changes, file-out, file-out-class N, file-out-set, merge, senders S, implementors S, references N, undeclared, unimplemented, unsent, condense, snapshot or make N; man st80 tells more"
         );
     }
-    if let (Status::DiskFault, Some(failure)) = (status, failure) {
-        let (subject, predicate, why) = (subject(&failure), predicate(&failure), failure.error);
-        let _ = eprintln!(rt; "st80: {subject} {predicate}: {why}");
+    match why {
+        Some(Why::Failed(failure)) => {
+            let (subject, predicate, error) = (
+                subject(&failure),
+                predicate(&failure),
+                failure.error,
+            );
+            let _ = eprintln!(rt; "st80: {subject} {predicate}: {error}");
+        }
+        Some(Why::Damaged(damage)) => {
+            let _ = eprintln!(rt; "st80: {damage}");
+        }
+        None => {}
     }
 }
 
@@ -97,12 +140,12 @@ fn code_of(status: Status) -> ExitCode
 
 fn main(rt: HostRuntime) -> ExitCode {
     let telling = telling(&rt);
-    let (status, failure) = run(rt, telling);
+    let (status, why) = run(rt, telling);
     if let Some(line) = status.message() {
         let _ = eprintln!(rt; "{line}");
     }
     if telling != Telling::Nothing {
-        explain(&rt, status, failure);
+        explain(&rt, status, why);
     }
     code_of(status)
 }
