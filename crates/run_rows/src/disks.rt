@@ -72,6 +72,15 @@ fn later(plan: FaultPlan, calls: u64) -> FaultPlan {
     }
 }
 
+/// The files of a folder.
+const FILES: [FileId; 5] = [
+    FileId::Mark,
+    FileId::Log0,
+    FileId::Log1,
+    FileId::Image0,
+    FileId::Image1,
+];
+
 /// A folder that holds the same on the disk, whose calls fail by this plan.
 pub(crate) fn planned(
     alloc: Global,
@@ -82,8 +91,8 @@ pub(crate) fn planned(
     if plan == FaultPlan::Never {
         return Ok(from.crash(alloc, 1)?);
     }
-    let mut disk = empty(alloc, room, later(plan, 6))?;
-    for file in [FileId::Mark, FileId::Log0, FileId::Log1] {
+    let mut disk = empty(alloc, room, later(plan, 10))?;
+    for file in FILES {
         let bytes = contents(alloc, from, room, file)?;
         disk.write_at(file, 0, &bytes)?;
         disk.sync(file)?;
