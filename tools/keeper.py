@@ -380,10 +380,14 @@ def first_above(counts):
 
 def change_set(changes):
     """The changes of the change set."""
+    return [changes[at] for at in set_numbers(changes)]
+
+
+def set_numbers(changes):
+    """Which changes are those of the change set."""
     first = max((at + 1 for at, change in enumerate(changes) if change.word == "noChanges"), default=0)
-    rest = changes[first:]
-    kept = [change for at, change in enumerate(rest) if not is_superfluous(change, rest[at + 1 :])]
-    return [change for change in kept if change.word not in ("doIt", "snapshot")]
+    numbers = [at for at in range(first, len(changes)) if not is_superfluous(changes[at], changes[at + 1 :])]
+    return [at for at in numbers if changes[at].word not in ("doIt", "snapshot")]
 
 
 def is_superfluous(change, later):
@@ -856,12 +860,40 @@ class Damage(Exception):
     pass
 
 
+class Mark(NamedTuple):
+    """The fields of a slot behind its gate, by docs/FORMATS.md, "The mark"."""
+
+    sequence: int
+    log: int
+    length: int
+    image: int
+    image_length: int
+    position: int
+    form: int
+    count: int
+
+    def alone(self):
+        """A mark file in which this slot is open, and the other one isn't."""
+        return (b"!" + SLOT.pack(*self)).ljust(128, b"\0")
+
+
+SLOT = struct.Struct(">QBQBQQBQ")
+
+
 def valid_mark(mark):
-    """The fields of the valid mark, by docs/FORMATS.md, "The mark"; or None."""
-    slots = [struct.unpack(">QBQBQQBQ", mark[at + 1 : at + 44]) for at in (0, 64) if len(mark) >= 128 and mark[at] == 0x21]
-    if len(slots) == 2 and 0 < (slots[1][0] - slots[0][0]) % 2**64 < 2**63:
+    """The fields of the valid mark, or None."""
+    slots = [Mark(*SLOT.unpack(mark[at + 1 : at + 44])) for at in (0, 64) if len(mark) >= 128 and mark[at] == 0x21]
+    if len(slots) == 2 and 0 < (slots[1].sequence - slots[0].sequence) % 2**64 < 2**63:
         return slots[1]
     return slots[0] if slots else None
+
+
+def without_image(mark):
+    """A mark that takes the same of the log as this one, and names no image; None where this one names none."""
+    fields = valid_mark(mark or b"")
+    if not fields or fields.image == 255:
+        return None
+    return fields._replace(image=255, image_length=0, position=0).alone()
 
 
 def marked_part(files):
@@ -872,9 +904,13 @@ def marked_part(files):
     fields = valid_mark(held["mark"])
     if not fields:
         raise Damage("no mark")
-    _, log, length, image, _, _, form, count = fields
-    if log > 1 or image != 255 or form != 2:
+    _, log, length, image, image_length, position, form, count = fields
+    if log > 1 or image not in (0, 1, 255) or form != 2:
         raise Damage("bad mark")
     if len(held[f"log{log}"]) < length:
         raise Damage("the log is short")
+    if image != 255 and len(held[f"image{image}"]) < image_length:
+        raise Damage("the image is short")
+    if image != 255 and position > length:
+        raise Damage("the image ends behind the log")
     return held[f"log{log}"][:length], count
